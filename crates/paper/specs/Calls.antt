@@ -1,0 +1,200 @@
+-- The six calls: the refusals in the order they are tested, and the whole answer of each call for every input. Assumes nothing.
+use Prim.Native.Nat.{ℕ, zero, suc, _+_, _*_, _/_, _%_, _-_, min}
+use mathlib.Core.Bool.{Bool, true, false, not, _||_}
+use mathlib.Core.List.{List, [], _∷_, _++_, map}
+use mathlib.Core.Option.{Option, none, some}
+use lib.Dec.{eqb, leb, ltb}
+use lib.ListN.{length, getD, take, drop, replicate}
+use Rattle.paper.specs.Lists.{keep, any, place, same, padded}
+use Rattle.paper.specs.Format.{Format, mostRows, mostTypes, mostEntries, mostLines, rowBytes, entryBytes, whole}
+use Rattle.paper.specs.Tables.{Row, rows, badRow, rowTypes, types}
+use Rattle.paper.specs.Closeness.{Node, nodes, ofKind}
+use Rattle.paper.specs.Shapes.{Entry, Shape, entries, named, badEntry, shapeOver, kind, numbers}
+use Rattle.paper.specs.Adorned.{Summary, adorned}
+use Rattle.paper.specs.NewTable.{Line, lines, lineRow, newTable, sourceList}
+use Rattle.paper.specs.Verdict.{Verdict, kept, verdict}
+
+-- ---- answers
+-- A refusal with its number and place, or what is given.
+pub data Answer (A : Type 0) : Type 0 where
+  refused : ℕ → ℕ → Answer A
+  given : A → Answer A
+
+-- the next test, unless this one refuses
+abbrev pub _>>=_ : {A B : Type 0} → Answer A → (A → Answer B) → Answer B
+_>>=_ (refused k p) next = refused k p
+_>>=_ (given a) next = next a
+
+-- refusal k at place 0
+abbrev pub refuse : ℕ → Bool → Answer (Unit {0})
+refuse k true = refused k 0
+refuse k false = given tt
+
+-- refusal k at the place found
+abbrev pub refuseAt : ℕ → Option ℕ → Answer (Unit {0})
+refuseAt k none = given tt
+refuseAt k (some p) = refused k p
+
+-- An accepted call returns number 0 and place 0; a refused one its number and place, zeros elsewhere.
+pub record Reply (A : Type 0) : Type 0 where
+  pub number : ℕ
+  pub place : ℕ
+  pub rest : A
+
+abbrev pub reply : {A : Type 0} → A → Answer A → Reply A
+reply zeros (refused k p) = record { number = k; place = p; rest = zeros }
+reply zeros (given a) = record { number = 0; place = 0; rest = a }
+
+-- What a lent list holds afterwards: what is given stands at its front, and places past that stay as they were. Refused, none
+-- changes.
+abbrev pub after : {A : Type 0} → List A → Answer (List A) → List A
+after before (refused k p) = before
+after before (given new) = new ++ drop (length new) before
+
+-- ---- the refusals, in the order they are tested
+-- the first row of the 65th type
+unfoldable pub typeTooMany : List Row → Option ℕ
+typeTooMany rs =
+    let ts = types rs in
+    elim (ltb mostTypes (length ts)) [ true ↦ some (place (same (getD ts mostTypes [])) (rowTypes rs)) | false ↦ none ]
+
+-- the first entry whose type has no row
+unfoldable pub typeMissing : List Row → List Entry → Option ℕ
+typeMissing rs es =
+    let i = place (λ e. not (any (same (named e)) (types rs))) es in
+    elim (ltb i (length es)) [ true ↦ some i | false ↦ none ]
+
+-- 1 to 3, and the rows
+unfoldable pub tests1-3 : Format → List ℕ → Answer (List Row)
+tests1-3 f b = do
+  _ ← refuse 1 (ltb (mostRows * rowBytes f) (length b))
+  _ ← refuse 2 (not (eqb (length b % rowBytes f) 0))
+  let rs = rows f b
+  _ ← refuseAt 3 (badRow f rs)
+  given rs
+
+-- 1 to 4, and the rows
+unfoldable pub tests1-4 : Format → List ℕ → Answer (List Row)
+tests1-4 f b = do
+  rs ← tests1-3 f b
+  _ ← refuseAt 4 (typeTooMany rs)
+  given rs
+
+-- 5 and 6, and the entries
+unfoldable pub tests5-6 : Format → List ℕ → Answer (List Entry)
+tests5-6 f b = do
+  _ ← refuse 5 (eqb (length b) 0 || ltb (mostEntries * entryBytes f) (length b) || not (eqb (length b % entryBytes f) 0))
+  let es = entries f b
+  _ ← refuseAt 6 (badEntry f es)
+  given es
+
+-- What judging, reshaping and summarising work on.
+pub record Work : Type 0 where
+  pub rows : List Row
+  pub nodes : List Node
+  pub shape : Shape
+
+-- 1 to 7
+unfoldable pub tests1-7 : Format → List ℕ → List ℕ → Answer Work
+tests1-7 f b sb = do
+  rs ← tests1-4 f b
+  es ← tests5-6 f sb
+  _ ← refuseAt 7 (typeMissing rs es)
+  given (record { rows = rs; nodes = nodes rs; shape = shapeOver (types rs) es })
+
+-- 8, and the lines
+unfoldable pub test8 : Format → Work → ℕ → Answer (List Line)
+test8 f w room = do
+  let ls = lines (w .nodes) (w .shape) (f .levels)
+  _ ← refuse 8 (ltb room (length ls))
+  given ls
+
+-- ---- the calls
+-- Examining adds the count of rows.
+unfoldable pub examine : Format → List ℕ → Reply ℕ
+examine f b = reply 0 do
+  rs ← tests1-3 f b
+  given (length rs)
+
+-- Look-up gives back the row's own bytes of the caller's table; refused, an empty part.
+unfoldable pub lookUp : Format → List ℕ → ℕ → Reply (List ℕ)
+lookUp f b i = reply [] do
+  rs ← tests1-3 f b
+  _ ← refuseAt 11 (elim (ltb i (length rs)) [ true ↦ none | false ↦ some i ])
+  given (take (rowBytes f) (drop (rowBytes f * i) b))
+
+-- Adorning adds the count of types.
+pub record Adorning : Type 0 where
+  pub reply : Reply ℕ
+  pub summaries : List Summary  -- the lent summaries afterwards
+
+unfoldable pub adorning : Format → List ℕ → ℕ → Answer (List Summary)
+adorning f b lent = do
+  rs ← tests1-4 f b
+  let xs = adorned rs
+  _ ← refuse 10 (ltb lent (length xs))
+  given xs
+
+unfoldable pub adorn : Format → List ℕ → List Summary → Adorning
+adorn f b before =
+    let a = adorning f b (length before) in
+    record { reply = reply 0 (do xs ← a; given (length xs)); summaries = after before a }
+
+-- Judging adds the verdict; refused, verdict 0.
+unfoldable pub judge : Format → List ℕ → List ℕ → Reply Verdict
+judge f b sb = reply kept do
+  w ← tests1-7 f b sb
+  given (verdict (w .nodes) (w .shape))
+
+-- Reshaping adds the count of lines.
+pub record Reshaping : Type 0 where
+  pub reply : Reply ℕ
+  pub table : List ℕ  -- the lent bytes afterwards
+  pub sources : List ℕ  -- the lent places of the source list afterwards
+
+-- Room in a reshape is the least of the whole records lent, the source-list places lent and 4,096.
+abbrev pub roomIn : Format → List ℕ → List ℕ → ℕ
+roomIn f table sources = min (whole (rowBytes f) table) (min (length sources) mostLines)
+
+-- the new table's bytes and the source list
+unfoldable pub reshaping : Format → List ℕ → List ℕ → ℕ → Answer (List ℕ × List ℕ)
+reshaping f b sb room = do
+  w ← tests1-7 f b sb
+  ls ← test8 f w room
+  _ ← refuseAt 9 (badRow f (map (lineRow f (w .shape) (w .rows)) ls))
+  given (newTable f (w .shape) (w .rows) ls, sourceList ls)
+
+unfoldable pub reshape : Format → List ℕ → List ℕ → List ℕ → List ℕ → Reshaping
+reshape f b sb table sources =
+    let a = reshaping f b sb (roomIn f table sources) in
+    record {
+      reply = reply 0 (do x ← a; given (length (x .1)));
+      table = after table (do x ← a; given (x .0));
+      sources = after sources (do x ← a; given (x .1));
+    }
+
+-- A summary holds, for each of 16 entries: lines, source rows of its type, and copies. Unused entries hold zeros.
+pub record Figures : Type 0 where
+  pub lines : List ℕ
+  pub rows : List ℕ
+  pub copies : List ℕ  -- lines less source rows, or 0 where lines are fewer
+
+unfoldable pub figures : Work → List Line → Figures
+figures w ls =
+    let es = numbers (w .shape) in
+    let shown : ℕ → ℕ = λ e. length (keep (λ (l : Line). eqb (l .entry) e) ls) in
+    let held : ℕ → ℕ = λ e. length (ofKind (w .nodes) (kind (w .shape) e)) in
+    record {
+      lines = padded mostEntries (map shown es);
+      rows = padded mostEntries (map held es);
+      copies = padded mostEntries (map (λ e. shown e - held e) es);
+    }
+
+abbrev pub noFigures : Figures
+noFigures = record { lines = replicate mostEntries 0; rows = replicate mostEntries 0; copies = replicate mostEntries 0 }
+
+unfoldable pub summarise : Format → List ℕ → List ℕ → Reply Figures
+summarise f b sb = reply noFigures do
+  w ← tests1-7 f b sb
+  ls ← test8 f w mostLines
+  given (figures w ls)

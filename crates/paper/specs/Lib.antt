@@ -1,0 +1,12 @@
+pub mod Lists
+pub mod Format
+pub mod Tables
+pub mod Closeness
+pub mod Shapes
+pub mod Adorned
+pub mod NewTable
+pub mod Verdict
+pub mod Calls
+pub mod Links
+pub mod Opened
+pub mod Samples

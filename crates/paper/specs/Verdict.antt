@@ -1,0 +1,80 @@
+-- The verdict. Assumes nothing.
+use Prim.Native.Nat.{ℕ, zero, suc}
+use mathlib.Core.Bool.{Bool, true, false, _&&_, _||_, not}
+use mathlib.Core.List.{List, [], _∷_, _++_, map}
+use lib.Dec.{eqb, leb}
+use lib.ListN.{drop}
+use Rattle.paper.specs.Lists.{keep, all, any, firstOr, joinMap}
+use Rattle.paper.specs.Closeness.{Node, ofKind, kindsMeet, closestOf}
+use Rattle.paper.specs.Shapes.{Shape, numbers, kind, parent, side, path}
+
+pub data Verdict : Type 0 where
+  kept : Verdict
+  missing : ℕ → ℕ → Verdict  -- an entry and a row
+  apart : ℕ → ℕ → Verdict  -- two entries
+  unsure : ℕ → ℕ → Verdict  -- two entries
+
+-- the paper's number of a verdict, and its values
+abbrev pub verdictNumbers : Verdict → List ℕ
+verdictNumbers kept = 0 ∷ []
+verdictNumbers (missing e r) = 1 ∷ e ∷ r ∷ []
+verdictNumbers (apart e f) = 2 ∷ e ∷ f ∷ []
+verdictNumbers (unsure e f) = 3 ∷ e ∷ f ∷ []
+
+-- l is the least of the levels
+abbrev pub isLeast : ℕ → List ℕ → Bool
+isLeast l ls = any (eqb l) ls && all (leb l) ls
+
+abbrev pub isEmpty : {A : Type 0} → List A → Bool
+isEmpty [] = true
+isEmpty (x ∷ xs) = false
+
+-- the pairs of a list, by the first, then by the second, with what each gives
+abbrev pub overPairs : {A : Type 0} → (ℕ → ℕ → List A) → List ℕ → List A
+overPairs g [] = []
+overPairs g (e ∷ es) = joinMap (g e) es ++ overPairs g es
+
+module _ (t : List Node) (s : Shape) where
+  -- the level at which the types of two entries meet
+  unfoldable pub meeting : ℕ → ℕ → ℕ
+  meeting e f = kindsMeet t (kind s e) (kind s f)
+
+  -- A partner of a row, for an entry, is a row of the parent entry's type closest to it.
+  unfoldable pub partners : ℕ → Node → List Node
+  partners e r = closestOf t r (kind s (parent s e))
+
+  -- the rows of an entry's type that have no partner
+  unfoldable pub alone : ℕ → List Node
+  alone e = keep (λ r. isEmpty (partners e r)) (ofKind t (kind s e))
+
+  -- An edge is full when every row of the parent entry's type has a closest row of the child's type.
+  unfoldable pub full : ℕ → Bool
+  full c = all (λ r. not (isEmpty (closestOf t r (kind s c)))) (ofKind t (kind s (parent s c)))
+
+  -- Each edge has the meeting level of its two types.
+  unfoldable pub edgeLevel : ℕ → ℕ
+  edgeLevel c = meeting (parent s c) c
+
+  -- some edge of level l has only full edges between it and the fork, where the edges run down from the fork
+  abbrev pub sureDown : ℕ → List ℕ → Bool
+  sureDown l [] = false
+  sureDown l (c ∷ cs) = eqb (edgeLevel c) l || (full c && sureDown l cs)
+
+  -- 1: some source row of a non-root entry's type has no partner.
+  unfoldable pub lone : List Verdict
+  lone = joinMap (λ e. map (λ (r : Node). missing e (r .place)) (alone e)) (drop 1 (numbers s))
+
+  -- 2: their types do not meet at exactly the least level on their path.
+  -- 3: they do, but for no edge of that least level are all edges between it and the fork full.
+  unfoldable pub pairFault : ℕ → ℕ → List Verdict
+  pairFault e f =
+      let l = meeting e f in
+      elim (isLeast l (map edgeLevel (path s e f))) [
+        | false ↦ apart e f ∷ []
+        | true ↦ elim (sureDown l (side s e f) || sureDown l (side s f e)) [ true ↦ [] | false ↦ unsure e f ∷ [] ]
+      ]
+
+  -- Verdict 1 comes before the others: first such entry, then first such row. Then pairs are taken by e, then f; the first
+  -- that earns a 2 or a 3 decides. 0: none of these.
+  unfoldable pub verdict : Verdict
+  verdict = firstOr kept (lone ++ overPairs pairFault (numbers s))
