@@ -1,0 +1,5 @@
+pub mod Lists
+pub mod Agree
+pub mod Forest
+pub mod Closeness
+pub mod Tables
