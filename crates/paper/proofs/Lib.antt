@@ -3,3 +3,5 @@ pub mod Agree
 pub mod Forest
 pub mod Closeness
 pub mod Tables
+pub mod Papers
+pub mod Adorned
