@@ -13,6 +13,7 @@ use borrow.Author.Tests.{leb-true, leb-false}
 use Rattle.paper.specs.Lists.{Has, same, lastOr}
 use Rattle.paper.specs.Tables.{raised, follows}
 use Rattle.paper.specs.Closeness.{Node, nodesFrom}
+use Rattle.paper.specs.Faithful.{Chain}
 use Rattle.paper.proofs.Lists.{either, same-eq, has-map}
 use Rattle.paper.proofs.Agree.{Agree, agree-trans, agree-sym}
 
@@ -95,10 +96,6 @@ follows-lt p d (pos, h) =
     (either (same d (p ++ (1 ∷ []))) (same d (raised (take (length d) p))) h)
 
 -- ---- a chain of numbers, each following the one before; p is the number before the first
-abbrev pub Chain : List ℕ → List (List ℕ) → Type 0
-Chain p [] = Unit
-Chain p (d ∷ ds) = Follows p d × Chain d ds
-
 pub chain-append : (p : List ℕ) (ds es : List (List ℕ)) → Chain p ds → Chain (lastOr p ds) es → Chain p (ds ++ es)
 chain-append p [] es h k = k
 chain-append p (d ∷ ds) es h k = (h .0, chain-append d ds es (h .1) k)

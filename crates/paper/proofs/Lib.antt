@@ -5,3 +5,7 @@ pub mod Closeness
 pub mod Tables
 pub mod Papers
 pub mod Adorned
+pub mod Chains
+pub mod Shapes
+pub mod Verdict
+pub mod Lines

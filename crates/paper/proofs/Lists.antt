@@ -1,13 +1,13 @@
 -- Membership of what the definitions keep, join and map; tests on lists; largest and least. Assumes nothing.
 use Prim.Native.Nat.{ℕ, zero, suc, _+_, _≤_, _<_, max, min, pred, zero-le}
-use native.Mathlib.Nat.{not-suc-le-zero, le-refl}
+use native.Mathlib.Nat.{not-suc-le-zero, le-of-suc-le-suc}
 use native.Mathlib.Omega.{arith}
 use mathlib.Core.Path.{_≡_, refl, sym, _∙_, ap, ap₂, subst}
 use mathlib.Core.Logic.{_⊎_, inl, inr, ⊎-elim}
 use mathlib.Core.Bool.{Bool, true, false, _&&_, _||_, not, true≢false, false≢true}
 use mathlib.Core.List.{List, [], _∷_, _++_, map, append-assoc}
 use lib.Dec.{eqb, leb}
-use lib.ListN.{length, take, drop, length-append, length-take}
+use lib.ListN.{length, getD, take, drop, length-append, length-take}
 use lib.Seq.{take-at}
 use borrow.Author.Tests.{eqb-true, eq-eqb, leb-true, leb-false}
 use Rattle.paper.specs.Lists.{Has, keep, all, any, lastOr, most, least, joined, joinMap, same, up, count}
@@ -140,6 +140,18 @@ module _ {A : Type 0} where
   pub in-some : (x : A) (xs : List A) → Has x xs → isEmpty xs ≡ false
   in-some x [] h = absurd h
   in-some x (z ∷ zs) h = refl
+
+-- ---- membership by place
+module _ {A : Type 0} (d : A) where
+  pub getD-has : (l : List A) (j : ℕ) → j < length l → Has (getD l j d) l
+  getD-has [] j lt = absurd (not-suc-le-zero lt)
+  getD-has (x ∷ l) zero lt = inl refl
+  getD-has (x ∷ l) (suc j) lt = inr (getD-has l j (le-of-suc-le-suc lt))
+
+  pub has-getD : (x : A) (l : List A) → Has x l → (j : ℕ) × (j < length l) × (getD l j d ≡ x)
+  has-getD x [] h = absurd h
+  has-getD x (y ∷ l) (inl e) = (0, omega arith, sym e)
+  has-getD x (y ∷ l) (inr h) = let r = has-getD x l h in (suc (r .0), omega (arith, r .1), r .2)
 
 -- ---- the least
 pub least-le : (x : ℕ) (xs : List ℕ) → Has x xs → least xs ≤ x

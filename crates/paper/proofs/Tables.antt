@@ -15,8 +15,9 @@ use Rattle.paper.specs.Lists.{Has, keep, all, place, firstBreak, between
 use Rattle.paper.specs.Format.{Format, headBytes, rowBytes, words, records, whole}
 use Rattle.paper.specs.Tables.{Row, rowOf, rows, dewey, fieldsKept, follows, rowKept, badRow, rowTypes, types, typeNumber}
 use Rattle.paper.specs.Closeness.{Node, nodesFrom, nodes, closest, ofKind, kindsMeet}
+use Rattle.paper.specs.Faithful.{Chain}
 use Rattle.paper.proofs.Lists.{both, and, same-eq, same-self, eq-same, has-keep, keep-has, has-map, map-has}
-use Rattle.paper.proofs.Forest.{Follows, Chain, Forest, Numbered, Kin, Above, deweys, follows-lt, chain-pos, above, one-node, nodesFrom-numbered}
+use Rattle.paper.proofs.Forest.{Follows, Forest, Numbered, Kin, Above, deweys, follows-lt, chain-pos, above, one-node, nodesFrom-numbered}
 use Rattle.paper.proofs.Closeness.{Of, Near, closest-near, near-closest, own-near, own-only}
 
 -- ---- a rule that no element breaks

@@ -8,5 +8,6 @@ pub mod NewTable
 pub mod Verdict
 pub mod Calls
 pub mod Links
+pub mod Faithful
 pub mod Opened
 pub mod Samples

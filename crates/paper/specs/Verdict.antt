@@ -55,24 +55,27 @@ module _ (t : List Node) (s : Shape) where
   unfoldable pub edgeLevel : ℕ → ℕ
   edgeLevel c = meeting (parent s c) c
 
-  -- some edge of level l has only full edges between it and the fork, where the edges run down from the fork
+  -- some edge of level l has only full edges between it and the fork, from which the edges run down
   abbrev pub sureDown : ℕ → List ℕ → Bool
   sureDown l [] = false
   sureDown l (c ∷ cs) = eqb (edgeLevel c) l || (full c && sureDown l cs)
 
-  -- 1: some source row of a non-root entry's type has no partner.
+  -- The types of two entries meet at exactly the least level on their path.
+  unfoldable pub meetsLeast : ℕ → ℕ → Bool
+  meetsLeast e f = isLeast (meeting e f) (map edgeLevel (path s e f))
+
+  -- For some edge of that least level all edges between it and the fork are full. (An edge touching the fork has none between.)
+  unfoldable pub sure : ℕ → ℕ → Bool
+  sure e f = sureDown (meeting e f) (side s e f) || sureDown (meeting e f) (side s f e)
+
+  -- 1, with entry and row: some source row of a non-root entry's type has no partner.
   unfoldable pub lone : List Verdict
   lone = joinMap (λ e. map (λ (r : Node). missing e (r .place)) (alone e)) (drop 1 (numbers s))
 
-  -- 2: their types do not meet at exactly the least level on their path.
-  -- 3: they do, but for no edge of that least level are all edges between it and the fork full.
+  -- 2, with two entries e before f: their types do not meet at exactly the least level on their path.
+  -- 3, with e and f: they do, but for no edge of that least level are all edges between it and the fork full.
   unfoldable pub pairFault : ℕ → ℕ → List Verdict
-  pairFault e f =
-      let l = meeting e f in
-      elim (isLeast l (map edgeLevel (path s e f))) [
-        | false ↦ apart e f ∷ []
-        | true ↦ elim (sureDown l (side s e f) || sureDown l (side s f e)) [ true ↦ [] | false ↦ unsure e f ∷ [] ]
-      ]
+  pairFault e f = elim (meetsLeast e f) [ false ↦ apart e f ∷ [] | true ↦ elim (sure e f) [ true ↦ [] | false ↦ unsure e f ∷ [] ] ]
 
   -- Verdict 1 comes before the others: first such entry, then first such row. Then pairs are taken by e, then f; the first
   -- that earns a 2 or a 3 decides. 0: none of these.
