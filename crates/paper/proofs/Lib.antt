@@ -9,3 +9,4 @@ pub mod Chains
 pub mod Shapes
 pub mod Verdict
 pub mod Lines
+pub mod Demand3

@@ -91,7 +91,7 @@ module _ (s : Shape) (w : Ways s) where
     ag k r x = Agree k (r .dewey) (x .dewey)
 
     -- ---- the tests
-    edge-level : (g c : ℕ) → g < length (s .ways) → way s c ≡ way s g ++ (c ∷ []) → edgeLevel t s c ≡ L g c
+    pub edge-level : (g c : ℕ) → g < length (s .ways) → way s c ≡ way s g ++ (c ∷ []) → edgeLevel t s c ≡ L g c
     unfolding edgeLevel meeting
     edge-level g c lg e = ap (λ p. L p c) (child-parent g c lg e)
 
