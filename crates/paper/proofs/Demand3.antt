@@ -14,7 +14,7 @@ use Rattle.paper.specs.Closeness.{Node, meet, shared, kindsMeet, closest
 use Rattle.paper.specs.Shapes.{Shape, kind, way, side, path}
 use Rattle.paper.specs.Verdict.{Verdict, kept, isLeast, meeting, edgeLevel, sureDown, meetsLeast, sure, verdict}
 use Rattle.paper.specs.Faithful.{Faithful}
-use Rattle.paper.proofs.Lists.{both, either, all-has, has-all, any-has, has-left, has-right, has-append, has-map, map-has, last-append}
+use Rattle.paper.proofs.Lists.{both, either, all-has, has-all, any-has, has-left, has-right, has-append, map-has, map-append, last-append}
 use Rattle.paper.proofs.Agree.{Agree, agree-sym, agree-trans, agree-le, agree-length, agree-take, take-agree, shared→agree, agree→shared, shared-agree, shared-sym, shared-length, drops-differ}
 use Rattle.paper.proofs.Closeness.{Of, Near, near-sym, near-from, meet-le, kindsMeet-le, pairs-near, near-pairs, own-near, own-only, own-meet}
 use Rattle.paper.proofs.Chains.{Down, AtLeast, Sure, nothing-made-up, nothing-missing}
@@ -89,10 +89,6 @@ module _ (s : Shape) (w : Ways s) (e f : ℕ) (le : e < length (s .ways)) (lf : 
 all-append : {A : Type 0} (p : A → Bool) (xs ys : List A) → all p (xs ++ ys) ≡ true → (all p xs ≡ true) × (all p ys ≡ true)
 all-append p xs ys h =
     (has-all p xs (λ x i. all-has p x (xs ++ ys) h (has-left x xs ys i)), has-all p ys (λ x i. all-has p x (xs ++ ys) h (has-right x xs ys i)))
-
-map-append : {A B : Type 0} (f : A → B) (xs ys : List A) → map f (xs ++ ys) ≡ map f xs ++ map f ys
-map-append f [] ys = refl
-map-append {B = B} f (x ∷ xs) ys = ap {B = List B} (λ l. f x ∷ l) (map-append f xs ys)
 
 module _ (t : List Node) (s : Shape) (w : Ways s) (e f : ℕ) (least : meetsLeast t s e f ≡ true) where
   pub least-all : (all (leb (L s w t e f)) (map (edgeLevel t s) (side s e f)) ≡ true) × (all (leb (L s w t e f)) (map (edgeLevel t s) (side s f e)) ≡ true)

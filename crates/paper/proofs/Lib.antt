@@ -10,3 +10,5 @@ pub mod Shapes
 pub mod Verdict
 pub mod Lines
 pub mod Demand3
+pub mod Trees
+pub mod Links

@@ -194,6 +194,10 @@ module _ {A B : Type 0} where
   join-has f y (z ∷ zs) h =
       ⊎-elim (λ i. (z, inl refl, i)) (λ i. let r = join-has f y zs i in (r .0, inr (r .1), r .2)) (has-append y (f z) (joinMap f zs) h)
 
+  pub map-append : (f : A → B) (xs ys : List A) → map f (xs ++ ys) ≡ map f xs ++ map f ys
+  map-append f [] ys = refl
+  map-append f (x ∷ xs) ys = ap {B = List B} (λ l. f x ∷ l) (map-append f xs ys)
+
   pub joined-map : (f : A → List B) (xs : List A) → joined (map f xs) ≡ joinMap f xs
   joined-map f [] = refl
   joined-map f (x ∷ xs) = ap (λ l. f x ++ l) (joined-map f xs)
