@@ -12,3 +12,4 @@ pub mod Lines
 pub mod Demand3
 pub mod Trees
 pub mod Links
+pub mod Written
