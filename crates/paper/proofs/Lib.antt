@@ -13,3 +13,4 @@ pub mod Demand3
 pub mod Trees
 pub mod Links
 pub mod Written
+pub mod Bytes
