@@ -14,3 +14,4 @@ pub mod Trees
 pub mod Links
 pub mod Written
 pub mod Bytes
+pub mod Calls
