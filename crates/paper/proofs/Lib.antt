@@ -15,3 +15,4 @@ pub mod Links
 pub mod Written
 pub mod Bytes
 pub mod Calls
+pub mod Reread

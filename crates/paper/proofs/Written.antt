@@ -18,7 +18,7 @@ use Rattle.paper.proofs.Forest.{deweys}
 use Rattle.paper.proofs.Tables.{nodesFrom-deweys}
 use Rattle.paper.proofs.Shapes.{Ways}
 use Rattle.paper.proofs.Verdict.{In, listed-child, way-zero, way-pos}
-use Rattle.paper.proofs.Trees.{Nth, nth-has, has-nth, Hang, Stands, grown-chain, grown-stands, stands-grown, stands-same, stands-up, up-stands}
+use Rattle.paper.proofs.Trees.{Nth, nth-has, has-nth, Hang, Stands, grown-chain, grown-within, grown-stands, stands-grown, stands-same, stands-up, up-stands}
 
 -- ---- the nodes of lines
 abbrev pub lineNodes : ℕ → List Line → List Node
@@ -123,6 +123,16 @@ module _ (t : List Node) (place : (x y : Node) → Has x t → Has y t → x .pl
           ≡ map (λ (x : Pair × List ℕ). x .1) l
       numbers [] = refl
       numbers (x ∷ l) = ap {B = List (List ℕ)} (λ z. x .1 ∷ z) (numbers l)
+
+  -- no component of a line's number is above the number of lines
+  pub line-within : (l : Line) → Has l ls → (c : ℕ) → Has c (l .dewey) → c ≤ length ls
+  unfolding lines
+  line-within l h c hc =
+      let all = forest (tree (beneath t s) (pred n)) [] 1 (tops t s) in
+      let toLine : Pair × List ℕ → Line = λ x. record { entry = x .0 .0; source = x .0 .1; dewey = x .1 } in
+      let (x, hx, e) = map-has toLine l all h in
+      let le = grown-within (beneath t s) (pred n) (tops t s) x hx c (subst (λ d. Has c d) (ap (λ (l : Line). l .dewey) e) hc) in
+      omega (arith, le, length-map all toLine)
 
   pub line-fits : (l : Line) → Has l ls → (l .entry < length (s .ways)) × In s w t (l .entry) (l .source) × (length (l .dewey) ≡ length (way s (l .entry)))
   line-fits l h = let (f, q) = stands-fits (l .dewey) (l .entry, l .source) (line-stands l h) in (f .0, f .1, q)
