@@ -14,9 +14,8 @@ use Rattle.paper.specs.Format.{Format, mostRows, mostEntries, rowBytes, 
 use Rattle.paper.specs.Tables.{Row, rows, rowOf, badRow, types}
 use Rattle.paper.specs.Closeness.{nodes}
 use Rattle.paper.specs.Shapes.{Entry, entries, entryOf, badEntry, shapeOver}
-use Rattle.paper.specs.Verdict.{Verdict, kept, verdict}
-use Rattle.paper.specs.NewTable.{Line, lines}
-use Rattle.paper.specs.Calls.{Answer, refused, given, _>>=_, refuse, refuseAt, Reply, reply, Work, typeTooMany, typeMissing, tests1-3, tests1-4, tests5-6, tests1-7, test8, judge}
+use Rattle.paper.specs.NewTable.{Line, lines, lineRow, newTable, sourceList}
+use Rattle.paper.specs.Calls.{Answer, refused, given, _>>=_, refuse, refuseAt, Reply, reply, Work, typeTooMany, typeMissing, tests1-3, tests1-4, tests5-6, tests1-7, test8, reshaping}
 
 -- ---- answers
 module _ {A B : Type 0} where
@@ -43,7 +42,7 @@ abbrev pub Numbered : {A : Type 0} → Answer A → Type 0
 Numbered (refused k p) = 0 < k
 Numbered (given v) = Unit
 
-bind-numbered : {A B : Type 0} (a : Answer A) (next : A → Answer B) → Numbered a → ((x : A) → Numbered (next x)) → Numbered (a >>= next)
+pub bind-numbered : {A B : Type 0} (a : Answer A) (next : A → Answer B) → Numbered a → ((x : A) → Numbered (next x)) → Numbered (a >>= next)
 bind-numbered (refused k p) next n m = n
 bind-numbered (given x) next n m = m x
 
@@ -181,3 +180,22 @@ unfolding test8
 numbered8 f w room =
     let over = ltb room (length (lines (w .nodes) (w .shape) (f .levels))) in
     bind-numbered (refuse 8 over) _ (refuse-numbered 8 over (omega arith)) (λ _. tt)
+
+-- ---- reshaping
+pub passed-reshaping : (f : Format) (b sb : List ℕ) (room : ℕ) (x : List ℕ × List ℕ) → reshaping f b sb room ≡ given x
+    → (w : Work) × (ls : List Line) × (tests1-7 f b sb ≡ given w) × (test8 f w room ≡ given ls)
+    × (_≡_ {A = List ℕ × List ℕ} x (newTable f (w .shape) (w .rows) ls, sourceList ls))
+unfolding reshaping
+passed-reshaping f b sb room x h =
+    let (w, h₁, k₁) = bind-given (tests1-7 f b sb) _ x h in
+    let (ls, h₂, k₂) = bind-given (test8 f w room) _ x k₁ in
+    let (u, h₃, k₃) = bind-given (refuseAt 9 (badRow f (map (lineRow f (w .shape) (w .rows)) ls))) _ x k₂ in
+    (w, ls, h₁, h₂, sym (given-same (newTable f (w .shape) (w .rows) ls, sourceList ls) x k₃))
+
+pub numbered-reshaping : (f : Format) (b sb : List ℕ) (room : ℕ) → Numbered (reshaping f b sb room)
+unfolding reshaping
+numbered-reshaping f b sb room =
+    bind-numbered (tests1-7 f b sb) _ (numbered1-7 f b sb) (λ w.
+    bind-numbered (test8 f w room) _ (numbered8 f w room) (λ ls.
+    let bad = badRow f (map (lineRow f (w .shape) (w .rows)) ls) in
+    bind-numbered (refuseAt 9 bad) _ (refuseAt-numbered 9 bad (omega arith)) (λ _. tt)))

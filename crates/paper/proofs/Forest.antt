@@ -192,6 +192,11 @@ nodesFrom-numbered i [] ds = tt
 nodesFrom-numbered i (k ∷ ks) [] = tt
 nodesFrom-numbered i (k ∷ ks) (d ∷ ds) = (refl, nodesFrom-numbered (suc i) ks ds)
 
+pub nodesFrom-length : (i : ℕ) (ks : List ℕ) (ds : List (List ℕ)) → length (nodesFrom i ks ds) ≤ length ds
+nodesFrom-length i [] ds = omega arith
+nodesFrom-length i (k ∷ ks) [] = omega arith
+nodesFrom-length i (k ∷ ks) (d ∷ ds) = omega (arith, nodesFrom-length (suc i) ks ds)
+
 pub place-bounds : (i : ℕ) (t : List Node) → Numbered i t → (x : Node) → Has x t → (i ≤ x .place) × (x .place < i + length t)
 place-bounds i [] o x h = absurd h
 place-bounds i (y ∷ t) o x (inl e) = let q = ap (λ (z : Node). z .place) e in (omega (arith, o .0), omega (arith, o .0))

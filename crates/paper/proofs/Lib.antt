@@ -16,3 +16,4 @@ pub mod Written
 pub mod Bytes
 pub mod Calls
 pub mod Reread
+pub mod Promises

@@ -203,6 +203,10 @@ module _ {A B : Type 0} where
   joined-map f (x ∷ xs) = ap (λ l. f x ++ l) (joined-map f xs)
 
 -- ---- ends of lists
+pub last-has : {A : Type 0} (p : A) (x : A) (xs : List A) → Has (lastOr p (x ∷ xs)) (x ∷ xs)
+last-has p x [] = inl refl
+last-has p x (y ∷ ys) = inr (last-has x y ys)
+
 pub last-snoc : {A : Type 0} (d : A) (w : List A) (c : A) → lastOr d (w ++ (c ∷ [])) ≡ c
 last-snoc d [] c = refl
 last-snoc d (x ∷ w) c = last-snoc x w c

@@ -14,7 +14,7 @@ use borrow.Author.Tests.{leb-true, eqb-true}
 use Rattle.paper.specs.Lists.{Has, all, lastOr, between, same, up, ways, count}
 use Rattle.paper.specs.Format.{Format}
 use Rattle.paper.specs.Shapes.{Entry, Shape, named, levelKept, entryKept, steps, shapeOver, way, parent, children, numbers}
-use Rattle.paper.proofs.Lists.{both, same-eq, eq-same, getD-has, has-getD, last-snoc, up-snoc, snoc-inj, keep-has, has-keep, has-count, count-has}
+use Rattle.paper.proofs.Lists.{both, all-has, last-has, same-eq, eq-same, getD-has, has-getD, last-snoc, up-snoc, snoc-inj, keep-has, has-keep, has-count, count-has}
 use Rattle.paper.proofs.Forest.{Kin, above}
 use Rattle.paper.proofs.Tables.{Rules}
 
@@ -72,7 +72,28 @@ entry-level f before e h =
         let i = both (leb 2 (e .level)) (leb (e .level) (suc (suc b))) q in
         (leb-true (e .level) (suc (suc b)) (i .1), inr (leb-true 2 (e .level) (i .0)))
 
-abbrev levelOf : Entry → ℕ
+-- the last label of the type that an entry names is a label of the format
+pub entry-label : (f : Format) (before : ℕ) (e : Entry) → length (e .labels) ≡ f .levels → entryKept f before e ≡ true
+    → between 1 (lastOr 0 (named e)) (f .labels) ≡ true
+unfolding entryKept
+entry-label f before e laid h =
+    let l = between 1 (e .level) (f .levels) in
+    let z = between 1 (e .size) (f .levels) in
+    let a = both (l && z && eqb (e .spare) 0 && all (λ x. between 1 x (f .labels)) (named e) && all (eqb 0) (drop (e .size) (e .labels)))
+    (levelKept before (e .level)) h in
+    let b = both (l && z && eqb (e .spare) 0 && all (λ x. between 1 x (f .labels)) (named e)) (all (eqb 0) (drop (e .size) (e .labels))) (a .0) in
+    let c = both (l && z && eqb (e .spare) 0) (all (λ x. between 1 x (f .labels)) (named e)) (b .0) in
+    let d = both (l && z) (eqb (e .spare) 0) (c .0) in
+    let g = both (leb 1 (e .size)) (leb (e .size) (f .levels)) (both l z (d .0) .1) in
+    let lo = leb-true 1 (e .size) (g .0) in
+    let hi = leb-true (e .size) (f .levels) (g .1) in
+    go (named e) (c .1) (omega (arith, length-take (e .size) (e .labels)))
+  where
+    go : (k : List ℕ) → all (λ x. between 1 x (f .labels)) k ≡ true → 0 < length k → between 1 (lastOr 0 k) (f .labels) ≡ true
+    go [] q pos = absurd (not-suc-le-zero pos)
+    go (y ∷ ys) q pos = all-has (λ x. between 1 x (f .labels)) (lastOr 0 (y ∷ ys)) (y ∷ ys) q (last-has 0 y ys)
+
+abbrev pub levelOf : Entry → ℕ
 levelOf e = e .level
 
 module _ (f : Format) where
@@ -144,7 +165,7 @@ pub record Ways (s : Shape) : Type 0 where
   pub root : (e : ℕ) → e < length (s .ways) → (v : List ℕ) × (way s e ≡ 0 ∷ v)
 
 module _ (f : Format) (ts : List (List ℕ)) (es : List Entry) (kept : Rules (entryKept f) levelOf 0 es) where
-  size : length (shapeOver ts es .ways) ≡ length es
+  pub size : length (shapeOver ts es .ways) ≡ length es
   unfolding shapeOver
   size = length-steps [] 0 es
 

@@ -40,12 +40,17 @@ module _ {A B : Type 0} (rule : B → A → Bool) (leaves : A → B) where
   rules-none i b [] h = refl
   rules-none i b (x ∷ xs) h = rw (h .0, firstBreak) (rules-none (suc i) (leaves x) xs (h .1))
 
+  pub rules-each : (b : B) (xs : List A) → Rules b xs → (x : A) → Has x xs → (c : B) × (rule c x ≡ true)
+  rules-each b [] h x i = absurd i
+  rules-each b (y ∷ ys) h x (inl e) = (b, subst (λ z. rule b z ≡ true) (sym e) (h .0))
+  rules-each b (y ∷ ys) h x (inr i) = rules-each (leaves y) ys (h .1) x i
+
 -- ---- rows as read have a component for each level
 abbrev pub Laid : Format → List Row → Type 0
 Laid f [] = Unit
 Laid f (r ∷ rs) = (length (r .components) ≡ f .levels) × Laid f rs
 
-length-words : (n : ℕ) (b : List ℕ) (i : ℕ) → length (words n b i) ≡ n
+pub length-words : (n : ℕ) (b : List ℕ) (i : ℕ) → length (words n b i) ≡ n
 length-words zero b i = refl
 length-words (suc n) b i = ap suc (length-words n b (suc (suc i)))
 

@@ -13,7 +13,7 @@ use Rattle.paper.specs.Lists.{Has, lastOr, joined, up, same}
 use Rattle.paper.specs.Tables.{raised, follows}
 use Rattle.paper.specs.NewTable.{forest, tree}
 use Rattle.paper.specs.Faithful.{Chain}
-use Rattle.paper.proofs.Lists.{has-left, has-right, has-append, map-has, map-append, same-self, eq-same, or-left, or-right}
+use Rattle.paper.proofs.Lists.{last-has, has-left, has-right, has-append, map-has, map-append, same-self, eq-same, or-left, or-right}
 use Rattle.paper.proofs.Forest.{Follows, chain-append}
 
 -- ---- positions
@@ -44,10 +44,6 @@ module _ {A : Type 0} where
   has-nth i [] x h = absurd h
   has-nth i (y ∷ ys) x (inl e) = (i, inl (refl, sym e))
   has-nth i (y ∷ ys) x (inr h) = let r = has-nth (suc i) ys x h in (r .0, inr (r .1))
-
-last-has : {A : Type 0} (p : A) (x : A) (xs : List A) → Has (lastOr p (x ∷ xs)) (x ∷ xs)
-last-has p x [] = inl refl
-last-has p x (y ∷ ys) = inr (last-has x y ys)
 
 -- ---- numbers that follow
 pub follows-first : (d : List ℕ) → Follows d (d ++ (1 ∷ []))
