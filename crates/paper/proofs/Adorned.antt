@@ -35,9 +35,10 @@ keep-once p (x ∷ xs) o = go (p x) refl (keep-once p xs (o .1))
 
 distinct-once : (xs : List (List ℕ)) → Once (distinct xs)
 distinct-once [] = tt
-distinct-once (x ∷ xs) =
-    (λ h. let e = keep-has (λ y. not (same x y)) x (distinct xs) h .1 in true≢false (sym (eq-same {a = x} refl) ∙ not-true (same x x) e),
-    keep-once (λ y. not (same x y)) (distinct xs) (distinct-once xs))
+distinct-once (x ∷ xs) = (
+  λ h. let e = keep-has (λ y. not (same x y)) x (distinct xs) h .1 in true≢false (sym (eq-same {a = x} refl) ∙ not-true (same x x) e),
+  keep-once (λ y. not (same x y)) (distinct xs) (distinct-once xs),
+)
 
 -- the number of a type that stands after others
 number-after : (before : List (List ℕ)) (x : List ℕ) (xs : List (List ℕ)) → (Has x before → ⊥) → typeNumber (before ++ x ∷ xs) x ≡ length before
@@ -131,9 +132,10 @@ module _ (f : Format) (rs : List Row) (laid : Laid f rs) (sound : badRow f rs �
   -- Every parent's count lies between the two.
   pub children-between : (r : Node) → Of (nodes rs) p r → (x .least ≤ childrenOf (nodes rs) k r) × (childrenOf (nodes rs) k r ≤ x .greatest)
   children-between r o =
-      let cs = map (childrenOf (nodes rs) k) (ofKind (nodes rs) p) in
-      (omega (arith, figures .1, least-le (childrenOf (nodes rs) k r) cs (counted r o)),
-      omega (arith, figures .2, most-has (λ n. n) (childrenOf (nodes rs) k r) cs (counted r o)))
+      let cs = map (childrenOf (nodes rs) k) (ofKind (nodes rs) p) in (
+        omega (arith, figures .1, least-le (childrenOf (nodes rs) k r) cs (counted r o)),
+        omega (arith, figures .2, most-has (λ n. n) (childrenOf (nodes rs) k r) cs (counted r o)),
+      )
 
   reached : (n : ℕ) → Has n (map (childrenOf (nodes rs) k) (ofKind (nodes rs) p)) → (r : Node) × Of (nodes rs) p r × (childrenOf (nodes rs) k r ≡ n)
   reached n h = let (r, hr, e) = map-has (childrenOf (nodes rs) k) n (ofKind (nodes rs) p) h in (r, kind-of (nodes rs) p r hr, sym e)

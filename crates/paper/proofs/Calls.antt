@@ -67,9 +67,11 @@ passed1-3 f b rs h =
     let (u, h₁, k₁) = bind-given (refuse 1 (ltb (mostRows * rowBytes f) (length b))) _ rs h in
     let (v, h₂, k₂) = bind-given (refuse 2 (not (eqb (length b % rowBytes f) 0))) _ rs k₁ in
     let (x, h₃, k₃) = bind-given (refuseAt 3 (badRow f (rows f b))) _ rs k₂ in
-    let e = given-same (rows f b) rs k₃ in
-    (e, subst (λ r. badRow f r ≡ none) e (refuseAt-given 3 (badRow f (rows f b)) x h₃),
-    ltb-false (mostRows * rowBytes f) (length b) (refuse-given 1 (ltb (mostRows * rowBytes f) (length b)) u h₁))
+    let e = given-same (rows f b) rs k₃ in (
+      e,
+      subst (λ r. badRow f r ≡ none) e (refuseAt-given 3 (badRow f (rows f b)) x h₃),
+      ltb-false (mostRows * rowBytes f) (length b) (refuse-given 1 (ltb (mostRows * rowBytes f) (length b)) u h₁),
+    )
 
 -- ---- 1 to 4
 pub passed1-4 : (f : Format) (b : List ℕ) (rs : List Row) → tests1-4 f b ≡ given rs → tests1-3 f b ≡ given rs
@@ -106,9 +108,11 @@ passed5-6 f b es h =
     let (u, h₁, k₁) = bind-given (refuse 5 lengths) _ es h in
     let (v, h₂, k₂) = bind-given (refuseAt 6 (badEntry f (entries f b))) _ es k₁ in
     let e = given-same (entries f b) es k₂ in
-    let (z, m) = neither (eqb (length b) 0) (ltb (mostEntries * entryBytes f) (length b)) (eqb (length b % entryBytes f) 0) (refuse-given 5 lengths u h₁) in
-    (e, subst (λ r. badEntry f r ≡ none) e (refuseAt-given 6 (badEntry f (entries f b)) v h₂),
-    subst (λ r. 0 < length r) e (some-entry (eqb-false (length b) 0 z) (eqb-true (length b % entryBytes f) 0 m)))
+    let (z, m) = neither (eqb (length b) 0) (ltb (mostEntries * entryBytes f) (length b)) (eqb (length b % entryBytes f) 0) (refuse-given 5 lengths u h₁) in (
+      e,
+      subst (λ r. badEntry f r ≡ none) e (refuseAt-given 6 (badEntry f (entries f b)) v h₂),
+      subst (λ r. 0 < length r) e (some-entry (eqb-false (length b) 0 z) (eqb-true (length b % entryBytes f) 0 m)),
+    )
   where
     neither : (x y z : Bool) → x || y || not z ≡ false → (x ≡ false) × (z ≡ true)
     neither false false true e = (refl, refl)
@@ -138,9 +142,11 @@ passed1-7 f b sb w h =
     let a = passed1-4 f b rs h₁ in
     let er = sym (passed1-3 f b rs a .0) in
     let ee = sym (passed5-6 f sb es h₂ .0) in
-    let same = given-same (record { rows = rs; nodes = nodes rs; shape = shapeOver (types rs) es }) w k₃ in
-    (subst (λ r. tests1-3 f b ≡ given r) er a, subst (λ x. tests5-6 f sb ≡ given x) ee h₂,
-    sym same ∙ mathlib.Core.Path.ap₂ {C = Work} (λ r x. record { rows = r; nodes = nodes r; shape = shapeOver (types r) x }) er ee)
+    let same = given-same (record { rows = rs; nodes = nodes rs; shape = shapeOver (types rs) es }) w k₃ in (
+      subst (λ r. tests1-3 f b ≡ given r) er a,
+      subst (λ x. tests5-6 f sb ≡ given x) ee h₂,
+      sym same ∙ mathlib.Core.Path.ap₂ {C = Work} (λ r x. record { rows = r; nodes = nodes r; shape = shapeOver (types r) x }) er ee,
+    )
 
 numbered1-3 : (f : Format) (b : List ℕ) → Numbered (tests1-3 f b)
 unfolding tests1-3

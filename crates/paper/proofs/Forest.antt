@@ -91,7 +91,7 @@ follows-lt p d (pos, h) =
       subst (λ z. Lt p z) (sym e) (lt-raised (length d) p (subst (λ z. 0 < length z) e pos)),
       omega arith,
       ap (take (pred (length d))) e ∙ take-raised (pred (length d)) (take (length d) p) (omega (arith, length-take (length d) p))
-      ∙ take-take (pred (length d)) (length d) p (omega arith),
+          ∙ take-take (pred (length d)) (length d) p (omega arith),
     ))
     (either (same d (p ++ (1 ∷ []))) (same d (raised (take (length d) p))) h)
 

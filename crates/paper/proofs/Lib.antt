@@ -17,3 +17,5 @@ pub mod Bytes
 pub mod Calls
 pub mod Reread
 pub mod Promises
+pub mod Needed
+pub mod Tried

@@ -51,16 +51,18 @@ module _ (t : List Node) (so : Source t) (s : Shape) (w : Ways s) (new : List No
   before e f ef lf =
       let (least, sure) = kept-pairs s t ok e f ef lf in
       let le : e < length (s .ways) = omega arith in
-      let ne : e ≡ f → ⊥ = λ q. omega (arith, q) in
-      (lines-rows t (so .one-place) s w new source fa e f le lf ne least (kept-alone s t ok) sure,
-      rows-lines t (so .one-place) s w new source fa e f le lf ne least (kept-alone s t ok) sure)
+      let ne : e ≡ f → ⊥ = λ q. omega (arith, q) in (
+        lines-rows t (so .one-place) s w new source fa e f le lf ne least (kept-alone s t ok) sure,
+        rows-lines t (so .one-place) s w new source fa e f le lf ne least (kept-alone s t ok) sure,
+      )
 
   -- the other way round
   flip : (e f : ℕ) → Both e f → Both f e
-  flip e f (to, from) =
-      (λ y x q r oy ox n sq sr. near-sym t (kind s e) (kind s f) r q (to x y r q ox oy (near-sym new f e y x n) sr sq),
-      λ q r iq ir n. let (x, y, ox, oy, m, sx, sy) = from r q ir iq (near-sym t (kind s f) (kind s e) q r n) in
-      (y, x, oy, ox, near-sym new e f x y m, sy, sx))
+  flip e f (to, from) = (
+    λ y x q r oy ox n sq sr. near-sym t (kind s e) (kind s f) r q (to x y r q ox oy (near-sym new f e y x n) sr sq),
+    λ q r iq ir n. let (x, y, ox, oy, m, sx, sy) = from r q ir iq (near-sym t (kind s f) (kind s e) q r n) in
+        (y, x, oy, ox, near-sym new e f x y m, sy, sx),
+  )
 
   -- an entry beside itself
   beside : (e : ℕ) → e < length (s .ways) → Both e e
@@ -85,9 +87,15 @@ module _ (t : List Node) (so : Source t) (s : Shape) (w : Ways s) (new : List No
       from r q ir iq n =
           let rq : r ≡ q = own-only t (so .one-number) (kind s e) (length (r .dewey)) (λ z oz. so .one-level z r (oz .0) (ir .0) (oz .1 ∙ sym (ir .1)))
           (so .some-level r (ir .0)) r q ir iq n in
-          let (x, hx, kx, sx) = every-row t (so .one-place) s w new source fa (kept-alone s t ok) e le r ir in
-          (x, x, (hx, kx), (hx, kx), own-near new (one-node [] new (fa .forest)) e l lines-level (way-pos s w e le) x (hx, kx), sx,
-          sx ∙ ap (λ (z : Node). z .place) rq)
+          let (x, hx, kx, sx) = every-row t (so .one-place) s w new source fa (kept-alone s t ok) e le r ir in (
+            x,
+            x,
+            (hx, kx),
+            (hx, kx),
+            own-near new (one-node [] new (fa .forest)) e l lines-level (way-pos s w e le) x (hx, kx),
+            sx,
+            sx ∙ ap (λ (z : Node). z .place) rq,
+          )
 
   any-two : (e f : ℕ) → e < length (s .ways) → f < length (s .ways) → Both e f
   any-two e f le lf = go (leb e f) (leb f e) refl refl

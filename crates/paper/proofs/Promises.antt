@@ -207,9 +207,9 @@ module _ (f : Format) (b sb table sources : List ℕ) where
         room = omega (arith, le, ap length el′);
         count = rest ∙ given-same v (length (x .1)) (sym kx) ∙ ap (λ (x : List ℕ × List ℕ). length (x .1)) written ∙ source-length (ls f b sb w h₁);
         lent = ap (λ a. after table (a >>= (λ (x : List ℕ × List ℕ). given (x .0)))) ax
-        ∙ ap (λ (x : List ℕ × List ℕ). x .0 ++ drop (length (x .0)) table) written;
+            ∙ ap (λ (x : List ℕ × List ℕ). x .0 ++ drop (length (x .0)) table) written;
         places = ap (λ a. after sources (a >>= (λ (x : List ℕ × List ℕ). given (x .1)))) ax
-        ∙ ap (λ (x : List ℕ × List ℕ). x .1 ++ drop (length (x .1)) sources) written;
+            ∙ ap (λ (x : List ℕ × List ℕ). x .1 ++ drop (length (x .1)) sources) written;
       }
 
   -- DEMAND 3 of a reshape: where it is accepted and the verdict is 0, the lent bytes and places at exit keep the links.

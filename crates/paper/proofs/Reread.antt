@@ -89,9 +89,10 @@ pub chain-rules : {A : Type 0} (f : Format) (row : A → Row) (number : A → Li
 unfolding rowKept
 chain-rules f row number p [] each c = tt
 chain-rules f row number p (x ∷ xs) each c =
-    let (d, k) = each x (inl refl) in
-    (and k (subst (λ z. follows p z ≡ true) (sym d) (c .0 .1)),
-    subst (λ z. Rules (rowKept f) dewey z (map row xs)) (sym d) (chain-rules f row number (number x) xs (λ y h. each y (inr h)) (c .1)))
+    let (d, k) = each x (inl refl) in (
+      and k (subst (λ z. follows p z ≡ true) (sym d) (c .0 .1)),
+      subst (λ z. Rules (rowKept f) dewey z (map row xs)) (sym d) (chain-rules f row number (number x) xs (λ y h. each y (inr h)) (c .1)),
+    )
 
 map-same : {A B : Type 0} (g h : A → B) (xs : List A) → ((x : A) → Has x xs → g x ≡ h x) → map g xs ≡ map h xs
 map-same g h [] e = refl
@@ -134,9 +135,10 @@ module _ (f : Format) (b : List ℕ) (s : Shape) (w : Ways s) (some : 0 < length
     where
       each : (l : Line) → Has l ls → (dewey (lineRow f s (rows f b) l) ≡ l .dewey) × (fieldsKept f (lineRow f s (rows f b) l) ≡ true)
       each l h =
-          let (e, i, q) = fits l h in
-          (line-dewey f (rows f b) s l (line-level l h) (line-levels l h),
-          line-fields f (rows f b) s l (line-level l h) (line-levels l h) (omega (arith, q, way-pos s w (l .entry) e)) (labels (l .entry) e))
+          let (e, i, q) = fits l h in (
+            line-dewey f (rows f b) s l (line-level l h) (line-levels l h),
+            line-fields f (rows f b) s l (line-level l h) (line-levels l h) (omega (arith, q, way-pos s w (l .entry) e)) (labels (l .entry) e),
+          )
 
   -- ---- reading it again
   length-span : (n : ℕ) (b : List ℕ) (i : ℕ) → length (span n b i) ≡ n

@@ -259,6 +259,7 @@ module _ (f : Format) (rs : List Row) (laid : Laid f rs) (sound : badRow f rs �
             subst₂ (λ a b. Has (a, b) (typed rs)) (sym yd) ev hz,
             yk ∙ ap (typeNumber (types rs)) ev,
           )
+
       lost : (take k (x .dewey) ≡ take k []) × (take k v ≡ take k [])
           → (y : Node) × Has y (nodes rs) × (y .dewey ≡ take k (x .dewey)) × HasType y (take k v) × (y .kind ≡ typeNumber (types rs) (take k v))
       lost e = let w : ⊥ = omega (arith, ap length (e .0), length-take k (x .dewey), length-take {A = ℕ} k []) in absurd w

@@ -61,9 +61,10 @@ unfolding follows
 follows-next d i l e q =
     let n = length (d ++ (suc i ∷ [])) in
     let ln : length (d ++ (i ∷ [])) ≡ n = omega (arith, length-append d (i ∷ []), length-append d (suc i ∷ [])) in
-    let t : take n l ≡ d ++ (i ∷ []) = ap (take n) q ∙ take-at (d ++ (i ∷ [])) e n ln in
-    (omega (arith, length-append d (suc i ∷ [])),
-    or-right (same (d ++ (suc i ∷ [])) (l ++ (1 ∷ []))) (eq-same (sym (ap raised t ∙ raised-snoc d i))))
+    let t : take n l ≡ d ++ (i ∷ []) = ap (take n) q ∙ take-at (d ++ (i ∷ [])) e n ln in (
+      omega (arith, length-append d (suc i ∷ [])),
+      or-right (same (d ++ (suc i ∷ [])) (l ++ (1 ∷ []))) (eq-same (sym (ap raised t ∙ raised-snoc d i))),
+    )
 
 module _ {A : Type 0} (groups : A → List (List A)) where
   abbrev kids : A → List A

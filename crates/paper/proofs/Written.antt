@@ -184,11 +184,12 @@ module _ (t : List Node) (place : (x y : Node) → Has x t → Has y t → x .pl
         let nth = above-line (l .dewey) j (l .entry, l .source) (m .entry, m .source) (line-stands l hl)
         (subst (λ d. Stands (beneath t s) (pred n) (tops t s) d (m .entry, m .source)) q (line-stands m hm)) in
         let (hc, hr) = kids-has (l .entry, l .source) (m .entry) (m .source)
-        (nth-has 1 (joined (beneath t s (l .entry, l .source))) j (m .entry, m .source) nth) in
-        (subst₂ (λ a b. Has a (children s b)) (sym km) (sym kl) hc,
-        λ r p hr₁ hp er ep. subst₂ (λ a b. closest t a b ≡ true)
-        (place (l .source) r (il .0) hr₁ (sym sl ∙ sym er)) (place (m .source) p (im .0) hp (sym sm ∙ sym ep))
-        (closestOf-closest t (kind s (m .entry)) (l .source) (m .source) (il .0) hr))
+        (nth-has 1 (joined (beneath t s (l .entry, l .source))) j (m .entry, m .source) nth) in (
+          subst₂ (λ a b. Has a (children s b)) (sym km) (sym kl) hc,
+          λ r p hr₁ hp er ep. subst₂ (λ a b. closest t a b ≡ true)
+              (place (l .source) r (il .0) hr₁ (sym sl ∙ sym er)) (place (m .source) p (im .0) hp (sym sm ∙ sym ep))
+              (closestOf-closest t (kind s (m .entry)) (l .source) (m .source) (il .0) hr),
+        )
 
     every-kid : (x : Node) → Has x new → (r : Node) → Has r t → r .place ≡ source x → (c : ℕ) → Has c (children s (x .kind))
         → (q : Node) → Has q (closestOf t r (kind s c)) → (y : Node) × Has y new × (up (y .dewey) ≡ x .dewey) × (y .kind ≡ c) × (source y ≡ q .place)
@@ -213,11 +214,11 @@ module _ (t : List Node) (place : (x y : Node) → Has x t → Has y t → x .pl
     pub lines-faithful : Faithful t s new source
     lines-faithful = record {
       forest = subst (λ d. Chain [] d) (sym (nodesFrom-deweys 0 (map (λ (l : Line). l .entry) ls) (map (λ (l : Line). l .dewey) ls)
-      (length-map ls (λ (l : Line). l .entry) ∙ sym (length-map ls (λ (l : Line). l .dewey))))) lines-chain;
+          (length-map ls (λ (l : Line). l .entry) ∙ sym (length-map ls (λ (l : Line). l .dewey))))) lines-chain;
       fits = λ x hx.
-        let (l, hl, kl, dl, sl) = line-of x hx in
-        let (fl, il, ll) = line-fits l hl in
-        (subst (λ z. z < length (s .ways)) (sym kl) fl, ap length dl ∙ ll ∙ ap (λ z. length (way s z)) (sym kl), l .source, il .0, il .1 ∙ ap (kind s) (sym kl), sym sl);
+          let (l, hl, kl, dl, sl) = line-of x hx in
+          let (fl, il, ll) = line-fits l hl in
+          (subst (λ z. z < length (s .ways)) (sym kl) fl, ap length dl ∙ ll ∙ ap (λ z. length (way s z)) (sym kl), l .source, il .0, il .1 ∙ ap (kind s) (sym kl), sym sl);
       roots = root-line;
       only = only-kids;
       every = every-kid;

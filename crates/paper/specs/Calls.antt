@@ -21,7 +21,6 @@ pub data Answer (A : Type 0) : Type 0 where
   given : A → Answer A
 
 infixl 10 _>>=_
-
 -- the next test, unless this one refuses
 abbrev pub _>>=_ : {A B : Type 0} → Answer A → (A → Answer B) → Answer B
 _>>=_ (refused k p) next = refused k p

@@ -16,47 +16,47 @@ use Rattle.paper.specs.Opened.{opened}
 
 -- ---- sample files
 -- a row with its Dewey number, label and value
-row : List ℕ → ℕ → ℕ → List ℕ
+unfoldable pub row : List ℕ → ℕ → ℕ → List ℕ
 unfolding opened
 row d l v =
     rowBack (record { level = length d; spare = 0; label = l; components = padded (base .levels) d; value = bytes valueBytes v })
 
 -- number:label, row by row from row k; row k has value 100 × k
-table : ℕ → List (List ℕ × ℕ) → List ℕ
+unfoldable pub table : ℕ → List (List ℕ × ℕ) → List ℕ
 table k [] = []
 table k (x ∷ xs) = row (x .0) (x .1) (100 * k) ++ table (suc k) xs
 
 -- an entry with its level and its type
-entry : ℕ → List ℕ → List ℕ
+unfoldable pub entry : ℕ → List ℕ → List ℕ
 unfolding opened
 entry l k = l ∷ length k ∷ 0 ∷ 0 ∷ joinMap (bytes 2) (padded (base .levels) k)
 
 -- table A
-A : List ℕ
+unfoldable pub A : List ℕ
 A = table 0 ((1 ∷ [], 1) ∷ (1 ∷ 1 ∷ [], 2) ∷ (1 ∷ 1 ∷ 1 ∷ [], 3) ∷ (1 ∷ 1 ∷ 1 ∷ 1 ∷ [], 4) ∷ (1 ∷ 1 ∷ 1 ∷ 2 ∷ [], 4)
     ∷ (1 ∷ 1 ∷ 2 ∷ [], 3) ∷ (1 ∷ 1 ∷ 2 ∷ 1 ∷ [], 4) ∷ (1 ∷ 2 ∷ [], 2) ∷ (1 ∷ 2 ∷ 1 ∷ [], 3) ∷ [])
 
 -- the tables of P7, P8 and P10
-table7 : List ℕ
+unfoldable pub table7 : List ℕ
 table7 = table 0 ((1 ∷ [], 1) ∷ (1 ∷ 1 ∷ [], 3) ∷ (1 ∷ 1 ∷ 1 ∷ [], 4) ∷ (1 ∷ 2 ∷ [], 3) ∷ (1 ∷ 3 ∷ [], 5) ∷ [])
 
-table8 : List ℕ
+unfoldable pub table8 : List ℕ
 table8 = table 0 ((1 ∷ [], 1) ∷ (1 ∷ 1 ∷ [], 2) ∷ (1 ∷ 1 ∷ 1 ∷ [], 3) ∷ (1 ∷ 2 ∷ [], 2) ∷ (1 ∷ 2 ∷ 1 ∷ [], 4) ∷ [])
 
-table10 : List ℕ
+unfoldable pub table10 : List ℕ
 table10 = table 0 ((1 ∷ [], 2) ∷ (2 ∷ [], 3) ∷ [])
 
 -- the types of A
-portfolio : List ℕ
+unfoldable pub portfolio : List ℕ
 portfolio = 1 ∷ []
 
-lessee : List ℕ
+unfoldable pub lessee : List ℕ
 lessee = 1 ∷ 2 ∷ []
 
-lease : List ℕ
+unfoldable pub lease : List ℕ
 lease = 1 ∷ 2 ∷ 3 ∷ []
 
-asset : List ℕ
+unfoldable pub asset : List ℕ
 asset = 1 ∷ 2 ∷ 3 ∷ 4 ∷ []
 
 -- ---- what the definitions say, as lists of figures

@@ -1,0 +1,60 @@
+-- Demand 3 tried by computation on small tables and shapes. The theorem holds of all; this statement is here so that a wrong
+-- definition is refused by the case that it breaks. Assumes nothing.
+use Prim.Native.Nat.{ℕ, _*_}
+use mathlib.Core.Path.{_≡_, refl}
+use mathlib.Core.Bool.{Bool, true, false, _&&_, _||_, not}
+use mathlib.Core.List.{List, [], _∷_, _++_}
+use lib.Dec.{eqb}
+use lib.ListN.{length, take, replicate}
+use Rattle.paper.specs.Lists.{all, count}
+use Rattle.paper.specs.Format.{base, rowBytes}
+use Rattle.paper.specs.Shapes.{entries}
+use Rattle.paper.specs.Verdict.{Verdict, kept, missing, apart, unsure}
+use Rattle.paper.specs.Calls.{judge, reshape}
+use Rattle.paper.specs.Links.{shownPairs, sourcePairs}
+use Rattle.paper.specs.Samples.{row, table, entry, A, table7, table8, table10, portfolio, lessee, lease, asset}
+use Rattle.paper.specs.Opened.{opened}
+use Rattle.paper.proofs.Needed.{among}
+
+abbrev isKept : Verdict → Bool
+isKept kept = true
+isKept (missing e r) = false
+isKept (apart e f) = false
+isKept (unsure e f) = false
+
+-- for any two entries the pairs shown are exactly the closest pairs of source rows
+linksHold : List ℕ → List ℕ → List ℕ → List ℕ → Bool
+unfolding opened
+linksHold b sb new sources =
+    let es = count 0 (length (entries base sb)) in
+    all (λ e. all (λ g.
+    let shown = shownPairs base new sources e g in
+    let wanted = sourcePairs base b sb e g in
+    all (λ p. among p wanted) shown && all (λ p. among p shown) wanted) es) es
+
+-- where the verdict is 0, a reshape with room is accepted and keeps the links
+pub holds : List ℕ × List ℕ → Bool
+unfolding opened linksHold
+holds c =
+    let b = c .0 in
+    let sb = c .1 in
+    let r = reshape base b sb (replicate (12 * rowBytes base) 0) (replicate 12 0) in
+    let n = r .reply .rest in
+    not (isKept (judge base b sb .rest)) || (eqb (r .reply .number) 0 && linksHold b sb (take (n * rowBytes base) (r .table)) (take n (r .sources)))
+
+pub cases : List (List ℕ × List ℕ)
+cases =
+    (A, entry 1 lease ++ entry 2 lessee ++ entry 2 asset)
+    ∷ (A, entry 1 asset ++ entry 2 lease ++ entry 3 lessee)
+    ∷ (A, entry 1 portfolio ++ entry 2 lessee ++ entry 2 asset)
+    ∷ (table7, entry 1 (1 ∷ 3 ∷ []) ++ entry 2 (1 ∷ 3 ∷ 4 ∷ []) ++ entry 3 (1 ∷ 5 ∷ []))
+    -- lessee and lease meet at 2, and on their path by way of the asset, which another lessee has, the least level is 1
+    ∷ (table8, entry 1 (1 ∷ 2 ∷ []) ++ entry 2 (1 ∷ 2 ∷ 4 ∷ []) ++ entry 3 (1 ∷ 2 ∷ 3 ∷ []))
+    ∷ (A, entry 1 lease ++ entry 2 lease)
+    ∷ (A, entry 1 portfolio ++ entry 2 lease ++ entry 2 lease)
+    ∷ (table10, entry 1 (2 ∷ []) ++ entry 2 (3 ∷ []))
+    ∷ []
+
+pub demand3-tried : all holds cases ≡ true
+unfolding opened holds linksHold cases row table entry A table7 table8 table10 portfolio lessee lease asset
+demand3-tried = refl
