@@ -1,0 +1,26 @@
+-- Laws of words and records, over any width. Assumes nothing.
+use Prim.Native.Nat.{ℕ, suc, _+_, _*_, _-_, _≤_, _<_}
+use native.Mathlib.Nat.{mul-le-mul-left, mul-add, mul-one}
+use native.Mathlib.Numerals.{add-one}
+use native.Mathlib.Omega.{arith}
+use mathlib.Core.Path.{_≡_, refl, sym, _∙_, ap}
+use mathlib.Core.List.{List}
+use lib.ListN.{length, getD, take, drop, length-take, length-drop}
+use Rattle.paper.specs.Format.{byte, word}
+
+-- two bytes, the low one first
+pub word-bytes : (b : List ℕ) (i lo hi : ℕ) → lo ≡ getD b i 0 → hi ≡ getD b (i + 1) 0 → lo + 256 * hi ≡ word b i
+word-bytes b i lo hi el eh =
+    let e : getD b (i + 1) 0 ≡ getD b (suc i) 0 = ap (λ n. getD b n 0) (add-one i) in
+    omega (arith, e)
+
+-- the length of a part
+pub over : (i n : ℕ) → i + n - i ≡ n
+over i n = omega arith
+
+pub record-length : (t : List ℕ) (w i : ℕ) → w * i + w ≤ length t → length (take w (drop (w * i) t)) ≡ w
+record-length t w i h = simp (length-take, length-drop) (omega arith)
+
+-- a record below the count lies within the table
+pub record-in : (w i n l : ℕ) → i < n → w * n ≤ l → w * i + w ≤ l
+record-in w i n l h f = let e : w * (i + 1) ≤ w * n = mul-le-mul-left w (omega arith) in omega (arith, simp (mul-add, mul-one) at e)
