@@ -50,7 +50,7 @@ pub follows-first : (d : List ℕ) → Follows d (d ++ (1 ∷ []))
 unfolding follows
 follows-first d = (omega (arith, length-append d (1 ∷ [])), or-left (same (d ++ (1 ∷ [])) (raised (take (length (d ++ (1 ∷ []))) d))) (same-self (d ++ (1 ∷ []))))
 
-raised-snoc : (d : List ℕ) (i : ℕ) → raised (d ++ (i ∷ [])) ≡ d ++ (suc i ∷ [])
+pub raised-snoc : (d : List ℕ) (i : ℕ) → raised (d ++ (i ∷ [])) ≡ d ++ (suc i ∷ [])
 raised-snoc [] i = refl
 raised-snoc (x ∷ []) i = refl
 raised-snoc (x ∷ y ∷ d) i = ap {B = List ℕ} (λ z. x ∷ z) (raised-snoc (y ∷ d) i)

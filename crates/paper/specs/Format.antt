@@ -11,9 +11,12 @@ pub record Format : Type 0 where
   pub levels : ℕ  -- the number of levels
   pub labels : ℕ  -- the largest label
 
+abbrev pub format : ℕ → ℕ → Format
+format levels labels = record { levels = levels; labels = labels }
+
 -- levels 1 to 6, labels 1 to 999
 unfoldable pub base : Format
-base = record { levels = 6; labels = 999 }
+base = format 6 999
 
 -- ---- limits
 abbrev pub mostRows : ℕ
