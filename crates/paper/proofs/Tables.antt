@@ -68,7 +68,7 @@ abbrev pub Levelled : List Row → Type 0
 Levelled [] = Unit
 Levelled (r ∷ rs) = (length (dewey r) ≡ r .level) × Levelled rs
 
-fields-level : (f : Format) (r : Row) → fieldsKept f r ≡ true → (1 ≤ r .level) × (r .level ≤ f .levels)
+pub fields-level : (f : Format) (r : Row) → fieldsKept f r ≡ true → (1 ≤ r .level) × (r .level ≤ f .levels)
 unfolding fieldsKept
 fields-level f r h =
     let a = both (between 1 (r .level) (f .levels) && eqb (r .spare) 0 && between 1 (r .label) (f .labels)) (all (eqb 0) (drop (r .level) (r .components))) h in

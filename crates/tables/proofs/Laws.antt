@@ -108,7 +108,7 @@ module _ (f : Format) (x y : List ℕ) (fx : byte x 0 ≤ f .levels) (fy : byte 
       omega (arith, i .0, i .1, i .2, shared-end (dewey (rowOf f x)) (dewey (rowOf f y)) k (omega (arith, i .1, dewey-length f x fx, dewey-length f y fy)))
 
 -- ---- a row's own fields
-and-left : {a : Bool} (b : Bool) → a ≡ false → a && b ≡ false
+pub and-left : {a : Bool} (b : Bool) → a ≡ false → a && b ≡ false
 and-left b e = ap (λ a. a && b) e
 
 and-right : (a : Bool) {b : Bool} → b ≡ false → a && b ≡ false
@@ -157,3 +157,7 @@ module _ (f : Format) (b : List ℕ) where
   zeros-decide a c s l m =
       ap (λ x. x && zeros) (and (and (and (le-leb 1 (byte b 0) a) (le-leb (byte b 0) (f .levels) c)) (eq-eqb (byte b 1) 0 s))
       (and (le-leb 1 (word b 2) l) (le-leb (word b 2) (f .labels) m)))
+
+pub fields-level : (f : Format) (b : List ℕ) → fieldsKept f (rowOf f b) ≡ true → (1 ≤ byte b 0) × (byte b 0 ≤ f .levels)
+unfolding rowOf
+fields-level f b e = Rattle.paper.proofs.Tables.fields-level f (rowOf f b) e

@@ -1,2 +1,4 @@
 pub mod Laws
 pub mod Follows
+pub mod Rows
+pub mod Examine

@@ -1,0 +1,69 @@
+-- Refusals 1 to 3 one by one, as the calls meet them. Assumes nothing.
+use Prim.Native.Nat.{ℕ, _+_, _*_, _/_, _%_, _≤_, _<_}
+use native.Mathlib.Omega.{arith}
+use mathlib.Core.Path.{_≡_, refl, sym, _∙_, ap, ap₂}
+use mathlib.Core.Bool.{Bool, true, false, not}
+use mathlib.Core.List.{List}
+use mathlib.Core.Option.{Option, none, some}
+use lib.Dec.{ltb, eqb}
+use lib.ListN.{length}
+use borrow.Author.Tests.{lt-ltb, le-ltb, eq-eqb, ne-eqb}
+use Rattle.paper.specs.Format.{Format, base, mostRows, rowBytes, whole}
+use Rattle.paper.specs.Tables.{Row, rows, badRow}
+use Rattle.paper.specs.Calls.{Answer, refused, given, _>>=_, refuse, refuseAt, Reply, reply, tests1-3, examine}
+use Rattle.paper.proofs.Calls.{count-rows}
+use Rattle.tables.specs.Place.{placeOf}
+
+-- the tests, from what each finds
+abbrev tested : Bool → Bool → Option ℕ → List Row → Answer (List Row)
+tested long ragged bad rs = refuse 1 long >>= (λ _. refuse 2 ragged >>= (λ _. refuseAt 3 bad >>= (λ _. given rs)))
+
+module _ (f : Format) (t : List ℕ) where
+  abbrev long : Bool
+  long = ltb (mostRows * rowBytes f) (length t)
+
+  abbrev ragged : Bool
+  ragged = not (eqb (length t % rowBytes f) 0)
+
+  same : tests1-3 f t ≡ tested long ragged (badRow f (rows f t)) (rows f t)
+  unfolding tests1-3
+  same = refl
+
+  pub refused-1 : mostRows * rowBytes f < length t → tests1-3 f t ≡ refused 1 0
+  refused-1 lt = same ∙ ap (λ b. tested b ragged (badRow f (rows f t)) (rows f t)) (lt-ltb (mostRows * rowBytes f) (length t) lt)
+
+  module _ (le : length t ≤ mostRows * rowBytes f) where
+    short : long ≡ false
+    short = le-ltb (mostRows * rowBytes f) (length t) le
+
+    pub refused-2 : (length t % rowBytes f ≡ 0 → ⊥) → tests1-3 f t ≡ refused 2 0
+    refused-2 ne =
+        same ∙ ap₂ (λ a b. tested a b (badRow f (rows f t)) (rows f t)) short (ap not (ne-eqb (length t % rowBytes f) 0 ne))
+
+    module _ (z : length t % rowBytes f ≡ 0) where
+      whole-rows : ragged ≡ false
+      whole-rows = ap not (eq-eqb (length t % rowBytes f) 0 z)
+
+      pub refused-3 : (p n : ℕ) → badRow f (rows f t) ≡ placeOf p n → p < n → tests1-3 f t ≡ refused 3 p
+      unfolding placeOf
+      refused-3 p n e lt =
+          same ∙ ap₂ (λ a b. tested a b (badRow f (rows f t)) (rows f t)) short whole-rows
+          ∙ ap (λ o. tested false false o (rows f t)) (e ∙ ap (λ b. elim b as (λ _. Option ℕ) [ true ↦ some p | false ↦ none ]) (lt-ltb p n lt))
+
+      pub accepted : (p n : ℕ) → badRow f (rows f t) ≡ placeOf p n → n ≤ p → tests1-3 f t ≡ given (rows f t)
+      unfolding placeOf
+      accepted p n e le =
+          same ∙ ap₂ (λ a b. tested a b (badRow f (rows f t)) (rows f t)) short whole-rows
+          ∙ ap (λ o. tested false false o (rows f t)) (e ∙ ap (λ b. elim b as (λ _. Option ℕ) [ true ↦ some p | false ↦ none ]) (le-ltb p n le))
+
+-- ---- examining
+abbrev told : Answer (List Row) → Reply ℕ
+told a = reply 0 (a >>= (λ (rs : List Row). given (length rs)))
+
+pub examine-refused : (f : Format) (t : List ℕ) (k p : ℕ) → tests1-3 f t ≡ refused k p → record { number = k; place = p; rest = 0 } ≡ examine f t
+unfolding examine
+examine-refused f t k p e = sym (ap told e)
+
+pub examine-accepted : (f : Format) (t : List ℕ) → tests1-3 f t ≡ given (rows f t) → record { number = 0; place = 0; rest = whole (rowBytes f) t } ≡ examine f t
+unfolding examine
+examine-accepted f t e = ap (λ n. record { number = 0; place = 0; rest = n }) (sym (count-rows f t)) ∙ sym (ap told e)
