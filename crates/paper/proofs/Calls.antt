@@ -148,7 +148,7 @@ passed1-7 f b sb w h =
       sym same ∙ mathlib.Core.Path.ap₂ {C = Work} (λ r x. record { rows = r; nodes = nodes r; shape = shapeOver (types r) x }) er ee,
     )
 
-numbered1-3 : (f : Format) (b : List ℕ) → Numbered (tests1-3 f b)
+pub numbered1-3 : (f : Format) (b : List ℕ) → Numbered (tests1-3 f b)
 unfolding tests1-3
 numbered1-3 f b =
     let long = ltb (mostRows * rowBytes f) (length b) in

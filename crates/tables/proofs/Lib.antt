@@ -2,3 +2,4 @@ pub mod Laws
 pub mod Follows
 pub mod Rows
 pub mod Examine
+pub mod Unique

@@ -9,7 +9,7 @@ ghost use Prim.Native.Nat.{_+_, _*_, _≤_, _<_};
 ghost use lib.ListN.{length};
 ghost use Rattle.paper.specs.Format.{format, base, rowBytes, whole, byte};
 ghost use Rattle.paper.specs.Tables.{rowOf, rows, dewey, rowKept, badRow};
-ghost use Rattle.paper.specs.Calls.{examine};
+ghost use Rattle.paper.specs.Calls.{examine, lookUp};
 ghost use Rattle.tables.specs.Place.{placeOf};
 ghost use Rattle.tables.specs.Reply.{examined};
 
@@ -104,4 +104,52 @@ pub fn examine(t: &[u8]) -> Examined
         place: 0,
         rows: n,
     }
+}
+
+// A refusal's number and place; zeros for none.
+pub struct Refusal {
+    pub number: usize,
+    pub place: usize,
+}
+
+// The number and place of a look-up.
+pub fn look_up_refusal(t: &[u8], i: usize) -> Refusal
+    ensures { λ r. ⌜ (r .number ≡ lookUp base (now (t .entry)) i .number) × (r .place ≡ lookUp base (now (t .entry)) i .place) ⌝ }
+{
+    let e = examine(t);
+    let number = e.number;
+    let n = e.rows;
+    if number != 0 {
+        return Refusal {
+            number: e.number,
+            place: e.place,
+        };
+    }
+    if n <= i {
+        return Refusal {
+            number: 11,
+            place: i,
+        };
+    }
+    Refusal {
+        number: 0,
+        place: 0,
+    }
+}
+
+// Row i's own bytes of the caller's table, or an empty part.
+pub fn look_up(t: &[u8], i: usize) -> &[u8]
+    ensures { λ r. ⌜ now r ≡ lookUp base (now (t .entry)) i .rest ⌝ }
+{
+    let none = 0;
+    let e = examine(t);
+    let number = e.number;
+    let n = e.rows;
+    if number != 0 {
+        return &t[none..none];
+    }
+    if i < n {
+        return bytes::record(t, 24, i);
+    }
+    &t[none..none]
 }
