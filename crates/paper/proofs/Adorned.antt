@@ -21,7 +21,7 @@ use Rattle.paper.proofs.Closeness.{Of, kind-of, of-kind}
 use Rattle.paper.proofs.Tables.{Laid, type-of, type-listed, listed-type, type-length, ancestor}
 
 -- ---- types are numbered without gaps: the i-th listed type has number i
-abbrev Once : List (List ℕ) → Type 0
+abbrev pub Once : List (List ℕ) → Type 0
 Once [] = Unit
 Once (x ∷ xs) = (Has x xs → ⊥) × Once xs
 
@@ -33,7 +33,7 @@ keep-once p (x ∷ xs) o = go (p x) refl (keep-once p xs (o .1))
     go true e ih = (λ h. o .0 (keep-has p x xs h .0), ih)
     go false e ih = ih
 
-distinct-once : (xs : List (List ℕ)) → Once (distinct xs)
+pub distinct-once : (xs : List (List ℕ)) → Once (distinct xs)
 distinct-once [] = tt
 distinct-once (x ∷ xs) = (
   λ h. let e = keep-has (λ y. not (same x y)) x (distinct xs) h .1 in true≢false (sym (eq-same {a = x} refl) ∙ not-true (same x x) e),
@@ -41,7 +41,7 @@ distinct-once (x ∷ xs) = (
 )
 
 -- the number of a type that stands after others
-number-after : (before : List (List ℕ)) (x : List ℕ) (xs : List (List ℕ)) → (Has x before → ⊥) → typeNumber (before ++ x ∷ xs) x ≡ length before
+pub number-after : (before : List (List ℕ)) (x : List ℕ) (xs : List (List ℕ)) → (Has x before → ⊥) → typeNumber (before ++ x ∷ xs) x ≡ length before
 unfolding typeNumber
 number-after [] x xs out = rw (eq-same {a = x} {b = x} refl, Lists.place)
 number-after (y ∷ before) x xs out = go (same x y) refl (number-after before x xs (λ h. out (inr h)))

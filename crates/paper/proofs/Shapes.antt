@@ -24,10 +24,10 @@ take-length-take zero w = refl
 take-length-take (suc n) [] = refl
 take-length-take (suc n) (x ∷ w) = ap {B = List ℕ} (λ z. x ∷ z) (take-length-take n w)
 
-abbrev self : List ℕ → List ℕ
+abbrev pub self : List ℕ → List ℕ
 self w = w
 
-ways-kin : (w : List ℕ) (xs : List (ℕ × ℕ)) → Kin self self w w (ways w xs)
+pub ways-kin : (w : List ℕ) (xs : List (ℕ × ℕ)) → Kin self self w w (ways w xs)
 ways-kin w [] = tt
 ways-kin w (x ∷ xs) =
     let u = take (pred (x .0)) w in

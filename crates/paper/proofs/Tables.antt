@@ -88,7 +88,7 @@ kept-chain f p (r ∷ rs) l k =
     (((omega arith, h .1), ih .0), (e, ih .1))
 
 -- ---- each row with its Dewey number and its type
-abbrev step : Row → ℕ × ℕ
+abbrev pub step : Row → ℕ × ℕ
 step r = (r .level, r .label)
 
 abbrev pub typedFrom : List ℕ → List Row → List (List ℕ × List ℕ)
@@ -119,7 +119,7 @@ typed-kin p w (r ∷ rs) e c l =
       typed-kin (dewey r) v rs ev (c .1) (l .1),
     )
 
-length-ways : (w : List ℕ) (xs : List (ℕ × ℕ)) → length (ways w xs) ≡ length xs
+pub length-ways : (w : List ℕ) (xs : List (ℕ × ℕ)) → length (ways w xs) ≡ length xs
 length-ways w [] = refl
 length-ways w (x ∷ xs) = ap suc (length-ways (take (pred (x .0)) w ++ (x .1 ∷ [])) xs)
 

@@ -1,0 +1,5 @@
+pub mod Ways
+pub mod Pass
+pub mod Step
+pub mod Search
+pub mod Listed

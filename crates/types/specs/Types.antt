@@ -1,0 +1,35 @@
+-- What a type list says of a table. Assumes nothing.
+use Prim.Native.Nat.{ℕ, _<_, _≤_}
+use mathlib.Core.Path.{_≡_}
+use mathlib.Core.List.{List, [], _∷_, map}
+use lib.ListN.{length, getD, take}
+use Rattle.paper.specs.Lists.{place, same, lastOr, up}
+use Rattle.paper.specs.Format.{Format, mostTypes}
+use Rattle.paper.specs.Tables.{Row, rowTypes, types, typeNumber}
+use Rattle.paper.specs.Calls.{typeTooMany}
+use Rattle.tables.specs.Place.{placeOf}
+use Rattle.types.specs.declared.list.Types.{Types}
+
+-- each row's type number
+unfoldable pub kinds : List Row → List ℕ
+kinds rs = map (typeNumber (types rs)) (rowTypes rs)
+
+-- the parent type's number, 64 for none
+abbrev pub parentOf : List (List ℕ) → List ℕ → ℕ
+parentOf ts [] = mostTypes
+parentOf ts (x ∷ v) = typeNumber ts (x ∷ v)
+
+-- `over` is the first row of the 65th type, the number of rows where there is none; then the rest is the table's types
+pub record Lists (rs : List Row) (t : Types) : Type 0 where
+  pub over : typeTooMany rs ≡ placeOf (t .over) (length rs)
+  pub count : length rs ≤ t .over → t .count ≡ length (types rs)
+  pub kind : length rs ≤ t .over → take (length rs) (t .kinds) ≡ kinds rs
+  pub first : length rs ≤ t .over → (k : ℕ) → k < t .count → getD (t .first) k 0 ≡ place (same (getD (types rs) k [])) (rowTypes rs)
+  pub label : length rs ≤ t .over → (k : ℕ) → k < t .count → getD (t .labels) k 0 ≡ lastOr 0 (getD (types rs) k [])
+  pub parent : length rs ≤ t .over → (k : ℕ) → k < t .count → getD (t .parents) k 0 ≡ parentOf (types rs) (up (getD (types rs) k []))
+
+-- r is the first of the count listed types with this parent and label, count for none
+pub record Found (parents labels : List ℕ) (count p a r : ℕ) : Type 0 where
+  pub within : r ≤ count
+  pub found : r < count → (getD parents r 0 ≡ p) × (getD labels r 0 ≡ a)
+  pub passed : (k : ℕ) → k < r → getD parents k 0 ≡ p → getD labels k 0 ≡ a → ⊥
