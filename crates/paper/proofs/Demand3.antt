@@ -11,7 +11,7 @@ use lib.ListN.{length, take, drop, take-append-drop, length-take}
 use borrow.Author.Tests.{eqb-true, leb-true, leb-false}
 use Rattle.paper.specs.Lists.{Has, all, any, lastOr}
 use Rattle.paper.specs.Closeness.{Node, meet, shared, kindsMeet, closestPairs}
-use Rattle.paper.specs.Shapes.{Shape, kind, way, side, path}
+use Rattle.paper.specs.Shapes.{Shape, kind, way, fork, side, path}
 use Rattle.paper.specs.Verdict.{Verdict, kept, isLeast, meeting, edgeLevel, sureDown, meetsLeast, sure, verdict}
 use Rattle.paper.specs.Faithful.{Faithful}
 use Rattle.paper.proofs.Lists.{both, either, all-has, has-all, any-has, has-left, has-right, has-append, map-has, map-append, last-append}
@@ -49,11 +49,17 @@ module _ (s : Shape) (w : Ways s) (e f : ℕ) (le : e < length (s .ways)) (lf : 
       let (u, eu) = w .root f lf in
       agree→shared 1 (way s e) (way s f) (subst₂ (λ a b. Agree 1 a b) (sym ev) (sym eu) (refl, tt))
 
-  pub fork : (g : ℕ) × (g < length (s .ways)) × (way s g ≡ take together (way s e))
-  fork = w .cut e le together together-pos (shared-length (way s e) (way s f))
+  pub fork-entry : (g : ℕ) × (g < length (s .ways)) × (way s g ≡ take together (way s e))
+  fork-entry = w .cut e le together together-pos (shared-length (way s e) (way s f))
 
-  pub side-e : side s e f ≡ drop together (way s e)
-  side-e = refl
+  -- it is the fork
+  pub fork-way : way s (fork s e f) ≡ take together (way s e)
+  fork-way =
+      let (g, lg, q) = fork-entry in
+      ap (way s) (ap (lastOr 0) (sym q) ∙ last-way s w g lg) ∙ q
+
+  pub fork-in : fork s e f < length (s .ways)
+  fork-in = let (g, lg, q) = fork-entry in subst (λ z. z < length (s .ways)) (sym (ap (lastOr 0) (sym q) ∙ last-way s w g lg)) lg
 
   pub side-f : side s f e ≡ drop together (way s f)
   side-f = ap (λ n. drop n (way s f)) (shared-sym (way s f) (way s e))
@@ -184,11 +190,11 @@ module _ (t : List Node) (place : (x y : Node) → Has x t → Has y t → x .pl
     module _ (no-alone : NoneAlone s w t) (certain : sure t s e f ≡ true) where
       -- two closest rows hang under one row of the fork
       forked : (r x : Node) → In s w t e r → In s w t f x → Near t (kind s e) (kind s f) r x
-          → (q : Node) × In s w t (fork s w e f le lf .0) q × Chain′ (fork s w e f le lf .0) (drop k (way s e)) q r
-          × Chain′ (fork s w e f le lf .0) (drop k (way s f)) q x
+          → (q : Node) × In s w t (fork-entry s w e f le lf .0) q × Chain′ (fork-entry s w e f le lf .0) (drop k (way s e)) q r
+          × Chain′ (fork-entry s w e f le lf .0) (drop k (way s f)) q x
       unfolding sure meeting k
       forked r x ir ix (pos, a) =
-          let (g, lg, wg) = fork s w e f le lf in
+          let (g, lg, wg) = fork-entry s w e f le lf in
           let m = L s w t e f in
           let ie = inside-e s w e f le lf g lg wg in
           let jf = inside-f s w e f le lf g lg wg in
@@ -210,7 +216,7 @@ module _ (t : List Node) (place : (x y : Node) → Has x t → Has y t → x .pl
           × Agree (together s w e f le lf) (a .dewey) (b .dewey)
       unfolding k
       missing-none r x ir ix near =
-          let (g, lg, wg) = fork s w e f le lf in
+          let (g, lg, wg) = fork-entry s w e f le lf in
           let (q, iq, de, df) = forked r x ir ix near in
           let (z, hz, kz, sz) = every-row t place s w new source fa no-alone g lg q iq in
           let sq : Shows t place s w new source fa z q = (subst (λ c. In s w t c q) (sym kz) iq, sym sz) in
@@ -262,7 +268,7 @@ module _ (t : List Node) (place : (x y : Node) → Has x t → Has y t → x .pl
       types-meet : (x y : Node) → Of new e x → Of new f y → 0 < L s w t e f
       unfolding k
       types-meet x y ox oy =
-          let (g, lg, wg) = fork s w e f le lf in
+          let (g, lg, wg) = fork-entry s w e f le lf in
           let (q, r, c) = fork-chain g e lg wg (shared-length (way s e) (way s f)) x ox in
           let (p, u, d) = fork-chain g f lg (wg ∙ take-same s w e f le lf)
           (omega (arith, shared-sym (way s e) (way s f), shared-length (way s f) (way s e))) y oy in

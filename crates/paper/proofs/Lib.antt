@@ -18,4 +18,3 @@ pub mod Calls
 pub mod Reread
 pub mod Promises
 pub mod Needed
-pub mod Tried

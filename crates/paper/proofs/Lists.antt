@@ -12,6 +12,9 @@ use lib.Seq.{take-at}
 use borrow.Author.Tests.{eqb-true, eq-eqb, leb-true, leb-false}
 use Rattle.paper.specs.Lists.{Has, keep, all, any, lastOr, most, least, joined, joinMap, same, up, count}
 use Rattle.paper.specs.Verdict.{isEmpty}
+-- A wrong definition is refused first by the sample that it breaks, so the samples stand before every law.
+use Rattle.paper.specs.Samples
+use Rattle.paper.specs.Tried
 
 -- ---- tests
 pub both : (a b : Bool) → a && b ≡ true → (a ≡ true) × (b ≡ true)

@@ -17,11 +17,8 @@ use Rattle.paper.specs.Calls.{judge, reshape, Reshaping}
 use Rattle.paper.specs.Links.{LinksKept, shownPairs, sourcePairs}
 use Rattle.paper.specs.Samples.{row, table, entry, A, table7, portfolio, lessee, lease, asset}
 use Rattle.paper.specs.Opened.{opened}
+use Rattle.paper.specs.Tried.{among}
 use Rattle.paper.proofs.Lists.{both, and, any-has, has-any}
-
--- a test for membership of a pair
-abbrev pub among : ℕ × ℕ → List (ℕ × ℕ) → Bool
-among p l = any (λ (q : ℕ × ℕ). eqb (p .0) (q .0) && eqb (p .1) (q .1)) l
 
 has-among : (p : ℕ × ℕ) (l : List (ℕ × ℕ)) → Has p l → among p l ≡ true
 has-among p l h = has-any (λ (q : ℕ × ℕ). eqb (p .0) (q .0) && eqb (p .1) (q .1)) p l h (and (eq-eqb (p .0) (p .0) refl) (eq-eqb (p .1) (p .1) refl))

@@ -1,5 +1,5 @@
 -- The theorems over bytes: what is kept, what is never made up, and what a reshape writes. Assumes nothing.
-use Prim.Native.Nat.{ℕ, zero, suc, _+_, _*_, _≤_, _<_, min}
+use Prim.Native.Nat.{ℕ, _+_, _*_, _-_, _≤_, _<_}
 use native.Mathlib.Nat.{le-trans}
 use native.Mathlib.Omega.{arith}
 use mathlib.Core.Path.{_≡_, refl, sym, _∙_, ap, ap₂, subst, subst₂}
@@ -7,27 +7,27 @@ use mathlib.Core.Logic.{_⊎_, inl, inr, _↔_}
 use mathlib.Core.Bool.{Bool, true, false}
 use mathlib.Core.List.{List, [], _∷_, _++_, map}
 use mathlib.Core.Option.{Option, none}
-use lib.ListN.{length, getD, take, drop, length-map, length-append}
+use lib.ListN.{length, getD, take, drop, length-take, length-map}
 use lib.Seq.{take-at}
 use Rattle.paper.specs.Lists.{Has, between, lastOr}
 use Rattle.paper.specs.Format.{Format, mostRows, mostLines, headBytes, rowBytes, entryBytes, whole, records}
 use Rattle.paper.specs.Tables.{Row, rows, dewey, badRow, rowTypes, types, typeNumber}
-use Rattle.paper.specs.Closeness.{Node, nodes, shared, meet, closest}
-use Rattle.paper.specs.Shapes.{Entry, Shape, entries, entryOf, named, entryKept, badEntry, shapeOver, kind, way}
+use Rattle.paper.specs.Closeness.{Node, nodes, shared, closest}
+use Rattle.paper.specs.Shapes.{Entry, Shape, entries, entryOf, named, entryKept, badEntry, shapeOver, kind, way, fork}
 use Rattle.paper.specs.NewTable.{Line, lines, lineRow, newTable, sourceList, entryUnit}
 use Rattle.paper.specs.Verdict.{Verdict, kept, missing, verdict, meetsLeast, sure, alone}
 use Rattle.paper.specs.Calls.{Answer, given, _>>=_, Reply, reply, Work, Reshaping, tests1-3, tests5-6, tests1-7, test8, judge, reshape, reshaping, roomIn, after}
 use Rattle.paper.specs.Links.{newNodes, sourceRow, shownPairs, sourcePairs, LinksKept}
-use Rattle.paper.specs.Faithful.{Faithful}
+use Rattle.paper.specs.Faithful.{Faithful, Under}
 use Rattle.paper.proofs.Lists.{getD-has, map-has}
-use Rattle.paper.proofs.Agree.{shared→agree, agree→shared}
+use Rattle.paper.proofs.Agree.{Agree, agree-take, take-agree, shared-length}
 use Rattle.paper.proofs.Closeness.{closest-near, near-closest}
 use Rattle.paper.proofs.Forest.{one-place, place-bounds, nodesFrom-length}
 use Rattle.paper.proofs.Tables.{Rules, none-rules, rules-each, rows-laid, length-words, sound-numbered, sound-pos, one-level, one-row}
 use Rattle.paper.proofs.Shapes.{Ways, levelOf, entry-label, shape-ways, way-level, size}
-use Rattle.paper.proofs.Verdict.{In, missing-alone}
-use Rattle.paper.proofs.Lines.{row-of, alone-unshown}
-use Rattle.paper.proofs.Demand3.{made-up-none, missing-none}
+use Rattle.paper.proofs.Verdict.{In, way-one, missing-alone}
+use Rattle.paper.proofs.Lines.{row-of, line-entry, line-level, line-above, alone-unshown}
+use Rattle.paper.proofs.Demand3.{together-pos, fork-way, fork-in, made-up-none, missing-none}
 use Rattle.paper.proofs.Links.{Source, links}
 use Rattle.paper.proofs.Reread
 use Rattle.paper.proofs.Calls.{passed1-3, passed5-6, passed1-7, few-rows, passed8, bind-given, bind-numbered, reply-given, given-same, passed-reshaping, numbered-reshaping}
@@ -107,33 +107,60 @@ module _ (f : Format) (b sb : List ℕ) (w : Work) (passed : tests1-7 f b sb ≡
     faithful-links ok e g le lg r q =
         links t source-table s ways (newNodes f new sources) (sourceRow sources) fa ok e g (omega (arith, entries-size)) (omega (arith, entries-size)) r q
 
+    abbrev one : (x y : Node) → Has x t → Has y t → x .place ≡ y .place → x ≡ y
+    one = source-table .one-place
+
+    -- a line of the fork is as long as what the two ways share
+    fork-level : (e g : ℕ) → e < length (s .ways) → g < length (s .ways) → (z : Node) → Has z lineList → z .kind ≡ fork s e g
+        → length (z .dewey) ≡ shared (way s e) (way s g)
+    fork-level e g le lg z hz kz =
+        line-level t one s ways lineList (sourceRow sources) fa z hz ∙ ap (λ c. length (way s c)) kz ∙ ap length (fork-way s ways e g le lg)
+        ∙ (omega (arith, length-take (shared (way s e) (way s g)) (way s e), shared-length (way s e) (way s g)))
+
     -- NOTHING MADE UP. Where a pair of different entries earns no 2, two lines of them that hang under, or are, one line of
     -- their fork entry have closest source rows, whatever the verdict is.
     pub nothing-made-up : (e g : ℕ) → e < length (s .ways) → g < length (s .ways) → (e ≡ g → ⊥) → meetsLeast t s e g ≡ true
-        → (x y : Node) → Has x lineList → Has y lineList → x .kind ≡ e → y .kind ≡ g → shared (way s e) (way s g) ≤ meet x y
+        → (x y z : Node) → Has x lineList → Has y lineList → Has z lineList → x .kind ≡ e → y .kind ≡ g → z .kind ≡ fork s e g → Under z x → Under z y
         → (r q : Node) → Has r t → Has q t → r .place ≡ sourceRow sources x → q .place ≡ sourceRow sources y → closest t r q ≡ true
-    nothing-made-up e g le lg ne least x y hx hy kx ky m r q hr hq sr sq =
-        let (r′, (ir, pr)) = row-of t (source-table .one-place) s ways lineList (sourceRow sources) fa x hx in
-        let (q′, (iq, pq)) = row-of t (source-table .one-place) s ways lineList (sourceRow sources) fa y hy in
-        let er : r′ ≡ r = source-table .one-place r′ r (ir .0) hr (pr ∙ sym sr) in
-        let eq : q′ ≡ q = source-table .one-place q′ q (iq .0) hq (pq ∙ sym sq) in
-        let near = made-up-none t (source-table .one-place) s ways lineList (sourceRow sources) fa e g le lg ne least x y r′ q′ hx hy kx ky (ir, pr) (iq, pq)
-        (shared→agree (shared (way s e) (way s g)) (x .dewey) (y .dewey) m) in
-        subst₂ (λ a c. closest t a c ≡ true) er eq
+    nothing-made-up e g le lg ne least x y z hx hy hz kx ky kz ux uy r q hr hq sr sq =
+        let (r′, (ir, pr)) = row-of t one s ways lineList (sourceRow sources) fa x hx in
+        let (q′, (iq, pq)) = row-of t one s ways lineList (sourceRow sources) fa y hy in
+        let n = fork-level e g le lg z hz kz in
+        let a : Agree (length (z .dewey)) (x .dewey) (y .dewey) =
+        take-agree (length (z .dewey)) (x .dewey) (y .dewey) (under z x ux) (ux ∙ sym uy) (under z y uy) in
+        let near = made-up-none t one s ways lineList (sourceRow sources) fa e g le lg ne least x y r′ q′ hx hy kx ky (ir, pr) (iq, pq)
+        (subst (λ k. Agree k (x .dewey) (y .dewey)) n a) in
+        subst₂ (λ a c. closest t a c ≡ true) (one r′ r (ir .0) hr (pr ∙ sym sr)) (one q′ q (iq .0) hq (pq ∙ sym sq))
         (near-closest t (kind s e) (kind s g) r′ q′ (subst (λ c. In s ways t c r′) kx ir) (subst (λ c. In s ways t c q′) ky iq) near)
+      where
+        under : (z x : Node) → Under z x → length (z .dewey) ≤ length (x .dewey)
+        under z x u = omega (arith, ap length u, length-take (length (z .dewey)) (x .dewey))
 
     -- NOTHING MISSING. Where no row lacks a partner and the pair earns neither a 2 nor a 3, closest rows of the two entries'
     -- types stand in lines that hang under, or are, one line of the fork entry.
     pub nothing-missing : ((c : ℕ) → 0 < c → c < length (s .ways) → (r : Node) → Has r (alone t s c) → ⊥)
         → (e g : ℕ) → e < length (s .ways) → g < length (s .ways) → (e ≡ g → ⊥) → meetsLeast t s e g ≡ true → sure t s e g ≡ true
         → (r q : Node) → Has r t → Has q t → r .kind ≡ kind s e → q .kind ≡ kind s g → closest t r q ≡ true
-        → (x y : Node) × Has x lineList × Has y lineList × (x .kind ≡ e) × (y .kind ≡ g)
-        × (sourceRow sources x ≡ r .place) × (sourceRow sources y ≡ q .place) × (shared (way s e) (way s g) ≤ meet x y)
+        → (x y z : Node) × Has x lineList × Has y lineList × Has z lineList × (x .kind ≡ e) × (y .kind ≡ g) × (z .kind ≡ fork s e g)
+        × Under z x × Under z y × (sourceRow sources x ≡ r .place) × (sourceRow sources y ≡ q .place)
     nothing-missing no-alone e g le lg ne least certain r q hr hq kr kq c =
         let near = closest-near t (kind s e) (kind s g) r q kr kq c in
         let (x, y, hx, hy, kx, ky, sx, sy, a) =
-        missing-none t (source-table .one-place) s ways lineList (sourceRow sources) fa e g le lg ne least no-alone certain r q (hr, kr) (hq, kq) near in
-        (x, y, hx, hy, kx, ky, sx, sy, agree→shared (shared (way s e) (way s g)) (x .dewey) (y .dewey) a)
+        missing-none t one s ways lineList (sourceRow sources) fa e g le lg ne least no-alone certain r q (hr, kr) (hq, kq) near in
+        let (z, hz, kz, ez) = fork-line x hx kx in
+        let n = fork-level e g le lg z hz kz in
+        let ux : Under z x = ap (λ k. take k (x .dewey)) n ∙ sym ez in
+        (x, y, z, hx, hy, hz, kx, ky, kz, ux, ap (λ k. take k (y .dewey)) n ∙ sym (agree-take (shared (way s e) (way s g)) (x .dewey) (y .dewey) a) ∙ sym ez, sx, sy)
+      where
+        -- the line above a line of e at the fork's level is one of the fork
+        fork-line : (x : Node) → Has x lineList → x .kind ≡ e → (z : Node) × Has z lineList × (z .kind ≡ fork s e g) × (z .dewey ≡ take (shared (way s e) (way s g)) (x .dewey))
+        fork-line x hx kx =
+            let k = shared (way s e) (way s g) in
+            let (p, sp) = row-of t one s ways lineList (sourceRow sources) fa x hx in
+            let lk : k ≤ length (way s (x .kind)) = subst (λ c. k ≤ length (way s c)) (sym kx) (shared-length (way s e) (way s g)) in
+            let a = line-above t one s ways lineList (sourceRow sources) fa (length (way s (x .kind)) - k) k x p hx sp (together-pos s ways e g le lg) (omega arith) in
+            let same : way s (a .line .kind) ≡ way s (fork s e g) = a .entries ∙ ap (λ c. take k (way s c)) kx ∙ sym (fork-way s ways e g le lg) in
+            (a .line, a .there, way-one s ways (a .line .kind) (fork s e g) (line-entry t one s ways lineList (sourceRow sources) fa (a .line) (a .there)) (fork-in s ways e g le lg) same, a .number)
 
     -- The row named by verdict 1 stands in no line of the named entry.
     pub named-row-unshown : (e p : ℕ) → verdict t s ≡ missing e p → (x : Node) → Has x lineList → x .kind ≡ e → sourceRow sources x ≡ p → ⊥
@@ -155,7 +182,7 @@ module _ (f : Format) (b sb : List ℕ) (w : Work) (passed : tests1-7 f b sb ≡
   pub written-length : length ls < entryUnit → length (newTable f s rs ls) ≡ length ls * rowBytes f
   written-length = Reread.length-new f b s ways some-entry (source-table .one-place) numbered (omega (arith, few)) levels
 
-  -- The bytes of a written table, read again, keep the row rules: of at most 1,024 lines it is a sound source.
+  -- The bytes of a written table, read again, keep the row rules.
   pub written-sound : f .labels < entryUnit → length ls < entryUnit → badRow f (rows f (newTable f s rs ls)) ≡ none
   written-sound lim room = Reread.table-kept f b s ways some-entry (source-table .one-place) numbered (omega (arith, few)) levels room lim labels
 

@@ -17,7 +17,8 @@ use Rattle.paper.specs.Tables.{Row, rowOf, rows, dewey, fieldsKept, foll
 use Rattle.paper.specs.Closeness.{Node, nodesFrom, nodes, closest, ofKind, kindsMeet}
 use Rattle.paper.specs.Faithful.{Chain}
 use Rattle.paper.proofs.Lists.{both, and, same-eq, same-self, eq-same, has-keep, keep-has, has-map, map-has}
-use Rattle.paper.proofs.Forest.{Follows, Forest, Numbered, Kin, Above, deweys, follows-lt, chain-pos, above, one-node, nodesFrom-numbered}
+use Rattle.paper.proofs.Agree.{Agree}
+use Rattle.paper.proofs.Forest.{Follows, Forest, Numbered, Kin, Above, deweys, follows-lt, chain-pos, above, prefix, run, one-node, nodesFrom-numbered}
 use Rattle.paper.proofs.Closeness.{Of, Near, closest-near, near-closest, own-near, own-only}
 
 -- ---- a rule that no element breaks
@@ -290,3 +291,12 @@ module _ (f : Format) (rs : List Row) (laid : Laid f rs) (sound : badRow f rs �
   only-self r s hr hs e c =
       own-only (nodes rs) one-row (r .kind) (length (r .dewey)) (λ x o. one-level x r (o .0) hr (o .1)) (sound-pos r hr) r s (hr, refl) (hs, sym e)
       (closest-near (nodes rs) (r .kind) (r .kind) r s refl (sym e) c)
+
+  -- In a sound table each prefix of a row's Dewey number is a row's.
+  pub sound-prefix : (x : Node) → Has x (nodes rs) → (k : ℕ) → 0 < k → k ≤ length (x .dewey) → (y : Node) × Has y (nodes rs) × (y .dewey ≡ take k (x .dewey))
+  sound-prefix = prefix (nodes rs) sound-forest
+
+  -- Rows that agree to a level are one unbroken run.
+  pub sound-run : (k : ℕ) (x y z : Node) → Has x (nodes rs) → Has y (nodes rs) → Has z (nodes rs) → x .place < y .place → y .place < z .place
+      → Agree k (x .dewey) (z .dewey) → Agree k (x .dewey) (y .dewey) × Agree k (y .dewey) (z .dewey)
+  sound-run = run (nodes rs) sound-numbered sound-forest

@@ -124,6 +124,14 @@ lookUp f b i = reply [] do
   _ ← refuseAt 11 (elim (ltb i (length rs)) [ true ↦ none | false ↦ some i ])
   given (take (rowBytes f) (drop (rowBytes f * i) b))
 
+-- A small reader over a table holds the table and a row position and hands out rows in order. Past the last whole row it hands
+-- out an empty part and stays there.
+unfoldable pub readerRow : Format → List ℕ → ℕ → List ℕ
+readerRow f b at = elim (ltb at (whole (rowBytes f) b)) [ true ↦ take (rowBytes f) (drop (rowBytes f * at) b) | false ↦ [] ]
+
+unfoldable pub readerNext : Format → List ℕ → ℕ → ℕ
+readerNext f b at = elim (ltb at (whole (rowBytes f) b)) [ true ↦ suc at | false ↦ at ]
+
 -- Adorning adds the count of types.
 pub record Adorning : Type 0 where
   pub reply : Reply ℕ

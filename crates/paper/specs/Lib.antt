@@ -11,3 +11,4 @@ pub mod Links
 pub mod Faithful
 pub mod Opened
 pub mod Samples
+pub mod Tried

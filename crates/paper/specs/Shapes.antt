@@ -85,7 +85,11 @@ module _ (s : Shape) where
   abbrev pub children : ℕ → List ℕ
   children e = keep (λ c. same (up (way c)) (way e)) numbers
 
-  -- the entries below the fork on the way to e; the fork of e and f is the last entry that their ways share
+  -- the deepest entry that is above or equal to both: the last that their ways share
+  abbrev pub fork : ℕ → ℕ → ℕ
+  fork e f = lastOr 0 (take (shared (way e) (way f)) (way e))
+
+  -- the entries below the fork on the way to e
   abbrev pub side : ℕ → ℕ → List ℕ
   side e f = drop (shared (way e) (way f)) (way e)
 

@@ -49,7 +49,7 @@ raised (x ∷ []) = suc x ∷ []
 raised (x ∷ y ∷ ys) = x ∷ raised (y ∷ ys)
 
 -- Each later row is either the previous number with a component 1 added at its end, or the previous number cut after some
--- component, that component raised by one. (Row 0 has Dewey number 1: it follows the empty number.)
+-- component, that component raised by one. (Row 0 has Dewey number 1: it follows the empty number. No row has level 0.)
 unfoldable pub follows : List ℕ → List ℕ → Bool
 follows p d = same d (p ++ (1 ∷ [])) || same d (raised (take (length d) p))
 

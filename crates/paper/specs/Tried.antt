@@ -6,7 +6,7 @@ use mathlib.Core.Bool.{Bool, true, false, _&&_, _||_, not}
 use mathlib.Core.List.{List, [], _∷_, _++_}
 use lib.Dec.{eqb}
 use lib.ListN.{length, take, replicate}
-use Rattle.paper.specs.Lists.{all, count}
+use Rattle.paper.specs.Lists.{all, any, count}
 use Rattle.paper.specs.Format.{base, rowBytes}
 use Rattle.paper.specs.Shapes.{entries}
 use Rattle.paper.specs.Verdict.{Verdict, kept, missing, apart, unsure}
@@ -14,7 +14,10 @@ use Rattle.paper.specs.Calls.{judge, reshape}
 use Rattle.paper.specs.Links.{shownPairs, sourcePairs}
 use Rattle.paper.specs.Samples.{row, table, entry, A, table7, table8, table10, portfolio, lessee, lease, asset}
 use Rattle.paper.specs.Opened.{opened}
-use Rattle.paper.proofs.Needed.{among}
+
+-- a test for membership of a pair
+abbrev pub among : ℕ × ℕ → List (ℕ × ℕ) → Bool
+among p l = any (λ (q : ℕ × ℕ). eqb (p .0) (q .0) && eqb (p .1) (q .1)) l
 
 abbrev isKept : Verdict → Bool
 isKept kept = true
