@@ -1,0 +1,55 @@
+-- The nodes of a table one by one. Assumes nothing.
+use Prim.Native.Nat.{ℕ, zero, suc, _+_, _-_, _≤_, _<_}
+use native.Mathlib.Nat.{not-suc-le-zero, le-of-suc-le-suc, zero-add}
+use native.Mathlib.Omega.{arith}
+use mathlib.Core.Path.{_≡_, refl, sym, _∙_, ap, ap₂, subst}
+use mathlib.Core.Logic.{_⊎_, inl, inr}
+use mathlib.Core.List.{List, [], _∷_, _++_, map}
+use mathlib.Core.Option.{none}
+use lib.ListN.{length, getD, take, drop, length-map}
+use lib.Seq.{getD-take}
+use Rattle.paper.specs.Lists.{Has, ways}
+use Rattle.paper.specs.Format.{Format, rowBytes, byte, whole}
+use Rattle.paper.specs.Tables.{Row, rowOf, rows, dewey, badRow, rowTypes, types, typeNumber}
+use Rattle.paper.specs.Closeness.{Node, nodesFrom, nodes}
+use Rattle.paper.proofs.Forest.{Numbered, place-bounds, one-place}
+use Rattle.paper.proofs.Tables.{step, length-ways}
+use Rattle.paper.proofs.Calls.{count-rows}
+use Rattle.tables.proofs.Rows.{rec, rows-from}
+use Rattle.types.specs.Types.{kinds}
+
+nodesFrom-at : (i : ℕ) (ks : List ℕ) (ds : List (List ℕ)) (j : ℕ) → j < length ks → j < length ds
+    → Has (record { place = i + j; kind = getD ks j 0; dewey = getD ds j [] }) (nodesFrom i ks ds)
+nodesFrom-at i [] ds j lk ld = absurd (not-suc-le-zero lk)
+nodesFrom-at i (k ∷ ks) [] j lk ld = absurd (not-suc-le-zero ld)
+nodesFrom-at i (k ∷ ks) (d ∷ ds) zero lk ld = inl (ap {B = Node} (λ n. record { place = n; kind = k; dewey = d }) (omega arith))
+nodesFrom-at i (k ∷ ks) (d ∷ ds) (suc j) lk ld =
+    inr (subst (λ n. Has (record { place = n; kind = getD ks j 0; dewey = getD ds j [] }) (nodesFrom (suc i) ks ds)) (omega arith)
+    (nodesFrom-at (suc i) ks ds j (le-of-suc-le-suc lk) (le-of-suc-le-suc ld)))
+
+at-drop : {A : Type 0} (g : Row → A) (d : A) (rs : List Row) (i : ℕ) (r : Row) (rest : List Row) → drop i rs ≡ r ∷ rest → getD (map g rs) i d ≡ g r
+at-drop g d rs zero r rest e = ap (λ l. getD (map g l) 0 d) e
+at-drop g d [] (suc i) r rest e = let z : ⊥ = omega (arith, ap length e) in absurd z
+at-drop g d (x ∷ rs) (suc i) r rest e = at-drop g d rs i r rest e
+
+-- row i as a node
+abbrev pub node : Format → List ℕ → ℕ → Node
+node f t i = record { place = i; kind = getD (kinds (rows f t)) i 0; dewey = dewey (rowOf f (rec (rowBytes f) i t)) }
+
+module _ (f : Format) (t : List ℕ) where
+  pub length-kinds : length (kinds (rows f t)) ≡ length (rows f t)
+  unfolding kinds rowTypes
+  length-kinds = length-map (rowTypes (rows f t)) (typeNumber (types (rows f t))) ∙ length-ways [] (map step (rows f t)) ∙ length-map (rows f t) step
+
+  pub node-in : (i : ℕ) → i < length (rows f t) → Has (node f t i) (nodes (rows f t))
+  unfolding nodes kinds
+  node-in i lt =
+      let at = nodesFrom-at 0 (kinds (rows f t)) (map dewey (rows f t)) i (omega (arith, length-kinds)) (omega (arith, length-map (rows f t) dewey)) in
+      let d : getD (map dewey (rows f t)) i [] ≡ dewey (rowOf f (rec (rowBytes f) i t)) =
+      at-drop dewey [] (rows f t) i (rowOf f (rec (rowBytes f) i t)) (drop (suc i) (rows f t)) (rows-from f t i (omega (arith, count-rows f t))) in
+      subst (λ (x : Node). Has x (nodesFrom 0 (kinds (rows f t)) (map dewey (rows f t))))
+      (ap₂ {C = Node} (λ n z. record { place = n; kind = getD (kinds (rows f t)) i 0; dewey = z }) (zero-add i) d) at
+
+  -- every node is a row's
+  pub in-node : Numbered 0 (nodes (rows f t)) → (x : Node) → Has x (nodes (rows f t)) → (x .place < length (rows f t)) → x ≡ node f t (x .place)
+  in-node num x h lt = one-place 0 (nodes (rows f t)) num x (node f t (x .place)) h (node-in (x .place) lt) refl
