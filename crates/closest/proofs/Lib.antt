@@ -1,2 +1,3 @@
 pub mod Nodes
 pub mod Neighbours
+pub mod Meets

@@ -9,14 +9,16 @@ use mathlib.Core.Option.{none}
 use lib.ListN.{length, getD, take, drop, length-map}
 use lib.Seq.{getD-take}
 use Rattle.paper.specs.Lists.{Has, ways}
-use Rattle.paper.specs.Format.{Format, rowBytes, byte, whole}
+use Rattle.paper.specs.Format.{Format, rowBytes, byte, word, whole}
 use Rattle.paper.specs.Tables.{Row, rowOf, rows, dewey, badRow, rowTypes, types, typeNumber}
 use Rattle.paper.specs.Closeness.{Node, nodesFrom, nodes}
-use Rattle.paper.proofs.Forest.{Numbered, place-bounds, one-place}
+use Rattle.paper.proofs.Forest.{Numbered, nodesFrom-length, one-place}
 use Rattle.paper.proofs.Tables.{step, length-ways}
 use Rattle.paper.proofs.Calls.{count-rows}
 use Rattle.tables.proofs.Rows.{rec, rows-from}
 use Rattle.types.specs.Types.{kinds}
+use Rattle.types.proofs.Listed.{l-fits, l-pos}
+use Rattle.closest.specs.Node.{node, Sound}
 
 nodesFrom-at : (i : ℕ) (ks : List ℕ) (ds : List (List ℕ)) (j : ℕ) → j < length ks → j < length ds
     → Has (record { place = i + j; kind = getD ks j 0; dewey = getD ds j [] }) (nodesFrom i ks ds)
@@ -32,14 +34,15 @@ at-drop g d rs zero r rest e = ap (λ l. getD (map g l) 0 d) e
 at-drop g d [] (suc i) r rest e = let z : ⊥ = omega (arith, ap length e) in absurd z
 at-drop g d (x ∷ rs) (suc i) r rest e = at-drop g d rs i r rest e
 
--- row i as a node
-abbrev pub node : Format → List ℕ → ℕ → Node
-node f t i = record { place = i; kind = getD (kinds (rows f t)) i 0; dewey = dewey (rowOf f (rec (rowBytes f) i t)) }
-
 module _ (f : Format) (t : List ℕ) where
   pub length-kinds : length (kinds (rows f t)) ≡ length (rows f t)
   unfolding kinds rowTypes
   length-kinds = length-map (rowTypes (rows f t)) (typeNumber (types (rows f t))) ∙ length-ways [] (map step (rows f t)) ∙ length-map (rows f t) step
+
+  pub length-nodes : length (nodes (rows f t)) ≤ length (rows f t)
+  unfolding nodes
+  length-nodes =
+      omega (arith, nodesFrom-length 0 (map (typeNumber (types (rows f t))) (rowTypes (rows f t))) (map dewey (rows f t)), length-map (rows f t) dewey)
 
   pub node-in : (i : ℕ) → i < length (rows f t) → Has (node f t i) (nodes (rows f t))
   unfolding nodes kinds
@@ -53,3 +56,11 @@ module _ (f : Format) (t : List ℕ) where
   -- every node is a row's
   pub in-node : Numbered 0 (nodes (rows f t)) → (x : Node) → Has x (nodes (rows f t)) → (x .place < length (rows f t)) → x ≡ node f t (x .place)
   in-node num x h lt = one-place 0 (nodes (rows f t)) num x (node f t (x .place)) h (node-in (x .place) lt) refl
+
+-- a row of a sound table has a level that the format has
+pub row-level : (f : Format) (t : List ℕ) → badRow f (rows f t) ≡ none → (i : ℕ) → i < whole (rowBytes f) t
+    → (1 ≤ byte (rec (rowBytes f) i t) 0) × (byte (rec (rowBytes f) i t) 0 ≤ f .levels)
+row-level f t sound i lt = (
+  l-pos f t sound i lt (byte (rec (rowBytes f) i t) 0) (word (rec (rowBytes f) i t) 2) refl refl,
+  l-fits f t sound i lt (byte (rec (rowBytes f) i t) 0) (word (rec (rowBytes f) i t) 2) refl refl,
+)
