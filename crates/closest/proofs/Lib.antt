@@ -1,3 +1,4 @@
 pub mod Nodes
 pub mod Neighbours
 pub mod Meets
+pub mod Runs

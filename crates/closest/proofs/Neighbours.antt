@@ -40,11 +40,11 @@ module _ (t : List Node) (num : Numbered 0 t) (forest : Forest t) where
   below-of i k x (h, lt, e) = (in-take 0 i t num x h (omega arith), e)
 
   -- what stands between two nodes is at least as close to either
-  closer-left : (x y z : Node) → Has x t → Has y t → Has z t → x .place < y .place → y .place < z .place → meet x z ≤ meet x y
+  pub closer-left : (x y z : Node) → Has x t → Has y t → Has z t → x .place < y .place → y .place < z .place → meet x z ≤ meet x y
   closer-left x y z hx hy hz a b =
       agree→shared (meet x z) (x .dewey) (y .dewey) (run t num forest (meet x z) x y z hx hy hz a b (shared-agree (x .dewey) (z .dewey)) .0)
 
-  closer-right : (x y z : Node) → Has x t → Has y t → Has z t → x .place < y .place → y .place < z .place → meet x z ≤ meet y z
+  pub closer-right : (x y z : Node) → Has x t → Has y t → Has z t → x .place < y .place → y .place < z .place → meet x z ≤ meet y z
   closer-right x y z hx hy hz a b =
       agree→shared (meet x z) (y .dewey) (z .dewey) (run t num forest (meet x z) x y z hx hy hz a b (shared-agree (x .dewey) (z .dewey)) .1)
 

@@ -7,8 +7,8 @@ ghost use lib.Dec.{eqb};
 ghost use lib.ListN.{length};
 ghost use Rattle.paper.specs.Format.{format};
 ghost use Rattle.paper.specs.Tables.{rows};
-ghost use Rattle.paper.specs.Closeness.{nodes, meet, kindsMeet};
-ghost use Rattle.closest.specs.Node.{node, Sound, Typed};
+ghost use Rattle.paper.specs.Closeness.{nodes, meet, meetAt, kindsMeet};
+ghost use Rattle.closest.specs.Node.{node, Sound, Typed, Next, Starts};
 
 // Where rows i and j meet.
 pub fn rows_meet(t: &[u8], levels: usize, largest: usize, i: usize, j: usize) -> usize
@@ -92,4 +92,76 @@ fn one_of(k: usize, a: usize, b: usize) -> bool
         return true;
     }
     k == b
+}
+
+// Do rows i and j meet at this level, and is it not 0? Where it is the level at which their types meet, they are closest.
+pub fn meet_at(t: &[u8], levels: usize, largest: usize, i: usize, j: usize, at: usize) -> bool
+    requires { ⌜ Sound levels largest (now t) ⌝ }
+    requires { ⌜ (i < length (rows (format levels largest) (now t))) × (j < length (rows (format levels largest) (now t))) ⌝ }
+    ensures { λ r. ⌜ r ≡ meetAt at (node (format levels largest) (now (t .entry)) i) (node (format levels largest) (now (t .entry)) j) ⌝ }
+{
+    if at == 0 {
+        return false;
+    }
+    rows_meet(t, levels, largest, i, j) == at
+}
+
+// The first row of the run around row r that agrees with it to this level.
+pub fn run_start(
+    t: &[u8],
+    levels: usize,
+    largest: usize,
+    n: usize,
+    ks: &[u8],
+    r: usize,
+    at: usize,
+) -> usize
+    requires { ⌜ Typed levels largest n (now t) (now ks) × (r < n) ⌝ }
+    ensures { λ p. ⌜ Starts levels largest (now (t .entry)) r at p ⌝ }
+{
+    let mut j = r;
+    while 0 < j {
+        if rows_meet(t, levels, largest, r, j - 1) < at {
+            return j;
+        }
+        j -= 1;
+    }
+    0
+}
+
+// The next row of type k, at or after `from`, that meets row r at this level; n for none. It stops where the run around r ends.
+pub fn next_closest(
+    t: &[u8],
+    levels: usize,
+    largest: usize,
+    n: usize,
+    ks: &[u8],
+    r: usize,
+    k: usize,
+    at: usize,
+    from: usize,
+) -> usize
+    requires { ⌜ Typed levels largest n (now t) (now ks) × (r < n) ⌝ }
+    ensures { λ p. ⌜ Next levels largest n (now (t .entry)) (now (ks .entry)) r k at from p ⌝ }
+{
+    let mut j = from;
+    while j < n {
+        let m = rows_meet(t, levels, largest, r, j);
+        if m < at {
+            if r < j {
+                return n;
+            }
+            j += 1;
+        } else {
+            if m == at {
+                if bytes::wide(ks[j]) == k {
+                    return j;
+                }
+                j += 1;
+            } else {
+                j += 1;
+            }
+        }
+    }
+    n
 }
