@@ -1,0 +1,77 @@
+-- `limits::run_case` is safe. A length of two bytes lies within the buffer, and a read that filled its part left the buffer as long. Assumes nothing.
+use native.Mathlib.Omega.{arith}
+use mathlib.Core.Path.{sym}
+use lib.ListN.{length-append}
+use lib.Seq.{length-take-le}
+use borrow.Author.Needs.{needs}
+use Rattle.limits.proofs.run_case.Statement.{statement}
+use Rattle.limits.proofs.run_case.Tie as tie
+
+slice-aggregate-read-full : tie.Need-slice-aggregate-read-full
+slice-aggregate-read-full c = search needs
+
+read-full-requires : tie.Need-read-full-requires
+read-full-requires c κs = search needs
+
+returns : tie.Need-returns
+returns c = search needs
+
+slice-aggregate-word : tie.Need-slice-aggregate-word
+slice-aggregate-word c = search needs
+
+word-requires : tie.Need-word-requires
+word-requires c κs = search needs
+
+slice-aggregate-word-2 : tie.Need-slice-aggregate-word-2
+slice-aggregate-word-2 c = search needs
+
+word-requires-2 : tie.Need-word-requires-2
+word-requires-2 c κs = search needs
+
+large-buffer-requires : tie.Need-large-buffer-requires
+large-buffer-requires c κs = search needs
+
+array-borrow-prefix-table : tie.Need-array-borrow-prefix-table
+array-borrow-prefix-table c = search needs
+
+slice-aggregate-read-full-2 : tie.Need-slice-aggregate-read-full-2
+slice-aggregate-read-full-2 c = sym (length-take-le _ _ (omega arith))
+
+read-full-requires-2 : tie.Need-read-full-requires-2
+read-full-requires-2 c κs = search needs
+
+returns-2 : tie.Need-returns-2
+returns-2 c = search needs
+
+array-share-prefix-table : tie.Need-array-share-prefix-table
+array-share-prefix-table c = simp length-append (omega arith)
+
+slice-aggregate-print-case : tie.Need-slice-aggregate-print-case
+slice-aggregate-print-case c = sym (length-take-le _ _ (simp length-append (omega arith)))
+
+print-case-requires : tie.Need-print-case-requires
+print-case-requires c κs = search needs
+
+returns-3 : tie.Need-returns-3
+returns-3 c = search needs
+
+pub run-case-spec : {M : Type 1} → statement M
+run-case-spec =
+    tie.close
+    (tie.spec
+    slice-aggregate-read-full
+    read-full-requires
+    returns
+    slice-aggregate-word
+    word-requires
+    slice-aggregate-word-2
+    word-requires-2
+    large-buffer-requires
+    array-borrow-prefix-table
+    slice-aggregate-read-full-2
+    read-full-requires-2
+    returns-2
+    array-share-prefix-table
+    slice-aggregate-print-case
+    print-case-requires
+    returns-3)
