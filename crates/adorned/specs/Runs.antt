@@ -1,0 +1,20 @@
+-- Children counted along the rows' type numbers: those of type k between a row of type p and the next. Assumes nothing.
+use Prim.Native.Nat.{ℕ, zero, suc, min, max}
+use mathlib.Core.Bool.{true, false}
+use mathlib.Core.List.{List, [], _∷_}
+use lib.Dec.{eqb}
+
+-- those of type k before the next of type p
+abbrev pub lead : ℕ → ℕ → List ℕ → ℕ
+lead p k [] = 0
+lead p k (x ∷ xs) = elim (eqb x p) [ true ↦ 0 | false ↦ elim (eqb x k) [ true ↦ suc (lead p k xs) | false ↦ lead p k xs ] ]
+
+-- for each of type p, those of type k after it and before the next
+abbrev pub runs : ℕ → ℕ → List ℕ → List ℕ
+runs p k [] = []
+runs p k (x ∷ xs) = elim (eqb x p) [ true ↦ lead p k xs ∷ runs p k xs | false ↦ runs p k xs ]
+
+-- how many are of type k
+abbrev pub tally : ℕ → List ℕ → ℕ
+tally k [] = 0
+tally k (x ∷ xs) = elim (eqb x k) [ true ↦ suc (tally k xs) | false ↦ tally k xs ]

@@ -1,0 +1,1 @@
+// The adorned shape's figures.
