@@ -10,16 +10,7 @@ use lib.ListN.{length, getD, drop, drop-of-length-le}
 use lib.Seq.{drop-cons}
 use borrow.Author.Tests.{eq-eqb, ne-eqb}
 use Rattle.paper.specs.Lists.{least, most}
-use Rattle.adorned.specs.Runs.{lead, runs, tally}
-
--- the least and the greatest after one more count, where m have been seen
-abbrev pub low : ℕ → ℕ → ℕ → ℕ
-low zero l c = c
-low (suc m) l c = min l c
-
-abbrev pub high : ℕ → ℕ → ℕ → ℕ
-high zero g c = c
-high (suc m) g c = max g c
+use Rattle.adorned.specs.Runs.{lead, runs, tally, low, high}
 
 abbrev pub lows : ℕ → ℕ → List ℕ → ℕ
 lows m l [] = l

@@ -1,2 +1,3 @@
 pub mod Fold
 pub mod Children
+pub mod Walks

@@ -18,3 +18,12 @@ runs p k (x ∷ xs) = elim (eqb x p) [ true ↦ lead p k xs ∷ runs p k xs | fa
 abbrev pub tally : ℕ → List ℕ → ℕ
 tally k [] = 0
 tally k (x ∷ xs) = elim (eqb x k) [ true ↦ suc (tally k xs) | false ↦ tally k xs ]
+
+-- the least and the greatest after one more count, where m have been seen
+abbrev pub low : ℕ → ℕ → ℕ → ℕ
+low zero l c = c
+low (suc m) l c = min l c
+
+abbrev pub high : ℕ → ℕ → ℕ → ℕ
+high zero g c = c
+high (suc m) g c = max g c
