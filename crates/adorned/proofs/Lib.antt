@@ -1,3 +1,4 @@
 pub mod Fold
 pub mod Children
 pub mod Walks
+pub mod Summaries

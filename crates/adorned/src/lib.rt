@@ -1,10 +1,18 @@
 // The adorned shape's figures, computed by value: one summary a type. Children are counted along the rows' type numbers, since the
 // children of a row stand before the next row of its type.
+use types::list::Types;
 ghost use mathlib.Core.Path.{_≡_};
-ghost use Prim.Native.Nat.{_≤_, min, max};
-ghost use lib.ListN.{length, take};
+ghost use mathlib.Core.List.{[]};
+ghost use Prim.Native.Nat.{_≤_, _<_, min, max};
+ghost use lib.ListN.{length, getD, take};
 ghost use Rattle.paper.specs.Lists.{least, most};
+ghost use Rattle.paper.specs.Format.{format};
+ghost use Rattle.paper.specs.Tables.{rows, types};
+ghost use Rattle.paper.specs.Closeness.{nodes};
+ghost use Rattle.paper.specs.Adorned.{summary, adorned};
+ghost use Rattle.closest.specs.Node.{Typed};
 ghost use Rattle.adorned.specs.Runs.{runs, tally, low, high};
+ghost use Rattle.adorned.specs.Told.{Listed, Counted, told, toldFirst};
 
 // The least and the greatest of some counts.
 pub struct Range {
@@ -97,4 +105,65 @@ fn children_range(ks: &[u8], n: usize, p: usize, k: usize) -> Range
         return with_count(r, m, c);
     }
     r
+}
+
+// The summary of a type: its parent type (64 for none), last label, level, number of rows, and the least and the greatest number
+// of children of this type under a row of the parent type.
+pub struct TypeSummary {
+    pub parent: usize,
+    pub label: usize,
+    pub level: usize,
+    pub rows: usize,
+    pub least: usize,
+    pub greatest: usize,
+}
+
+// The summary of type k, from its parent type, its last label and its first row.
+fn summary_of(t: &[u8], levels: usize, largest: usize, n: usize, ks: &[u8], k: usize, parent: usize, label: usize, first: usize) -> TypeSummary
+    requires { ⌜ Typed levels largest n (now t) (now ks) × Listed (rows (format levels largest) (now t)) k parent label first ⌝ }
+    ensures { λ r. ⌜ told r ≡ summary (nodes (rows (format levels largest) (now (t .entry)))) (types (rows (format levels largest) (now (t .entry)))) k (getD (types (rows (format levels largest) (now (t .entry)))) k []) ⌝ }
+{
+    let w = 4 + 2 * levels + 8;
+    let row = bytes::record(t, w, first);
+    let level = bytes::wide(row[0]);
+    let c = count_rows(ks, n, k);
+    if parent == 64 {
+        return TypeSummary { parent: parent, label: label, level: level, rows: c, least: c, greatest: c };
+    }
+    let r = children_range(ks, n, parent, k);
+    TypeSummary { parent: parent, label: label, level: level, rows: c, least: r.least, greatest: r.greatest }
+}
+
+// What adorning finds out of a table: refusals 1 to 4, or one summary a type; places past the count hold zeros.
+pub struct Adorned {
+    pub number: usize,
+    pub place: usize,
+    pub count: usize,
+    pub summaries: [TypeSummary; 64],
+}
+
+fn no_summary() -> TypeSummary {
+    TypeSummary { parent: 0, label: 0, level: 0, rows: 0, least: 0, greatest: 0 }
+}
+
+// The summaries of a listed table, one a type in type order.
+fn summaries_of(t: &[u8], levels: usize, largest: usize, n: usize, types: Types) -> [TypeSummary; 64]
+    requires { ⌜ Counted levels largest n (now t) types ⌝ }
+    ensures { λ r. ⌜ toldFirst (types .count) r ≡ adorned (rows (format levels largest) (now (t .entry))) ⌝ }
+{
+    let ks = types.kinds;
+    let first = types.first;
+    let parents = types.parents;
+    let labels = types.labels;
+    let count = types.count;
+    let mut all = [no_summary(); 64];
+    let mut k = 0;
+    while k < count {
+        let p = bytes::wide(parents[k]);
+        let a = labels[k] as usize;
+        let i = first[k] as usize;
+        all[k] = summary_of(t, levels, largest, n, &ks, k, p, a, i);
+        k += 1;
+    }
+    all
 }

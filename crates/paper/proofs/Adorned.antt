@@ -89,7 +89,7 @@ children-none t k r h = go (keep (λ (s : Node). same (up (s .dewey)) (r .dewey)
         let i = keep-has (λ (s : Node). same (up (s .dewey)) (r .dewey)) x (ofKind t k) (subst (λ z. Has x z) (sym e) (inl refl)) in
         absurd (h x (kind-of t k x (i .0)) (same-eq (up (x .dewey)) (r .dewey) (i .1)))
 
-pick-false : {A : Type 0} (b : Bool) (x y : A) → b ≡ false → elim b [ true ↦ x | false ↦ y ] ≡ y
+pub pick-false : {A : Type 0} (b : Bool) (x y : A) → b ≡ false → elim b [ true ↦ x | false ↦ y ] ≡ y
 pick-false true x y e = absurd (true≢false e)
 pick-false false x y e = refl
 
@@ -110,7 +110,7 @@ module _ (f : Format) (rs : List Row) (laid : Laid f rs) (sound : badRow f rs �
   abbrev pub x : Summary
   x = summary (nodes rs) (types rs) k v
 
-  figures : (x .parent ≡ p) × (x .least ≡ Lists.least (map (childrenOf (nodes rs) k) (ofKind (nodes rs) p)))
+  pub figures : (x .parent ≡ p) × (x .least ≡ Lists.least (map (childrenOf (nodes rs) k) (ofKind (nodes rs) p)))
       × (x .greatest ≡ Lists.most (λ n. n) (map (childrenOf (nodes rs) k) (ofKind (nodes rs) p)))
   unfolding summary counts
   figures =

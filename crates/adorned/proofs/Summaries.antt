@@ -1,0 +1,209 @@
+-- The summary of a type, figure by figure. Assumes nothing.
+use Prim.Native.Nat.{ℕ, zero, suc, _+_, _≤_, _<_, pred, max}
+use native.Mathlib.Nat.{not-suc-le-zero, lt-irrefl}
+use native.Mathlib.Omega.{arith}
+use mathlib.Core.Path.{_≡_, refl, sym, _∙_, ap, ap₂, subst}
+use mathlib.Core.Logic.{_⊎_, inl, inr}
+use mathlib.Core.Bool.{Bool, true, false, false≢true}
+use mathlib.Core.List.{List, [], _∷_, _++_, map}
+use lib.Dec.{eqb, leb}
+use lib.ListN.{length, getD, take, length-map, length-take}
+use borrow.Author.Tests.{eq-eqb, leb-true, leb-false}
+use Rattle.paper.specs.Lists
+use Rattle.paper.specs.Lists.{Has, place, same, up, lastOr, distinct, ways}
+use Rattle.paper.specs.Format.{Format, format, mostTypes, rowBytes, byte, whole}
+use Rattle.paper.specs.Tables.{Row, rows, dewey, badRow, rowTypes, types, typeNumber}
+use Rattle.paper.specs.Closeness.{Node, nodesFrom, nodes, ofKind}
+use Rattle.paper.specs.Adorned.{Summary, childrenOf, counts, summary}
+use Rattle.paper.proofs.Lists.{getD-has, up-snoc}
+use Rattle.paper.proofs.Closeness.{Of}
+use Rattle.paper.proofs.Tables.{rows-laid, sound-numbered, sound-forest, sound-pos, one-level, type-of, type-listed, listed-type, type-length, ancestor, number-at, number-same, distinct-has, length-ways, step, HasType}
+use Rattle.paper.proofs.Adorned.{distinct-once, figures, root-figures}
+use Rattle.paper.proofs.Calls.{count-rows}
+use Rattle.tables.proofs.Rows.{rec}
+use Rattle.types.specs.Types.{kinds, parentOf}
+use Rattle.types.proofs.Ways.{before, way-whole}
+use Rattle.types.proofs.Pass.{once-number, long}
+use Rattle.types.proofs.Listed.{in-ways, l-is, a-is, l-pos, l-next}
+use Rattle.closest.specs.Node.{Sound, Typed}
+use Rattle.adorned.specs.Runs.{runs, tally}
+use Rattle.adorned.specs.Told.{Listed}
+use Rattle.adorned.proofs.Children.{kindsOf, tally-kind, runs-counts}
+
+-- the nodes' kinds are the rows' type numbers
+kinds-nodes : (i : ℕ) (ks : List ℕ) (ds : List (List ℕ)) → length ks ≡ length ds → kindsOf (nodesFrom i ks ds) ≡ ks
+kinds-nodes i [] [] e = refl
+kinds-nodes i [] (d ∷ ds) e = let z : ⊥ = omega arith in absurd z
+kinds-nodes i (k ∷ ks) [] e = let z : ⊥ = omega arith in absurd z
+kinds-nodes i (k ∷ ks) (d ∷ ds) e = ap {B = List ℕ} (λ l. k ∷ l) (kinds-nodes (suc i) ks ds (omega arith))
+
+pub kinds-of : (rs : List Row) → kindsOf (nodes rs) ≡ kinds rs
+unfolding nodes kinds rowTypes
+kinds-of rs =
+    kinds-nodes 0 (map (typeNumber (types rs)) (rowTypes rs)) (map dewey rs)
+    (length-map (rowTypes rs) (typeNumber (types rs)) ∙ length-ways [] (map step rs) ∙ length-map rs step ∙ sym (length-map rs dewey))
+
+module _ (levels largest n : ℕ) (t ks : List ℕ) (ty : Typed levels largest n t ks) (k parent label first : ℕ)
+    (li : Listed (rows (format levels largest) t) k parent label first) where
+  abbrev f : Format
+  f = format levels largest
+
+  abbrev rs : List Row
+  rs = rows (format levels largest) t
+
+  abbrev ts : List (List ℕ)
+  ts = types (rows (format levels largest) t)
+
+  -- the type's labels
+  abbrev v : List ℕ
+  v = getD (types (rows (format levels largest) t)) k []
+
+  listed : Has v ts
+  listed = getD-has [] ts k (li .known)
+
+  number : typeNumber ts v ≡ k
+  unfolding types
+  number = once-number ts (distinct-once (rowTypes rs)) k (li .known)
+
+  -- a type is not empty
+  whole-type : (u : List ℕ) × (c : ℕ) × (v ≡ u ++ (c ∷ []))
+  unfolding types rowTypes
+  whole-type = way-whole [] (map step rs) v (distinct-has v (rowTypes rs) listed)
+
+  some : 0 < length v
+  some = let (u, c, e) = whole-type in omega (arith, ap length e, lib.ListN.length-append u (c ∷ []))
+
+  -- ---- the first row has the type, and its level is the type's length
+  first-row : (first < length rs) × (getD (rowTypes rs) first [] ≡ v)
+  unfolding types typeNumber rowTypes
+  first-row =
+      let (lt, e) = number-at v (rowTypes rs) (distinct-has v (rowTypes rs) listed) in
+      (omega (arith, lt, li .first-is, length-ways [] (map step rs), length-map rs step), ap (λ i. getD (rowTypes rs) i []) (li .first-is) ∙ e)
+
+  pub first-in : first < whole (rowBytes (format levels largest)) t
+  first-in = omega (arith, first-row .0, count-rows f t)
+
+  pub level-is : byte (rec (rowBytes (format levels largest)) first t) 0 ≡ length (getD (types (rows (format levels largest) t)) k [])
+  unfolding rowTypes
+  level-is =
+      let b = rec (rowBytes f) first t in
+      let l = byte b 0 in
+      let a = Rattle.paper.specs.Format.word b 2 in
+      let s = ty .sound .kept in
+      sym (long (map step rs) first l a (in-ways f t s first first-in l a refl refl) (l-is f t s first first-in l a refl refl) (a-is f t s first first-in l a refl refl)
+      (l-pos f t s first first-in l a refl refl) (l-next f t s first first-in l a refl refl)) ∙ ap length (first-row .1)
+
+  -- ---- how many rows
+  pub rows-are : tally k (take n ks) ≡ length (ofKind (nodes (rows (format levels largest) t)) k)
+  rows-are = ap (tally k) (ty .listed ∙ sym (kinds-of rs)) ∙ tally-kind (nodes rs) k
+
+  -- ---- root or not
+  at-root : (u : List ℕ) → length u ≡ 1 → parentOf ts (up u) ≡ mostTypes
+  at-root [] e = refl
+  at-root (x ∷ []) e = refl
+  at-root (x ∷ y ∷ u) e = let z : ⊥ = omega arith in absurd z
+
+  below-root : (u : List ℕ) → 1 < length u → parentOf ts (up u) ≡ typeNumber ts (up u)
+  below-root [] lt = absurd (not-suc-le-zero lt)
+  below-root (x ∷ []) lt = absurd (lt-irrefl 1 lt)
+  below-root (x ∷ y ∷ u) lt = refl
+
+  -- the parent type is listed
+  up-listed : 1 < length v → Has (up v) ts
+  up-listed deep =
+      let (c, hc, tc, kc) = listed-type f rs (rows-laid f t) (ty .sound .kept) v listed in
+      let l = type-length f rs (rows-laid f t) (ty .sound .kept) c v tc in
+      let (y, hy, ed, tyy, ky) = ancestor f rs (rows-laid f t) (ty .sound .kept) c v tc (pred (length v)) (omega arith) (omega arith) in
+      type-listed f rs (rows-laid f t) (ty .sound .kept) (y .dewey, up v) tyy
+
+  root-parent : length v ≡ 1 → parent ≡ mostTypes
+  root-parent e = li .parent-is ∙ at-root v e
+
+  deep-parent : 1 < length v → (parent ≡ typeNumber ts (up v)) × (parent < mostTypes)
+  deep-parent deep =
+      let e = li .parent-is ∙ below-root v deep in
+      (e, omega (arith, e, number-at (up v) ts (up-listed deep) .0, li .few))
+
+  is-root : parent ≡ mostTypes → length v ≡ 1
+  is-root e = go (leb 2 (length v)) refl
+    where
+      go : (b : Bool) → leb 2 (length v) ≡ b → length v ≡ 1
+      go true q = let z : ⊥ = omega (arith, deep-parent (leb-true 2 (length v) q) .1) in absurd z
+      go false q = omega (arith, leb-false 2 (length v) q, some)
+
+  is-deep : (parent ≡ mostTypes → ⊥) → 1 < length v
+  is-deep ne = go (leb 2 (length v)) refl
+    where
+      go : (b : Bool) → leb 2 (length v) ≡ b → 1 < length v
+      go true q = leb-true 2 (length v) q
+      go false q = absurd (ne (root-parent (omega (arith, leb-false 2 (length v) q, some))))
+
+  -- ---- a root type
+  pub root-summary : (c l : ℕ) → parent ≡ mostTypes → c ≡ tally k (take n ks) → l ≡ byte (rec (rowBytes (format levels largest)) first t) 0
+      → record { parent = parent; label = label; level = l; rows = c; least = c; greatest = c }
+      ≡ summary (nodes (rows (format levels largest) t)) (types (rows (format levels largest) t)) k (getD (types (rows (format levels largest) t)) k [])
+  unfolding summary
+  root-summary c l e ec el =
+      let one = is-root e in
+      let rc : c ≡ length (ofKind (nodes rs) k) = ec ∙ rows-are in
+      let (lo, hi) = root-figures (nodes rs) ts k v one in
+      λ i. record {
+        parent = (e ∙ sym (pick-true (eqb (length v) 1) mostTypes (typeNumber ts (up v)) (eq-eqb (length v) 1 one))) i;
+        label = li .label-is i;
+        level = (el ∙ level-is) i;
+        rows = rc i;
+        least = (rc ∙ sym lo) i;
+        greatest = (rc ∙ sym hi) i;
+      }
+    where
+      pick-true : (b : Bool) (x y : ℕ) → b ≡ true → elim b [ true ↦ x | false ↦ y ] ≡ x
+      pick-true true x y q = refl
+      pick-true false x y q = absurd (false≢true q)
+
+  -- ---- any other type
+  children-are : 1 < length v → runs parent k (take n ks) ≡ map (childrenOf (nodes rs) k) (ofKind (nodes rs) (typeNumber ts (up v)))
+  children-are deep =
+      let s = ty .sound .kept in
+      let la = rows-laid f t in
+      let p = typeNumber ts (up v) in
+      ap₂ (λ a b. runs a k b) (deep-parent deep .0) (ty .listed ∙ sym (kinds-of rs))
+      ∙ runs-counts (nodes rs) (sound-numbered f rs la s) (sound-forest f rs la s) (sound-pos f rs la s) p k apart
+      (λ x y ox oy. one-level f rs la s x y (ox .0) (oy .0) (ox .1 ∙ sym (oy .1))) parent-of
+    where
+      apart : k ≡ typeNumber ts (up v) → ⊥
+      apart e =
+          let q : v ≡ up v = number-same v (up v) ts listed (up-listed deep) (number ∙ e) in
+          omega (arith, ap length q, length-take (pred (length v)) v)
+
+      parent-of : (s : Node) → Of (nodes rs) k s → (r : Node) × Of (nodes rs) (typeNumber ts (up v)) r × (r .dewey ≡ up (s .dewey))
+      parent-of s (hs, ks) =
+          let so = ty .sound .kept in
+          let la = rows-laid f t in
+          let (u, tu, ku) = type-of f rs la so s hs in
+          let q : u ≡ v = number-same u v ts (type-listed f rs la so (s .dewey, u) tu) listed (sym ku ∙ ks ∙ sym number) in
+          let l = type-length f rs la so s u tu in
+          let lv : length u ≡ length v = ap length q in
+          let (r, hr, er, tr, kr) = ancestor f rs la so s u tu (pred (length u)) (omega arith) (omega arith) in
+          (r, (hr, kr ∙ ap (λ z. typeNumber ts (up z)) q), er ∙ ap (λ m. take (pred m) (s .dewey)) l)
+
+  pub deep-summary : (c l lo hi : ℕ) → (parent ≡ mostTypes → ⊥) → c ≡ tally k (take n ks) → l ≡ byte (rec (rowBytes (format levels largest)) first t) 0
+      → lo ≡ Lists.least (runs parent k (take n ks)) → hi ≡ Lists.most (λ x. x) (runs parent k (take n ks))
+      → record { parent = parent; label = label; level = l; rows = c; least = lo; greatest = hi }
+      ≡ summary (nodes (rows (format levels largest) t)) (types (rows (format levels largest) t)) k (getD (types (rows (format levels largest) t)) k [])
+  unfolding summary
+  deep-summary c l lo hi ne ec el elo ehi =
+      let deep = is-deep ne in
+      let cs = children-are deep in
+      let (fp, fl, fg) = figures f rs (rows-laid f t) (ty .sound .kept) v listed deep in
+      let own : Summary = summary (nodes rs) ts (typeNumber ts v) v in
+      let same : own ≡ summary (nodes rs) ts k v = ap (λ m. summary (nodes rs) ts m v) number in
+      let at : map (childrenOf (nodes rs) k) (ofKind (nodes rs) (typeNumber ts (up v))) ≡ map (childrenOf (nodes rs) (typeNumber ts v)) (ofKind (nodes rs) (typeNumber ts (up v))) =
+      ap (λ m. map (childrenOf (nodes rs) m) (ofKind (nodes rs) (typeNumber ts (up v)))) (sym number) in
+      λ i. record {
+        parent = (deep-parent deep .0 ∙ sym fp ∙ ap (λ (x : Summary). x .parent) same) i;
+        label = li .label-is i;
+        level = (el ∙ level-is) i;
+        rows = (ec ∙ rows-are) i;
+        least = (elo ∙ ap Lists.least (cs ∙ at) ∙ sym fl ∙ ap (λ (x : Summary). x .least) same) i;
+        greatest = (ehi ∙ ap (Lists.most (λ x. x)) (cs ∙ at) ∙ sym fg ∙ ap (λ (x : Summary). x .greatest) same) i;
+      }

@@ -1,0 +1,36 @@
+-- What the answers say, in the paper's terms. Assumes nothing.
+use Prim.Native.Nat.{ℕ, _≤_, _<_}
+use mathlib.Core.Path.{_≡_}
+use mathlib.Core.List.{List, [], map}
+use lib.ListN.{length, getD, take}
+use Rattle.paper.specs.Lists.{place, same, lastOr, up}
+use Rattle.paper.specs.Format.{format, mostTypes}
+use Rattle.paper.specs.Tables.{Row, rows, rowTypes, types}
+use Rattle.paper.specs.Adorned.{Summary}
+use Rattle.types.specs.Types.{parentOf, Lists}
+use Rattle.types.specs.declared.list.Types.{Types}
+use Rattle.closest.specs.Node.{Sound}
+use Rattle.adorned.specs.declared.TypeSummary.{TypeSummary}
+
+abbrev pub told : TypeSummary → Summary
+told r = record { parent = r .parent; label = r .label; level = r .level; rows = r .rows; least = r .least; greatest = r .greatest }
+
+-- type k of the table has this parent type, last label and first row
+pub record Listed (rs : List Row) (k parent label first : ℕ) : Type 0 where
+  pub known : k < length (types rs)
+  pub few : length (types rs) ≤ mostTypes
+  pub parent-is : parent ≡ parentOf (types rs) (up (getD (types rs) k []))
+  pub label-is : label ≡ lastOr 0 (getD (types rs) k [])
+  pub first-is : first ≡ place (same (getD (types rs) k [])) (rowTypes rs)
+
+-- the first n summaries
+abbrev pub toldFirst : ℕ → List TypeSummary → List Summary
+toldFirst n l = map told (take n l)
+
+-- the type list is that of this table of n rows, and no type is one too many
+pub record Counted (levels largest n : ℕ) (t : List ℕ) (ty : Types) : Type 0 where
+  pub sound : Sound levels largest t
+  pub rows-n : n ≡ length (rows (format levels largest) t)
+  pub lists : Lists (rows (format levels largest) t) ty
+  pub whole : n ≤ ty .over
+  pub small : n ≤ 1024
