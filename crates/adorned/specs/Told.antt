@@ -4,12 +4,14 @@ use mathlib.Core.Path.{_≡_}
 use mathlib.Core.List.{List, [], map}
 use lib.ListN.{length, getD, take}
 use Rattle.paper.specs.Lists.{place, same, lastOr, up}
-use Rattle.paper.specs.Format.{format, mostTypes}
+use Rattle.paper.specs.Format.{format, base, mostTypes}
 use Rattle.paper.specs.Tables.{Row, rows, rowTypes, types}
 use Rattle.paper.specs.Adorned.{Summary}
+use Rattle.paper.specs.Calls.{Reply, reply, adorning}
 use Rattle.types.specs.Types.{parentOf, Lists}
 use Rattle.types.specs.declared.list.Types.{Types}
 use Rattle.closest.specs.Node.{Sound}
+use Rattle.adorned.specs.declared.Adorned.{Adorned}
 use Rattle.adorned.specs.declared.TypeSummary.{TypeSummary}
 
 abbrev pub told : TypeSummary → Summary
@@ -34,3 +36,11 @@ pub record Counted (levels largest n : ℕ) (t : List ℕ) (ty : Types) : Type 0
   pub lists : Lists (rows (format levels largest) t) ty
   pub whole : n ≤ ty .over
   pub small : n ≤ 1024
+
+-- the whole answer: number, place, and the summaries
+abbrev pub toldAll : Adorned → Reply (List Summary)
+toldAll r = record { number = r .number; place = r .place; rest = toldFirst (r .count) (r .summaries) }
+
+-- what adorning finds out where a place is lent for every type
+unfoldable pub adornFigures : List ℕ → Reply (List Summary)
+adornFigures t = reply [] (adorning base t mostTypes)

@@ -1,6 +1,8 @@
 // The adorned shape's figures, computed by value: one summary a type. Children are counted along the rows' type numbers, since the
 // children of a row stand before the next row of its type.
+use tables::table::examine;
 use types::list::Types;
+use types::list::list_types;
 ghost use mathlib.Core.Path.{_≡_};
 ghost use mathlib.Core.List.{[]};
 ghost use Prim.Native.Nat.{_≤_, _<_, min, max};
@@ -12,7 +14,7 @@ ghost use Rattle.paper.specs.Closeness.{nodes};
 ghost use Rattle.paper.specs.Adorned.{summary, adorned};
 ghost use Rattle.closest.specs.Node.{Typed};
 ghost use Rattle.adorned.specs.Runs.{runs, tally, low, high};
-ghost use Rattle.adorned.specs.Told.{Listed, Counted, told, toldFirst};
+ghost use Rattle.adorned.specs.Told.{Listed, Counted, told, toldFirst, toldAll, adornFigures};
 
 // The least and the greatest of some counts.
 pub struct Range {
@@ -119,7 +121,17 @@ pub struct TypeSummary {
 }
 
 // The summary of type k, from its parent type, its last label and its first row.
-fn summary_of(t: &[u8], levels: usize, largest: usize, n: usize, ks: &[u8], k: usize, parent: usize, label: usize, first: usize) -> TypeSummary
+fn summary_of(
+    t: &[u8],
+    levels: usize,
+    largest: usize,
+    n: usize,
+    ks: &[u8],
+    k: usize,
+    parent: usize,
+    label: usize,
+    first: usize,
+) -> TypeSummary
     requires { ⌜ Typed levels largest n (now t) (now ks) × Listed (rows (format levels largest) (now t)) k parent label first ⌝ }
     ensures { λ r. ⌜ told r ≡ summary (nodes (rows (format levels largest) (now (t .entry)))) (types (rows (format levels largest) (now (t .entry)))) k (getD (types (rows (format levels largest) (now (t .entry)))) k []) ⌝ }
 {
@@ -128,10 +140,24 @@ fn summary_of(t: &[u8], levels: usize, largest: usize, n: usize, ks: &[u8], k: u
     let level = bytes::wide(row[0]);
     let c = count_rows(ks, n, k);
     if parent == 64 {
-        return TypeSummary { parent: parent, label: label, level: level, rows: c, least: c, greatest: c };
+        return TypeSummary {
+            parent: parent,
+            label: label,
+            level: level,
+            rows: c,
+            least: c,
+            greatest: c,
+        };
     }
     let r = children_range(ks, n, parent, k);
-    TypeSummary { parent: parent, label: label, level: level, rows: c, least: r.least, greatest: r.greatest }
+    TypeSummary {
+        parent: parent,
+        label: label,
+        level: level,
+        rows: c,
+        least: r.least,
+        greatest: r.greatest,
+    }
 }
 
 // What adorning finds out of a table: refusals 1 to 4, or one summary a type; places past the count hold zeros.
@@ -143,11 +169,24 @@ pub struct Adorned {
 }
 
 fn no_summary() -> TypeSummary {
-    TypeSummary { parent: 0, label: 0, level: 0, rows: 0, least: 0, greatest: 0 }
+    TypeSummary {
+        parent: 0,
+        label: 0,
+        level: 0,
+        rows: 0,
+        least: 0,
+        greatest: 0,
+    }
 }
 
 // The summaries of a listed table, one a type in type order.
-fn summaries_of(t: &[u8], levels: usize, largest: usize, n: usize, types: Types) -> [TypeSummary; 64]
+fn summaries_of(
+    t: &[u8],
+    levels: usize,
+    largest: usize,
+    n: usize,
+    types: Types,
+) -> [TypeSummary; 64]
     requires { ⌜ Counted levels largest n (now t) types ⌝ }
     ensures { λ r. ⌜ toldFirst (types .count) r ≡ adorned (rows (format levels largest) (now (t .entry))) ⌝ }
 {
@@ -166,4 +205,42 @@ fn summaries_of(t: &[u8], levels: usize, largest: usize, n: usize, types: Types)
         k += 1;
     }
     all
+}
+
+fn refused(number: usize, place: usize) -> Adorned
+    ensures { λ r. ⌜ (r .number ≡ number) × (r .place ≡ place) × (r .count ≡ 0) ⌝ }
+{
+    let none = [no_summary(); 64];
+    Adorned {
+        number: number,
+        place: place,
+        count: 0,
+        summaries: none,
+    }
+}
+
+// Refusals 1 to 4, or the summaries of the table's types.
+pub fn adorn_by_value(t: &[u8]) -> Adorned
+    ensures { λ r. ⌜ toldAll r ≡ adornFigures (now (t .entry)) ⌝ }
+{
+    let e = examine(t);
+    let number = e.number;
+    let place = e.place;
+    let n = e.rows;
+    if number != 0 {
+        return refused(number, place);
+    }
+    let types = list_types(t, 6, 999, n);
+    let over = types.over;
+    let count = types.count;
+    if over < n {
+        return refused(4, over);
+    }
+    let all = summaries_of(t, 6, 999, n, types);
+    Adorned {
+        number: 0,
+        place: 0,
+        count: count,
+        summaries: all,
+    }
 }

@@ -1,3 +1,13 @@
+use Prim.Native.Nat.{_≤_, _-_}
+use mathlib.Core.Path.{_≡_, refl, _∙_}
+use lib.ListN.{length, getD, take, length-set}
+use Rattle.paper.specs.Format.{format}
+use Rattle.paper.specs.Tables.{rows}
+use Rattle.paper.specs.Adorned.{adorned}
+use Rattle.adorned.specs.Told.{toldFirst}
+use Rattle.adorned.proofs.All.{few, count-is, typed, listed, fill-step, fill-end}
+use native.Mathlib.Omega.{arith}
+use borrow.Author.Needs.{needs}
 use Rattle.adorned.proofs.summaries_of.Statement.{statement}
 use Rattle.adorned.proofs.summaries_of.Tie as tie
 use Rattle.adorned.proofs.summaries_of.Reads as reads
@@ -7,82 +17,158 @@ use Rattle.adorned.proofs.summary_of.Reads as summary-of-reads
 use Rattle.bytes.proofs.wide.Reads as wide-reads
 
 abbrev Inv-loop : tie.InvT-loop
-Inv-loop t levels largest n ks first parents labels count all₀ k₀ all k = ?
+Inv-loop t levels largest n ks first parents labels count all₀ k₀ all k =
+    (k ≤ count) × (length all ≡ 64) × (toldFirst k all ≡ take k (adorned (rows (format levels largest) t)))
 
 abbrev μ-loop : tie.MeasureT-loop
-μ-loop t levels largest n ks first parents labels count all₀ k₀ all k = ?
+μ-loop t levels largest n ks first parents labels count all₀ k₀ all k = count - k
 
 -- src/lib.rt:159:20
 no-summary-requires : tie.Need-no-summary-requires Inv-loop μ-loop
-no-summary-requires c κs = ?
+no-summary-requires c κs = search needs
 
 -- src/lib.rt:161:5
 loop-holds : tie.Need-loop-holds Inv-loop μ-loop
-loop-holds c = ?
+loop-holds c = (omega arith, refl, refl)
 
 -- src/lib.rt:162:29
 array-read-wide : tie.Need-array-read-wide Inv-loop μ-loop
-array-read-wide c = ?
+array-read-wide c =
+    let l = c .before in
+    let s = l .before .before .before .before .before .before .before in
+    let a = s .args in
+    let o = s .pre in
+    let C = few (a .levels) (a .largest) (a .n) (a .t .now) (a .types) o in
+    let N = count-is (a .levels) (a .largest) (a .n) (a .t .now) (a .types) o in
+    omega (arith, C, N, c .loop-test .taken)
 
 -- src/lib.rt:162:13
 wide-requires : tie.Need-wide-requires Inv-loop μ-loop
-wide-requires c κs = ?
+wide-requires c κs = search needs
 
 -- src/lib.rt:163:17
 mul-a : tie.Need-mul-a Inv-loop μ-loop
-mul-a c = ?
+mul-a c =
+    let l = c .before .before in
+    let s = l .before .before .before .before .before .before .before in
+    let a = s .args in
+    let o = s .pre in
+    let C = few (a .levels) (a .largest) (a .n) (a .t .now) (a .types) o in
+    let N = count-is (a .levels) (a .largest) (a .n) (a .t .now) (a .types) o in
+    omega (arith, C, N, c .before .loop-test .taken)
 
 -- src/lib.rt:163:17
 array-read-a : tie.Need-array-read-a Inv-loop μ-loop
-array-read-a c = ?
+array-read-a c =
+    let l = c .before .before in
+    let s = l .before .before .before .before .before .before .before in
+    let a = s .args in
+    let o = s .pre in
+    let C = few (a .levels) (a .largest) (a .n) (a .t .now) (a .types) o in
+    let N = count-is (a .levels) (a .largest) (a .n) (a .t .now) (a .types) o in
+    omega (arith, C, N, c .before .loop-test .taken)
 
 -- src/lib.rt:163:17
 cast-a : tie.Need-cast-a Inv-loop μ-loop
-cast-a c = ?
+cast-a c = search needs
 
 -- src/lib.rt:164:17
 mul-i : tie.Need-mul-i Inv-loop μ-loop
-mul-i c = ?
+mul-i c =
+    let l = c .before .before in
+    let s = l .before .before .before .before .before .before .before in
+    let a = s .args in
+    let o = s .pre in
+    let C = few (a .levels) (a .largest) (a .n) (a .t .now) (a .types) o in
+    let N = count-is (a .levels) (a .largest) (a .n) (a .t .now) (a .types) o in
+    omega (arith, C, N, c .before .loop-test .taken)
 
 -- src/lib.rt:164:17
 array-read-i : tie.Need-array-read-i Inv-loop μ-loop
-array-read-i c = ?
+array-read-i c =
+    let l = c .before .before in
+    let s = l .before .before .before .before .before .before .before in
+    let a = s .args in
+    let o = s .pre in
+    let C = few (a .levels) (a .largest) (a .n) (a .t .now) (a .types) o in
+    let N = count-is (a .levels) (a .largest) (a .n) (a .t .now) (a .types) o in
+    omega (arith, C, N, c .before .loop-test .taken)
 
 -- src/lib.rt:164:17
 cast-i : tie.Need-cast-i Inv-loop μ-loop
-cast-i c = ?
+cast-i c = search needs
 
 -- src/lib.rt:165:52
 slice-aggregate-summary-of : tie.Need-slice-aggregate-summary-of Inv-loop μ-loop
-slice-aggregate-summary-of c = ?
+slice-aggregate-summary-of c = search needs
 
 -- src/lib.rt:165:18
 summary-of-requires : tie.Need-summary-of-requires Inv-loop μ-loop
-summary-of-requires c κs = ?
+summary-of-requires c κs =
+    let l = c .before .before .before in
+    let s = l .before .before .before .before .before .before .before in
+    let a = s .args in
+    let o = s .pre in
+    let C = few (a .levels) (a .largest) (a .n) (a .t .now) (a .types) o in
+    let N = count-is (a .levels) (a .largest) (a .n) (a .t .now) (a .types) o in
+    (typed (a .levels) (a .largest) (a .n) (a .t .now) (a .types) o, listed (a .levels) (a .largest) (a .n) (a .t .now) (a .types) o (l .loop .k) (c .before .wide .result) (getD (a .types .labels) (l .loop .k) 0) (getD (a .types .first) (l .loop .k) 0) (c .before .before .loop-test .taken) (c .before .wide .ensures .0) refl refl)
 
 -- src/lib.rt:165:9
 mul-all : tie.Need-mul-all Inv-loop μ-loop
-mul-all c = ?
+mul-all c =
+    let l = c .before .before .before .before in
+    let s = l .before .before .before .before .before .before .before in
+    let a = s .args in
+    let o = s .pre in
+    let C = few (a .levels) (a .largest) (a .n) (a .t .now) (a .types) o in
+    let N = count-is (a .levels) (a .largest) (a .n) (a .t .now) (a .types) o in
+    omega (arith, C, N, c .before .before .before .loop-test .taken)
 
 -- src/lib.rt:165:9
 array-set-from-all : tie.Need-array-set-from-all Inv-loop μ-loop
-array-set-from-all c = ?
+array-set-from-all c =
+    let l = c .before .before .before .before in
+    let s = l .before .before .before .before .before .before .before in
+    let a = s .args in
+    let o = s .pre in
+    let C = few (a .levels) (a .largest) (a .n) (a .t .now) (a .types) o in
+    let N = count-is (a .levels) (a .largest) (a .n) (a .t .now) (a .types) o in
+    omega (arith, C, N, c .before .before .before .loop-test .taken)
 
 -- src/lib.rt:166:9
 add-k : tie.Need-add-k Inv-loop μ-loop
-add-k c = ?
+add-k c = search needs
 
 -- src/lib.rt:161:5
 loop-less : tie.Need-loop-less Inv-loop μ-loop
-loop-less c = ?
+loop-less c = search needs
 
 -- src/lib.rt:161:5
 loop-again : tie.Need-loop-again Inv-loop μ-loop
-loop-again c = ?
+loop-again c =
+    let l = c .before .before .before .before in
+    let s = l .before .before .before .before .before .before .before in
+    let a = s .args in
+    let o = s .pre in
+    let C = few (a .levels) (a .largest) (a .n) (a .t .now) (a .types) o in
+    let N = count-is (a .levels) (a .largest) (a .n) (a .t .now) (a .types) o in
+    let k = l .loop .k in
+    let lt = c .before .before .before .loop-test .taken in (
+      omega arith,
+      length-set (l .loop .all) k (c .summary-of .result) ∙ l .loop .inv .1,
+      fill-step (rows (format (a .levels) (a .largest)) (a .t .now)) (l .loop .all) k (c .summary-of .result) (omega (arith, N, lt)) (omega (arith, C, N, lt, l .loop .inv .1)) (l .loop .inv .2) (c .summary-of .ensures),
+    )
 
 -- src/lib.rt:150:1
 returns : tie.Need-returns Inv-loop μ-loop
-returns c = ?
+returns c =
+    let l = c .before in
+    let s = l .before .before .before .before .before .before .before in
+    let a = s .args in
+    let o = s .pre in
+    let C = few (a .levels) (a .largest) (a .n) (a .t .now) (a .types) o in
+    let N = count-is (a .levels) (a .largest) (a .n) (a .t .now) (a .types) o in
+    fill-end (rows (format (a .levels) (a .largest)) (a .t .now)) (l .loop .all) (l .loop .k) (a .types .count) N (l .loop .inv .0) (c .loop-test .left) (l .loop .inv .2)
 
 pub summaries-of-spec : {M : Type 1} → statement M
 summaries-of-spec =

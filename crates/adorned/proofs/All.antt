@@ -1,0 +1,101 @@
+-- The summaries of all types, one after the other. Assumes nothing.
+use Prim.Native.Nat.{ℕ, zero, suc, _+_, _≤_, _<_}
+use native.Mathlib.Nat.{not-suc-le-zero, le-of-suc-le-suc, zero-add}
+use native.Mathlib.Numerals.{add-one}
+use native.Mathlib.Omega.{arith}
+use mathlib.Core.Path.{_≡_, refl, sym, _∙_, ap, ap₂, subst}
+use mathlib.Core.Bool.{Bool, true, false}
+use mathlib.Core.List.{List, [], _∷_, _++_, map}
+use mathlib.Core.Option.{Option, none, some}
+use lib.Dec.{ltb}
+use lib.ListN.{length, getD, take, set, length-set}
+use lib.Seq.{take-all, take-suc-set}
+use borrow.Author.Tests.{ltb-false, le-ltb}
+use Rattle.paper.specs.Lists.{place, same}
+use Rattle.paper.specs.Format.{format, mostTypes}
+use Rattle.paper.specs.Tables.{Row, rows, rowTypes, types}
+use Rattle.paper.specs.Closeness.{Node, nodes}
+use Rattle.paper.specs.Adorned.{Summary, summary, summariesFrom, adorned}
+use Rattle.paper.specs.Calls.{typeTooMany}
+use Rattle.paper.proofs.Lists.{map-append}
+use Rattle.tables.specs.Place.{placeOf}
+use Rattle.types.specs.Types.{Lists}
+use Rattle.types.specs.declared.list.Types.{Types}
+use Rattle.closest.specs.Node.{Sound, Typed}
+use Rattle.adorned.specs.Told.{told, toldFirst, Listed, Counted}
+use Rattle.adorned.specs.declared.TypeSummary.{TypeSummary}
+
+-- ---- the k-th summary
+summaries-next : (t : List Node) (ts : List (List ℕ)) (j : ℕ) (xs : List (List ℕ)) (k : ℕ) → k < length xs
+    → take (suc k) (summariesFrom t ts j xs) ≡ take k (summariesFrom t ts j xs) ++ (summary t ts (j + k) (getD xs k []) ∷ [])
+summaries-next t ts j [] k lt = absurd (not-suc-le-zero lt)
+summaries-next t ts j (x ∷ xs) zero lt = ap {B = List Summary} (λ n. summary t ts n x ∷ []) (omega arith)
+summaries-next t ts j (x ∷ xs) (suc k) lt =
+    ap {B = List Summary} (λ l. summary t ts j x ∷ l) (summaries-next t ts (suc j) xs k (le-of-suc-le-suc lt)
+    ∙ ap (λ n. take k (summariesFrom t ts (suc j) xs) ++ (summary t ts n (getD xs k []) ∷ [])) (omega arith))
+
+length-summaries : (t : List Node) (ts : List (List ℕ)) (j : ℕ) (xs : List (List ℕ)) → length (summariesFrom t ts j xs) ≡ length xs
+length-summaries t ts j [] = refl
+length-summaries t ts j (x ∷ xs) = ap suc (length-summaries t ts (suc j) xs)
+
+module _ (rs : List Row) where
+  adorned-next : (k : ℕ) → k < length (types rs) → take (suc k) (adorned rs) ≡ take k (adorned rs) ++ (summary (nodes rs) (types rs) k (getD (types rs) k []) ∷ [])
+  unfolding adorned
+  adorned-next k lt =
+      summaries-next (nodes rs) (types rs) 0 (types rs) k lt
+      ∙ ap (λ n. take k (summariesFrom (nodes rs) (types rs) 0 (types rs)) ++ (summary (nodes rs) (types rs) n (getD (types rs) k []) ∷ [])) (zero-add k)
+
+  pub adorned-length : length (adorned rs) ≡ length (types rs)
+  unfolding adorned
+  adorned-length = length-summaries (nodes rs) (types rs) 0 (types rs)
+
+  -- what the loop keeps: the first k are written
+  pub fill-step : (all : List TypeSummary) (k : ℕ) (s : TypeSummary) → k < length (types rs) → k < length all → toldFirst k all ≡ take k (adorned rs)
+      → told s ≡ summary (nodes rs) (types rs) k (getD (types rs) k []) → toldFirst (k + 1) (set all k s) ≡ take (k + 1) (adorned rs)
+  fill-step all k s lt la e q =
+      ap (λ n. map told (take n (set all k s))) (add-one k) ∙ ap (map told) (take-suc-set all k s la) ∙ map-append told (take k all) (s ∷ [])
+      ∙ ap₂ {C = List Summary} (λ l x. l ++ (x ∷ [])) e q ∙ sym (adorned-next k lt) ∙ ap (λ n. take n (adorned rs)) (sym (add-one k))
+
+  pub fill-end : (all : List TypeSummary) (k count : ℕ) → count ≡ length (types rs) → k ≤ count → count ≤ k → toldFirst k all ≡ take k (adorned rs) → toldFirst count all ≡ adorned rs
+  fill-end all k count c le ge e =
+      let q : count ≡ k = omega arith in
+      ap (λ n. toldFirst n all) q ∙ e ∙ take-all k (adorned rs) (omega (arith, adorned-length))
+
+-- ---- the type list of a table with no type too many
+pub few-from : (rs : List Row) (o n : ℕ) → typeTooMany rs ≡ placeOf o n → n ≤ o → length (types rs) ≤ mostTypes
+unfolding typeTooMany placeOf
+few-from rs o n e le = go (ltb mostTypes (length (types rs))) refl
+  where
+    go : (b : Bool) → ltb mostTypes (length (types rs)) ≡ b → length (types rs) ≤ mostTypes
+    go true q =
+        let p = place (same (getD (types rs) mostTypes [])) (rowTypes rs) in
+        let a : typeTooMany rs ≡ some p = rw (q, typeTooMany) refl in
+        let b : placeOf o n ≡ none = rw (le-ltb o n le, placeOf) refl in
+        let c : some p ≡ none = sym a ∙ e ∙ b in
+        let z : _≡_ {A = ℕ} 0 1 = cc in let w : ⊥ = omega arith in absurd w
+    go false q = ltb-false mostTypes (length (types rs)) q
+
+module _ (levels largest n : ℕ) (t : List ℕ) (ty : Types) (c : Counted levels largest n t ty) where
+  abbrev rs : List Row
+  rs = rows (format levels largest) t
+
+  late : length rs ≤ ty .over
+  late = omega (arith, c .rows-n, c .whole)
+
+  pub few : length (types (rows (format levels largest) t)) ≤ mostTypes
+  few = few-from rs (ty .over) (length rs) (c .lists .over) late
+
+  pub count-is : ty .count ≡ length (types (rows (format levels largest) t))
+  count-is = c .lists .count late
+
+  pub typed : Typed levels largest n t (ty .kinds)
+  typed = record { sound = c .sound; rows-n = c .rows-n; listed = ap (λ m. take m (ty .kinds)) (c .rows-n) ∙ c .lists .kind late }
+
+  pub listed : (k p a i : ℕ) → k < ty .count → p ≡ getD (ty .parents) k 0 → a ≡ getD (ty .labels) k 0 → i ≡ getD (ty .first) k 0 → Listed (rows (format levels largest) t) k p a i
+  listed k p a i lt ep ea ei = record {
+    known = omega (arith, count-is);
+    few = few;
+    parent-is = ep ∙ c .lists .parent late k lt;
+    label-is = ea ∙ c .lists .label late k lt;
+    first-is = ei ∙ c .lists .first late k lt;
+  }

@@ -1,0 +1,57 @@
+-- Adorning by value, refusal by refusal. Assumes nothing.
+use Prim.Native.Nat.{ℕ, _≤_, _<_}
+use native.Mathlib.Omega.{arith}
+use mathlib.Core.Path.{_≡_, refl, sym, _∙_, ap, ap₂}
+use mathlib.Core.Bool.{Bool, true, false}
+use mathlib.Core.List.{List, []}
+use mathlib.Core.Option.{Option, none, some}
+use lib.Dec.{ltb}
+use lib.ListN.{length}
+use borrow.Author.Tests.{le-ltb, lt-ltb}
+use Rattle.paper.specs.Format.{base, mostTypes}
+use Rattle.paper.specs.Tables.{Row, rows, types}
+use Rattle.paper.specs.Adorned.{Summary, adorned}
+use Rattle.paper.specs.Calls.{Answer, refused, given, _>>=_, refuse, refuseAt, Reply, reply, typeTooMany, tests1-3, tests1-4, adorning}
+use Rattle.tables.specs.Place.{placeOf}
+use Rattle.adorned.specs.Told.{adornFigures, toldAll, toldFirst}
+use Rattle.adorned.specs.declared.Adorned.{Adorned}
+use Rattle.adorned.proofs.All.{adorned-length, few-from}
+
+-- the tests after 1 to 3
+abbrev after3 : Answer (List Row) → Answer (List Row)
+after3 a = a >>= (λ (rs : List Row). refuseAt 4 (typeTooMany rs) >>= (λ _. given rs))
+
+abbrev after4 : Answer (List Row) → Reply (List Summary)
+after4 a = reply [] (a >>= (λ (rs : List Row). refuse 10 (ltb mostTypes (length (adorned rs))) >>= (λ _. given (adorned rs))))
+
+module _ (t : List ℕ) where
+  same : adornFigures t ≡ after4 (after3 (tests1-3 base t))
+  unfolding adornFigures adorning tests1-4
+  same = refl
+
+  pub figures-refused : (k p : ℕ) → tests1-3 base t ≡ refused k p → record { number = k; place = p; rest = [] } ≡ adornFigures t
+  figures-refused k p e = sym (same ∙ ap (λ a. after4 (after3 a)) e)
+
+  module _ (e : tests1-3 base t ≡ given (rows base t)) where
+    from4 : Option ℕ → Reply (List Summary)
+    from4 o = after4 (refuseAt 4 o >>= (λ _. given (rows base t)))
+
+    pub figures-over : (o n : ℕ) → typeTooMany (rows base t) ≡ placeOf o n → o < n → record { number = 4; place = o; rest = [] } ≡ adornFigures t
+    unfolding placeOf from4
+    figures-over o n q lt =
+        let o-is : placeOf o n ≡ some o = rw (lt-ltb o n lt, placeOf) refl in
+        sym (same ∙ ap (λ a. after4 (after3 a)) e ∙ ap from4 (q ∙ o-is))
+
+    from10 : Bool → Reply (List Summary)
+    from10 b = reply [] (refuse 10 b >>= (λ _. given (adorned (rows base t))))
+
+    pub figures-given : (o n : ℕ) → typeTooMany (rows base t) ≡ placeOf o n → n ≤ o → record { number = 0; place = 0; rest = adorned (rows base t) } ≡ adornFigures t
+    unfolding placeOf from4 from10
+    figures-given o n q le =
+        let n-is : placeOf o n ≡ none = rw (le-ltb o n le, placeOf) refl in
+        sym (same ∙ ap (λ a. after4 (after3 a)) e ∙ ap from4 (q ∙ n-is)
+        ∙ ap from10 (le-ltb mostTypes (length (adorned (rows base t))) (omega (arith, adorned-length (rows base t), few-from (rows base t) o n q le))))
+
+-- a refused answer holds no summary
+pub answer-is : (r : Adorned) (k p : ℕ) → r .number ≡ k → r .place ≡ p → r .count ≡ 0 → toldAll r ≡ record { number = k; place = p; rest = [] }
+answer-is r k p ek ep ec = λ i. record { number = ek i; place = ep i; rest = toldFirst (ec i) (r .summaries) }

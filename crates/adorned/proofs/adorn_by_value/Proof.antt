@@ -1,0 +1,115 @@
+use native.Mathlib.Omega.{arith}
+use mathlib.Core.Path.{_∙_, ap}
+use mathlib.Core.List.{List}
+use lib.Dec.{lit≤}
+use lib.ListN.{length}
+use Rattle.paper.specs.Format.{base}
+use Rattle.paper.specs.Tables.{rows}
+use Rattle.paper.specs.Adorned.{Summary}
+use Rattle.paper.specs.Calls.{Reply}
+use Rattle.paper.proofs.Calls.{passed1-3, few-rows, count-rows}
+use Rattle.tables.proofs.Examine.{examined-refused, examined-given}
+use Rattle.adorned.proofs.Calls.{answer-is, figures-refused, figures-over, figures-given}
+use borrow.Author.Needs.{needs}
+use Rattle.adorned.proofs.adorn_by_value.Statement.{statement}
+use Rattle.adorned.proofs.adorn_by_value.Tie as tie
+use Rattle.adorned.proofs.adorn_by_value.Reads as reads
+use Rattle.adorned.proofs.adorn_by_value.Lts as lts
+use Rattle.adorned.proofs.refused.Reads as refused-reads
+use Rattle.adorned.proofs.summaries_of.Reads as summaries-of-reads
+use Rattle.tables.proofs.table.examine.Reads as examine-reads
+use Rattle.types.proofs.list.list_types.Reads as list-types-reads
+
+-- src/lib.rt:184:9
+examine-requires : tie.Need-examine-requires
+examine-requires c κs = search needs
+
+-- src/lib.rt:189:9
+refused-requires : tie.Need-refused-requires
+refused-requires c κs = search needs
+
+-- src/lib.rt:189:9
+returns : tie.Need-returns
+unfolding base
+returns c =
+    let x = c .before .before in
+    let a = x .before .before .args in
+    let r = x .examine .result in
+    let t = a .t .now in
+    let e = c .refused .ensures in
+    let q = figures-refused t (r .number) (r .place) (examined-refused base t (r .number) (r .place) (r .rows) (x .examine .ensures) (c .before .if1 .taken)) in
+    answer-is (c .refused .result) (r .number) (r .place) (e .0) (e .1) (e .2) ∙ q
+
+-- src/lib.rt:191:9
+list-types-requires : tie.Need-list-types-requires
+unfolding base
+list-types-requires c κs =
+    let x = c .before in
+    let a = x .before .before .args in
+    let r = x .examine .result in
+    let t = a .t .now in
+    let (g, w) = examined-given base t (r .number) (r .place) (r .rows) (x .examine .ensures) (c .if1 .left) in
+    let p = passed1-3 base t (rows base t) g in
+    ((w, omega (arith, w, few-rows base t (p .2), count-rows base t), lit≤ tt), p .1)
+
+-- src/lib.rt:195:9
+refused-requires-2 : tie.Need-refused-requires-2
+refused-requires-2 c κs = search needs
+
+-- src/lib.rt:195:9
+returns-2 : tie.Need-returns-2
+unfolding base
+returns-2 c =
+    let x = c .before .before .before .before in
+    let a = x .before .before .args in
+    let r = x .examine .result in
+    let t = a .t .now in
+    let (g, w) = examined-given base t (r .number) (r .place) (r .rows) (x .examine .ensures) (c .before .before .before .if1 .left) in
+    let e = c .refused2 .ensures in
+    let y = c .before .before in
+    answer-is (c .refused2 .result) 4 (y .list-types .result .over) (e .0) (e .1) (e .2)
+    ∙ figures-over t g (y .list-types .result .over) (length (rows base t)) (y .list-types .ensures .over) (omega (arith, c .before .if2 .taken, w, count-rows base t))
+
+-- src/lib.rt:197:9
+summaries-of-requires : tie.Need-summaries-of-requires
+unfolding base
+summaries-of-requires c κs =
+    let x = c .before .before .before in
+    let a = x .before .before .args in
+    let r = x .examine .result in
+    let t = a .t .now in
+    let (g, w) = examined-given base t (r .number) (r .place) (r .rows) (x .examine .ensures) (c .before .before .if1 .left) in
+    let p = passed1-3 base t (rows base t) g in
+    record {
+      sound = record { kept = p .1; shallow = lit≤ tt };
+      rows-n = omega (arith, w, count-rows base t);
+      lists = c .before .list-types .ensures;
+      whole = c .if2 .left;
+      small = omega (arith, w, few-rows base t (p .2), count-rows base t);
+    }
+
+-- src/lib.rt:181:1
+returns-3 : tie.Need-returns-3
+unfolding base
+returns-3 c =
+    let x = c .before .before .before .before in
+    let a = x .before .before .args in
+    let r = x .examine .result in
+    let t = a .t .now in
+    let (g, w) = examined-given base t (r .number) (r .place) (r .rows) (x .examine .ensures) (c .before .before .before .if1 .left) in
+    let y = c .before .before in
+    ap {B = Reply (List Summary)} (λ l. record { number = 0; place = 0; rest = l }) (c .summaries-of .ensures)
+    ∙ figures-given t g (y .list-types .result .over) (length (rows base t)) (y .list-types .ensures .over) (omega (arith, c .before .if2 .left, w, count-rows base t))
+
+pub adorn-by-value-spec : {M : Type 1} → statement M
+adorn-by-value-spec =
+    tie.close
+    (tie.spec
+    examine-requires
+    refused-requires
+    returns
+    list-types-requires
+    refused-requires-2
+    returns-2
+    summaries-of-requires
+    returns-3)
