@@ -7,6 +7,7 @@ pub mod Papers
 pub mod Adorned
 pub mod Chains
 pub mod Shapes
+pub mod Nearest
 pub mod Verdict
 pub mod Lines
 pub mod Demand3
