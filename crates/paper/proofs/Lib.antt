@@ -14,6 +14,7 @@ pub mod Demand3
 pub mod Trees
 pub mod Links
 pub mod Written
+pub mod Deep
 pub mod Bytes
 pub mod Calls
 pub mod Reread
