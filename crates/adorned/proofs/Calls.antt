@@ -1,9 +1,9 @@
 -- Adorning by value, refusal by refusal. Assumes nothing.
 use Prim.Native.Nat.{ℕ, _≤_, _<_}
 use native.Mathlib.Omega.{arith}
-use mathlib.Core.Path.{_≡_, refl, sym, _∙_, ap, ap₂}
+use mathlib.Core.Path.{_≡_, refl, sym, _∙_, ap, subst}
 use mathlib.Core.Bool.{Bool, true, false}
-use mathlib.Core.List.{List, []}
+use mathlib.Core.List.{List, [], map}
 use mathlib.Core.Option.{Option, none, some}
 use lib.Dec.{ltb}
 use lib.ListN.{length}
@@ -13,7 +13,7 @@ use Rattle.paper.specs.Tables.{Row, rows, types}
 use Rattle.paper.specs.Adorned.{Summary, adorned}
 use Rattle.paper.specs.Calls.{Answer, refused, given, _>>=_, refuse, refuseAt, Reply, reply, typeTooMany, tests1-3, tests1-4, adorning}
 use Rattle.tables.specs.Place.{placeOf}
-use Rattle.adorned.specs.Told.{adornFigures, toldAll, toldFirst}
+use Rattle.adorned.specs.Told.{adornFigures, told, padded, Says}
 use Rattle.adorned.specs.declared.Adorned.{Adorned}
 use Rattle.adorned.proofs.All.{adorned-length, few-from}
 
@@ -52,6 +52,10 @@ module _ (t : List ℕ) where
         sym (same ∙ ap (λ a. after4 (after3 a)) e ∙ ap from4 (q ∙ n-is)
         ∙ ap from10 (le-ltb mostTypes (length (adorned (rows base t))) (omega (arith, adorned-length (rows base t), few-from (rows base t) o n q le))))
 
+-- the answer r says what a call found, once the call is known to find a
+pub says : (a b : Reply (List Summary)) (r : Adorned) → Says a r → a ≡ b → Says b r
+says a b r s e = subst (λ (x : Reply (List Summary)). Says x r) e s
+
 -- a refused answer holds no summary
-pub answer-is : (r : Adorned) (k p : ℕ) → r .number ≡ k → r .place ≡ p → r .count ≡ 0 → toldAll r ≡ record { number = k; place = p; rest = [] }
-answer-is r k p ek ep ec = λ i. record { number = ek i; place = ep i; rest = toldFirst (ec i) (r .summaries) }
+pub answer-is : (r : Adorned) (k p : ℕ) → (r .number ≡ k) × (r .place ≡ p) × (r .count ≡ 0) × (map told (r .summaries) ≡ padded []) → Says record { number = k; place = p; rest = [] } r
+answer-is r k p e = record { number-is = e .0; place-is = e .1; count-is = e .2; summaries-are = e .3 }

@@ -4,3 +4,4 @@ pub mod Walks
 pub mod Summaries
 pub mod All
 pub mod Calls
+pub mod Unique

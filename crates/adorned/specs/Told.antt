@@ -1,8 +1,8 @@
 -- What the answers say, in the paper's terms. Assumes nothing.
-use Prim.Native.Nat.{ℕ, _≤_, _<_}
+use Prim.Native.Nat.{ℕ, _-_, _≤_, _<_}
 use mathlib.Core.Path.{_≡_}
-use mathlib.Core.List.{List, [], map}
-use lib.ListN.{length, getD, take}
+use mathlib.Core.List.{List, [], _++_, map}
+use lib.ListN.{length, getD, replicate}
 use Rattle.paper.specs.Lists.{place, same, lastOr, up}
 use Rattle.paper.specs.Format.{format, base, mostTypes}
 use Rattle.paper.specs.Tables.{Row, rows, rowTypes, types}
@@ -25,9 +25,13 @@ pub record Listed (rs : List Row) (k parent label first : ℕ) : Type 0 where
   pub label-is : label ≡ lastOr 0 (getD (types rs) k [])
   pub first-is : first ≡ place (same (getD (types rs) k [])) (rowTypes rs)
 
--- the first n summaries
-abbrev pub toldFirst : ℕ → List TypeSummary → List Summary
-toldFirst n l = map told (take n l)
+-- what a place past the last type holds
+abbrev pub noSummary : Summary
+noSummary = record { parent = 0; label = 0; level = 0; rows = 0; least = 0; greatest = 0 }
+
+-- the 64 places of an answer: the summaries, then zeros
+abbrev pub padded : List Summary → List Summary
+padded ss = ss ++ replicate (mostTypes - length ss) noSummary
 
 -- the type list is that of this table of n rows, and no type is one too many
 pub record Counted (levels largest n : ℕ) (t : List ℕ) (ty : Types) : Type 0 where
@@ -37,9 +41,12 @@ pub record Counted (levels largest n : ℕ) (t : List ℕ) (ty : Types) : Type 0
   pub whole : n ≤ ty .over
   pub small : n ≤ 1024
 
--- the whole answer: number, place, and the summaries
-abbrev pub toldAll : Adorned → Reply (List Summary)
-toldAll r = record { number = r .number; place = r .place; rest = toldFirst (r .count) (r .summaries) }
+-- the answer is this reply: its number, its place, the count of its summaries, and the summaries
+pub record Says (a : Reply (List Summary)) (r : Adorned) : Type 0 where
+  pub number-is : r .number ≡ a .number
+  pub place-is : r .place ≡ a .place
+  pub count-is : r .count ≡ length (a .rest)
+  pub summaries-are : map told (r .summaries) ≡ padded (a .rest)
 
 -- what adorning finds out where a place is lent for every type
 unfoldable pub adornFigures : List ℕ → Reply (List Summary)

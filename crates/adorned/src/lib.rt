@@ -4,7 +4,7 @@ use tables::table::examine;
 use types::list::Types;
 use types::list::list_types;
 ghost use mathlib.Core.Path.{_≡_};
-ghost use mathlib.Core.List.{[]};
+ghost use mathlib.Core.List.{[], map};
 ghost use Prim.Native.Nat.{_≤_, _<_, min, max};
 ghost use lib.ListN.{length, getD, take};
 ghost use Rattle.paper.specs.Lists.{least, most};
@@ -14,7 +14,7 @@ ghost use Rattle.paper.specs.Closeness.{nodes};
 ghost use Rattle.paper.specs.Adorned.{summary, adorned};
 ghost use Rattle.closest.specs.Node.{Typed};
 ghost use Rattle.adorned.specs.Runs.{runs, tally, low, high};
-ghost use Rattle.adorned.specs.Told.{Listed, Counted, told, toldFirst, toldAll, adornFigures};
+ghost use Rattle.adorned.specs.Told.{Listed, Counted, told, noSummary, padded, Says, adornFigures};
 
 // The least and the greatest of some counts.
 pub struct Range {
@@ -168,7 +168,9 @@ pub struct Adorned {
     pub summaries: [TypeSummary; 64],
 }
 
-fn no_summary() -> TypeSummary {
+fn no_summary() -> TypeSummary
+    ensures { λ r. ⌜ told r ≡ noSummary ⌝ }
+{
     TypeSummary {
         parent: 0,
         label: 0,
@@ -177,6 +179,13 @@ fn no_summary() -> TypeSummary {
         least: 0,
         greatest: 0,
     }
+}
+
+fn no_summaries() -> [TypeSummary; 64]
+    ensures { λ r. ⌜ map told r ≡ padded [] ⌝ }
+{
+    let none = no_summary();
+    [none; 64]
 }
 
 // The summaries of a listed table, one a type in type order.
@@ -188,14 +197,14 @@ fn summaries_of(
     types: Types,
 ) -> [TypeSummary; 64]
     requires { ⌜ Counted levels largest n (now t) types ⌝ }
-    ensures { λ r. ⌜ toldFirst (types .count) r ≡ adorned (rows (format levels largest) (now (t .entry))) ⌝ }
+    ensures { λ r. ⌜ map told r ≡ padded (adorned (rows (format levels largest) (now (t .entry)))) ⌝ }
 {
     let ks = types.kinds;
     let first = types.first;
     let parents = types.parents;
     let labels = types.labels;
     let count = types.count;
-    let mut all = [no_summary(); 64];
+    let mut all = no_summaries();
     let mut k = 0;
     while k < count {
         let p = bytes::wide(parents[k]);
@@ -208,9 +217,9 @@ fn summaries_of(
 }
 
 fn refused(number: usize, place: usize) -> Adorned
-    ensures { λ r. ⌜ (r .number ≡ number) × (r .place ≡ place) × (r .count ≡ 0) ⌝ }
+    ensures { λ r. ⌜ (r .number ≡ number) × (r .place ≡ place) × (r .count ≡ 0) × (map told (r .summaries) ≡ padded []) ⌝ }
 {
-    let none = [no_summary(); 64];
+    let none = no_summaries();
     Adorned {
         number: number,
         place: place,
@@ -221,7 +230,7 @@ fn refused(number: usize, place: usize) -> Adorned
 
 // Refusals 1 to 4, or the summaries of the table's types.
 pub fn adorn_by_value(t: &[u8]) -> Adorned
-    ensures { λ r. ⌜ toldAll r ≡ adornFigures (now (t .entry)) ⌝ }
+    ensures { λ r. ⌜ Says (adornFigures (now (t .entry))) r ⌝ }
 {
     let e = examine(t);
     let number = e.number;

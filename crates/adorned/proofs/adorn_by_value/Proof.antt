@@ -1,15 +1,17 @@
+use Prim.Native.Nat.{_≤_}
 use native.Mathlib.Omega.{arith}
-use mathlib.Core.Path.{_∙_, ap}
-use mathlib.Core.List.{List}
+use mathlib.Core.Path.{refl, sym, _∙_}
+use mathlib.Core.List.{[]}
 use lib.Dec.{lit≤}
 use lib.ListN.{length}
 use Rattle.paper.specs.Format.{base}
 use Rattle.paper.specs.Tables.{rows}
-use Rattle.paper.specs.Adorned.{Summary}
-use Rattle.paper.specs.Calls.{Reply}
+use Rattle.paper.specs.Adorned.{adorned}
 use Rattle.paper.proofs.Calls.{passed1-3, few-rows, count-rows}
 use Rattle.tables.proofs.Examine.{examined-refused, examined-given}
-use Rattle.adorned.proofs.Calls.{answer-is, figures-refused, figures-over, figures-given}
+use Rattle.adorned.specs.Told.{adornFigures}
+use Rattle.adorned.proofs.All.{adorned-length}
+use Rattle.adorned.proofs.Calls.{says, answer-is, figures-refused, figures-over, figures-given}
 use borrow.Author.Needs.{needs}
 use Rattle.adorned.proofs.adorn_by_value.Statement.{statement}
 use Rattle.adorned.proofs.adorn_by_value.Tie as tie
@@ -38,7 +40,7 @@ returns c =
     let t = a .t .now in
     let e = c .refused .ensures in
     let q = figures-refused t (r .number) (r .place) (examined-refused base t (r .number) (r .place) (r .rows) (x .examine .ensures) (c .before .if1 .taken)) in
-    answer-is (c .refused .result) (r .number) (r .place) (e .0) (e .1) (e .2) ∙ q
+    says record { number = r .number; place = r .place; rest = [] } (adornFigures t) (c .refused .result) (answer-is (c .refused .result) (r .number) (r .place) e) q
 
 -- src/lib.rt:191:9
 list-types-requires : tie.Need-list-types-requires
@@ -67,8 +69,9 @@ returns-2 c =
     let (g, w) = examined-given base t (r .number) (r .place) (r .rows) (x .examine .ensures) (c .before .before .before .if1 .left) in
     let e = c .refused2 .ensures in
     let y = c .before .before in
-    answer-is (c .refused2 .result) 4 (y .list-types .result .over) (e .0) (e .1) (e .2)
-    ∙ figures-over t g (y .list-types .result .over) (length (rows base t)) (y .list-types .ensures .over) (omega (arith, c .before .if2 .taken, w, count-rows base t))
+    let o = y .list-types .result .over in
+    let q = figures-over t g o (length (rows base t)) (y .list-types .ensures .over) (omega (arith, c .before .if2 .taken, w, count-rows base t)) in
+    says record { number = 4; place = o; rest = [] } (adornFigures t) (c .refused2 .result) (answer-is (c .refused2 .result) 4 o e) q
 
 -- src/lib.rt:197:9
 summaries-of-requires : tie.Need-summaries-of-requires
@@ -98,8 +101,11 @@ returns-3 c =
     let t = a .t .now in
     let (g, w) = examined-given base t (r .number) (r .place) (r .rows) (x .examine .ensures) (c .before .before .before .if1 .left) in
     let y = c .before .before in
-    ap {B = Reply (List Summary)} (λ l. record { number = 0; place = 0; rest = l }) (c .summaries-of .ensures)
-    ∙ figures-given t g (y .list-types .result .over) (length (rows base t)) (y .list-types .ensures .over) (omega (arith, c .before .if2 .left, w, count-rows base t))
+    let o = y .list-types .result .over in
+    let late : length (rows base t) ≤ o = omega (arith, c .before .if2 .left, w, count-rows base t) in
+    let q = figures-given t g o (length (rows base t)) (y .list-types .ensures .over) late in
+    let n = y .list-types .ensures .count late in
+    says record { number = 0; place = 0; rest = adorned (rows base t) } (adornFigures t) record { number = 0; place = 0; count = y .list-types .result .count; summaries = c .summaries-of .result } record { number-is = refl; place-is = refl; count-is = n ∙ sym (adorned-length (rows base t)); summaries-are = c .summaries-of .ensures } q
 
 pub adorn-by-value-spec : {M : Type 1} → statement M
 adorn-by-value-spec =

@@ -1,35 +1,35 @@
 use Prim.Native.Nat.{_≤_, _-_}
 use mathlib.Core.Path.{_≡_, refl, _∙_}
-use lib.ListN.{length, getD, take, length-set}
+use lib.ListN.{length, getD, take, replicate, length-set}
 use Rattle.paper.specs.Format.{format}
 use Rattle.paper.specs.Tables.{rows}
 use Rattle.paper.specs.Adorned.{adorned}
-use Rattle.adorned.specs.Told.{toldFirst}
-use Rattle.adorned.proofs.All.{few, count-is, typed, listed, fill-step, fill-end}
+use Rattle.adorned.specs.Told.{noSummary}
+use Rattle.adorned.proofs.All.{toldFirst, toldFrom, rest-step, start-length, few, count-is, typed, listed, fill-step, fill-end}
 use native.Mathlib.Omega.{arith}
 use borrow.Author.Needs.{needs}
 use Rattle.adorned.proofs.summaries_of.Statement.{statement}
 use Rattle.adorned.proofs.summaries_of.Tie as tie
 use Rattle.adorned.proofs.summaries_of.Reads as reads
 use Rattle.adorned.proofs.summaries_of.Lts as lts
-use Rattle.adorned.proofs.no_summary.Reads as no-summary-reads
+use Rattle.adorned.proofs.no_summaries.Reads as no-summaries-reads
 use Rattle.adorned.proofs.summary_of.Reads as summary-of-reads
 use Rattle.bytes.proofs.wide.Reads as wide-reads
 
 abbrev Inv-loop : tie.InvT-loop
 Inv-loop t levels largest n ks first parents labels count all₀ k₀ all k =
-    (k ≤ count) × (length all ≡ 64) × (toldFirst k all ≡ take k (adorned (rows (format levels largest) t)))
+    (k ≤ count) × (length all ≡ 64) × (toldFirst k all ≡ take k (adorned (rows (format levels largest) t))) × (toldFrom k all ≡ replicate (64 - k) noSummary)
 
 abbrev μ-loop : tie.MeasureT-loop
 μ-loop t levels largest n ks first parents labels count all₀ k₀ all k = count - k
 
 -- src/lib.rt:159:20
-no-summary-requires : tie.Need-no-summary-requires Inv-loop μ-loop
-no-summary-requires c κs = search needs
+no-summaries-requires : tie.Need-no-summaries-requires Inv-loop μ-loop
+no-summaries-requires c κs = search needs
 
 -- src/lib.rt:161:5
 loop-holds : tie.Need-loop-holds Inv-loop μ-loop
-loop-holds c = (omega arith, refl, refl)
+loop-holds c = (omega arith, start-length (c .no-summaries .result) (c .no-summaries .ensures), refl, c .no-summaries .ensures)
 
 -- src/lib.rt:162:29
 array-read-wide : tie.Need-array-read-wide Inv-loop μ-loop
@@ -157,6 +157,7 @@ loop-again c =
       omega arith,
       length-set (l .loop .all) k (c .summary-of .result) ∙ l .loop .inv .1,
       fill-step (rows (format (a .levels) (a .largest)) (a .t .now)) (l .loop .all) k (c .summary-of .result) (omega (arith, N, lt)) (omega (arith, C, N, lt, l .loop .inv .1)) (l .loop .inv .2) (c .summary-of .ensures),
+      rest-step (l .loop .all) k (c .summary-of .result) (omega (arith, C, N, lt)) (l .loop .inv .3),
     )
 
 -- src/lib.rt:150:1
@@ -168,7 +169,7 @@ returns c =
     let o = s .pre in
     let C = few (a .levels) (a .largest) (a .n) (a .t .now) (a .types) o in
     let N = count-is (a .levels) (a .largest) (a .n) (a .t .now) (a .types) o in
-    fill-end (rows (format (a .levels) (a .largest)) (a .t .now)) (l .loop .all) (l .loop .k) (a .types .count) N (l .loop .inv .0) (c .loop-test .left) (l .loop .inv .2)
+    fill-end (rows (format (a .levels) (a .largest)) (a .t .now)) (l .loop .all) (l .loop .k) (a .types .count) N (l .loop .inv .0) (c .loop-test .left) (l .loop .inv .2) (l .loop .inv .3)
 
 pub summaries-of-spec : {M : Type 1} → statement M
 summaries-of-spec =
@@ -176,7 +177,7 @@ summaries-of-spec =
     (tie.spec
     Inv-loop
     μ-loop
-    no-summary-requires
+    no-summaries-requires
     loop-holds
     array-read-wide
     wide-requires
