@@ -1,6 +1,9 @@
 // Runs the calls on the cases of standard input, and prints a line of numbers for each. A case is the length of a table and a
 // row number, two bytes each, least byte first, and then the table's bytes. The line: examining's number, place and rows; the
-// number and place of a look-up; the length of the part that the look-up hands back, and the sum of its bytes.
+// number and place of a look-up; the length of the part that the look-up hands back, and the sum of its bytes; adorning's number,
+// place and types, and the six figures of each type's summary.
+use adorned::TypeSummary;
+use adorned::adorn_by_value;
 use libc::STDIN_FILENO;
 use libc::STDOUT_FILENO;
 use tables::table::examine;
@@ -37,13 +40,44 @@ fn print_looked_up(t: &[u8], i: usize) {
     number(r.number, b" ");
     number(r.place, b" ");
     number(part.len(), b" ");
-    number(sum(part), b"\n");
+    number(sum(part), b" ");
+}
+
+fn print_summary(s: TypeSummary) {
+    io::write_all(STDOUT_FILENO, b" ");
+    number(s.parent, b" ");
+    number(s.label, b" ");
+    number(s.level, b" ");
+    number(s.rows, b" ");
+    number(s.least, b" ");
+    number(s.greatest, b"");
+}
+
+// Prints the first summaries, as many as were counted.
+fn print_summaries(all: [TypeSummary; 64], count: usize) {
+    let mut k = 0;
+    while k < 64 && k < count {
+        print_summary(all[k]);
+        k += 1;
+    }
+}
+
+fn print_adorned(t: &[u8]) {
+    let a = adorn_by_value(t);
+    let count = a.count;
+    let all = a.summaries;
+    number(a.number, b" ");
+    number(a.place, b" ");
+    number(count, b"");
+    print_summaries(all, count);
+    io::write_all(STDOUT_FILENO, b"\n");
 }
 
 // A case's line: a call that is added prints its numbers here.
 fn print_case(t: &[u8], i: usize) {
     print_examined(t);
     print_looked_up(t, i);
+    print_adorned(t);
 }
 
 // Reads a case and prints its line, or answers false where the input has no whole case left.
