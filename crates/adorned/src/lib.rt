@@ -5,7 +5,7 @@ use types::list::Types;
 use types::list::list_types;
 ghost use mathlib.Core.Path.{_≡_};
 ghost use mathlib.Core.List.{[], map};
-ghost use Prim.Native.Nat.{_≤_, _<_, min, max};
+ghost use Prim.Native.Nat.{_≤_, _<_};
 ghost use lib.ListN.{length, getD, take};
 ghost use Rattle.paper.specs.Lists.{least, most};
 ghost use Rattle.paper.specs.Format.{format};
@@ -33,21 +33,9 @@ fn with_count(r: Range, m: usize, c: usize) -> Range
         };
     }
     Range {
-        least: smaller(r.least, c),
-        greatest: larger(r.greatest, c),
+        least: tables::row::smaller(r.least, c),
+        greatest: closest::larger(r.greatest, c),
     }
-}
-
-fn smaller(a: usize, b: usize) -> usize
-    ensures { λ r. ⌜ r ≡ min a b ⌝ }
-{
-    if a < b { a } else { b }
-}
-
-fn larger(a: usize, b: usize) -> usize
-    ensures { λ r. ⌜ r ≡ max a b ⌝ }
-{
-    if a < b { b } else { a }
 }
 
 // How many of the first n rows are of type k.

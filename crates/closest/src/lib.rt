@@ -20,7 +20,7 @@ pub fn rows_meet(t: &[u8], levels: usize, largest: usize, i: usize, j: usize) ->
     tables::row::meet(bytes::record(t, w, i), bytes::record(t, w, j), levels)
 }
 
-fn larger(a: usize, b: usize) -> usize
+pub fn larger(a: usize, b: usize) -> usize
     ensures { λ r. ⌜ r ≡ max a b ⌝ }
 {
     if a < b { b } else { a }

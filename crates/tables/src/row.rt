@@ -58,7 +58,7 @@ pub fn fields_kept(row: &[u8], levels: usize, labels: usize) -> bool
     zeros_from(row, levels, level)
 }
 
-fn smaller(a: usize, b: usize) -> usize
+pub fn smaller(a: usize, b: usize) -> usize
     ensures { λ r. ⌜ r ≡ min a b ⌝ }
 {
     if a < b { a } else { b }

@@ -5,8 +5,8 @@ use Rattle.adorned.proofs.with_count.Statement.{statement}
 use Rattle.adorned.proofs.with_count.Tie as tie
 use Rattle.adorned.proofs.with_count.Reads as reads
 use Rattle.adorned.proofs.with_count.Lts as lts
-use Rattle.adorned.proofs.larger.Reads as larger-reads
-use Rattle.adorned.proofs.smaller.Reads as smaller-reads
+use Rattle.closest.proofs.larger.Reads as larger-reads
+use Rattle.tables.proofs.row.smaller.Reads as smaller-reads
 
 -- src/lib.rt:20:9
 returns : tie.Need-returns

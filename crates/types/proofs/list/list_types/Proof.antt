@@ -81,7 +81,7 @@ sub-p c =
     let lt : l .loop .i < whole (rowBytes f) (a .t .now) = omega (arith, s .pre .0 .0, c .before .before .before .before .loop-test .taken) in
     let el = c .before .wide .ensures .0 ∙ ap (λ b. getD b 0 0) row in
     let ea = c .word .ensures .0 ∙ ap (λ b. word b 2) row in
-    l-pos f (a .t .now) (s .pre .1) (l .loop .i) lt (c .before .wide .result) (c .word .result) el ea
+    omega (arith, l-pos f (a .t .now) (s .pre .1) (l .loop .i) lt (c .before .wide .result) (c .word .result) el ea)
 
 -- src/list.rt:61:17
 array-read-p : tie.Need-array-read-p Inv-loop μ-loop
