@@ -4,14 +4,15 @@ use native.Mathlib.Nat.{not-suc-le-zero, le-trans}
 use native.Mathlib.Omega.{arith}
 use mathlib.Core.Path.{_≡_, refl, sym, _∙_, ap, subst}
 use mathlib.Core.Logic.{_⊎_, inl, inr, ⊎-elim}
-use mathlib.Core.Bool.{Bool, true, false, _&&_}
+use mathlib.Core.Bool.{Bool, true, false, _&&_, false≢true}
 use mathlib.Core.List.{List}
 use lib.Dec.{eqb, ltb, leb}
 use lib.ListN.{length, getD}
-use borrow.Author.Tests.{lt-ltb, leb-true, leb-false}
+use borrow.Author.Tests.{lt-ltb, eqb-true, leb-true, leb-false}
 use Rattle.paper.specs.Format.{format}
 use Rattle.paper.specs.Tables.{rows}
 use Rattle.paper.specs.Closeness.{Node, nodes, meet, meetAt}
+use Rattle.paper.proofs.Lists.{both}
 use Rattle.types.proofs.Step.{below}
 use Rattle.closest.specs.Node.{node, Typed, Next, Starts}
 use Rattle.closest.proofs.Neighbours.{closer-left, closer-right}
@@ -24,6 +25,14 @@ at-zero x y = refl
 pub at-some : (l m : ℕ) (x y : Node) → (l ≡ 0 → ⊥) → m ≡ meet x y → eqb m l ≡ meetAt l x y
 unfolding meetAt
 at-some l m x y ne e = ap (λ z. eqb z l) e ∙ sym (ap (λ b. b && eqb (meet x y) l) (lt-ltb 0 l (omega arith)))
+
+pub at-meets : (l : ℕ) (x y : Node) → meetAt l x y ≡ true → meet x y ≡ l
+unfolding meetAt
+at-meets l x y e = eqb-true (meet x y) l (both (ltb 0 l) (eqb (meet x y) l) e .1)
+
+-- none is closest at level 0
+pub at-zero-none : (l : ℕ) (x y : Node) → l ≡ 0 → meetAt l x y ≡ true → ⊥
+at-zero-none l x y z e = let f : false ≡ true = at-zero x y ∙ sym (ap (λ m. meetAt m x y) z) ∙ e in false≢true f
 
 -- no row from `from` to j is of type k and meets row r at level l
 abbrev pub Passed : ℕ → ℕ → List ℕ → List ℕ → ℕ → ℕ → ℕ → ℕ → ℕ → Type 0

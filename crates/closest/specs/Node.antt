@@ -1,12 +1,13 @@
 -- A row of a table as a node, and what the leaves ask of a table. Assumes nothing.
 use Prim.Native.Nat.{ℕ, _*_, _≤_, _<_}
 use mathlib.Core.Path.{_≡_}
+use mathlib.Core.Bool.{true}
 use mathlib.Core.List.{List}
 use mathlib.Core.Option.{none}
 use lib.ListN.{length, getD, take, drop}
 use Rattle.paper.specs.Format.{Format, format, rowBytes}
 use Rattle.paper.specs.Tables.{rowOf, rows, dewey, badRow}
-use Rattle.paper.specs.Closeness.{Node, meet}
+use Rattle.paper.specs.Closeness.{Node, meet, meetAt}
 use Rattle.types.specs.Types.{kinds}
 
 -- row i of a table
@@ -24,13 +25,13 @@ pub record Typed (levels largest n : ℕ) (t ks : List ℕ) : Type 0 where
   pub rows-n : n ≡ length (rows (format levels largest) t)
   pub listed : take n ks ≡ kinds (rows (format levels largest) t)
 
--- p is the next row of type k, at or after `from`, that meets row r at level `at`; n for none
+-- p is the next row of type k, at or after `from`, that meets row r at level `at` and not at 0: n for none
 pub record Next (levels largest n : ℕ) (t ks : List ℕ) (r k at from p : ℕ) : Type 0 where
   pub within : p ≤ n
   pub after : p < n → from ≤ p
   pub typed : p < n → getD ks p 0 ≡ k
-  pub meets : p < n → meet (node (format levels largest) t r) (node (format levels largest) t p) ≡ at
-  pub passed : (j : ℕ) → from ≤ j → j < p → getD ks j 0 ≡ k → meet (node (format levels largest) t r) (node (format levels largest) t j) ≡ at → ⊥
+  pub meets : p < n → meetAt at (node (format levels largest) t r) (node (format levels largest) t p) ≡ true
+  pub passed : (j : ℕ) → from ≤ j → j < p → getD ks j 0 ≡ k → meetAt at (node (format levels largest) t r) (node (format levels largest) t j) ≡ true → ⊥
 
 -- p is the first row that agrees with row r to level `at`, or r itself
 pub record Starts (levels largest : ℕ) (t : List ℕ) (r at p : ℕ) : Type 0 where

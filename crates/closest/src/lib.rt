@@ -129,7 +129,8 @@ pub fn run_start(
     0
 }
 
-// The next row of type k, at or after `from`, that meets row r at this level; n for none. It stops where the run around r ends.
+// The next row of type k, at or after `from`, that meets row r at this level, which is not 0; n for none. Where it is the level at which
+// their types meet, the row is closest to r. It stops where the run around r ends.
 pub fn next_closest(
     t: &[u8],
     levels: usize,
@@ -144,6 +145,9 @@ pub fn next_closest(
     requires { ⌜ Typed levels largest n (now t) (now ks) × (r < n) ⌝ }
     ensures { λ p. ⌜ Next levels largest n (now (t .entry)) (now (ks .entry)) r k at from p ⌝ }
 {
+    if at == 0 {
+        return n;
+    }
     let mut j = from;
     while j < n {
         let m = rows_meet(t, levels, largest, r, j);
