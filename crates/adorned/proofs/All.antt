@@ -8,8 +8,8 @@ use mathlib.Core.Bool.{Bool, true, false}
 use mathlib.Core.List.{List, [], _∷_, _++_, map}
 use mathlib.Core.Option.{Option, none, some}
 use lib.Dec.{ltb}
-use lib.ListN.{length, getD, take, drop, set, length-set, replicate, length-replicate, take-append-drop}
-use lib.Seq.{take-all, take-suc-set}
+use lib.ListN.{length, getD, take, drop, set, length-set, replicate, length-replicate, length-map, take-append-drop}
+use lib.Seq.{take-all, take-suc-set, drop-set-lt, drop-drop}
 use borrow.Author.Tests.{ltb-false, le-ltb}
 use Rattle.paper.specs.Lists.{place, same}
 use Rattle.paper.specs.Format.{format, mostTypes}
@@ -22,7 +22,7 @@ use Rattle.tables.specs.Place.{placeOf}
 use Rattle.types.specs.Types.{Lists}
 use Rattle.types.specs.declared.list.Types.{Types}
 use Rattle.closest.specs.Node.{Sound, Typed}
-use Rattle.adorned.specs.Told.{told, noSummary, padded, Listed, Counted}
+use Rattle.adorned.specs.Told.{told, noSummary, placed, Listed, Counted}
 use Rattle.adorned.specs.declared.TypeSummary.{TypeSummary}
 
 -- ---- places
@@ -38,38 +38,21 @@ pub map-replicate : {A B : Type 0} (f : A → B) (n : ℕ) (a : A) → map f (re
 map-replicate f zero a = refl
 map-replicate {B = B} f (suc n) a = ap {B = List B} (λ l. f a ∷ l) (map-replicate f n a)
 
-pub map-length : {A B : Type 0} (f : A → B) (l : List A) → length (map f l) ≡ length l
-map-length f [] = refl
-map-length f (x ∷ xs) = ap suc (map-length f xs)
-
-drop-one : {A : Type 0} (k : ℕ) (l : List A) → drop (suc k) l ≡ drop 1 (drop k l)
-drop-one zero l = refl
-drop-one (suc k) [] = refl
-drop-one (suc k) (x ∷ xs) = drop-one k xs
-
 map-drop-one : {A B : Type 0} (f : A → B) (l : List A) → map f (drop 1 l) ≡ drop 1 (map f l)
 map-drop-one f [] = refl
 map-drop-one f (x ∷ xs) = refl
-
-replicate-drop-one : {A : Type 0} (a : A) (m : ℕ) → drop 1 (replicate (suc m) a) ≡ replicate m a
-replicate-drop-one a m = refl
-
-drop-set : {A : Type 0} (k : ℕ) (l : List A) (s : A) → drop (suc k) (set l k s) ≡ drop (suc k) l
-drop-set k [] s = refl
-drop-set zero (x ∷ xs) s = refl
-drop-set (suc k) (x ∷ xs) s = drop-set k xs s
 
 -- a place that is set leaves the places after it
 pub rest-step : (all : List TypeSummary) (k : ℕ) (s : TypeSummary) → k < mostTypes → toldFrom k all ≡ replicate (mostTypes - k) noSummary
     → toldFrom (k + 1) (set all k s) ≡ replicate (mostTypes - (k + 1)) noSummary
 rest-step all k s lt e =
     let q : mostTypes - k ≡ suc (mostTypes - (k + 1)) = omega arith in
-    ap (λ n. map told (drop n (set all k s))) (add-one k) ∙ ap (map told) (drop-set k all s ∙ drop-one k all) ∙ map-drop-one told (drop k all)
+    ap (map told) (drop-set-lt (k + 1) all k s (omega arith) ∙ sym (drop-drop 1 k all)) ∙ map-drop-one told (drop k all)
     ∙ ap (drop 1) (e ∙ ap (λ n. replicate n noSummary) q)
 
 -- the places at the start
-pub start-length : (all : List TypeSummary) → map told all ≡ padded [] → length all ≡ 64
-start-length all e = sym (map-length told all) ∙ ap length e ∙ length-replicate 64 noSummary
+pub start-length : (all : List TypeSummary) → map told all ≡ placed [] → length all ≡ 64
+start-length all e = sym (length-map all told) ∙ ap length e ∙ length-replicate 64 noSummary
 
 -- ---- the k-th summary
 summaries-next : (t : List Node) (ts : List (List ℕ)) (j : ℕ) (xs : List (List ℕ)) (k : ℕ) → k < length xs
@@ -103,7 +86,7 @@ module _ (rs : List Row) where
       ∙ ap₂ {C = List Summary} (λ l x. l ++ (x ∷ [])) e q ∙ sym (adorned-next k lt) ∙ ap (λ n. take n (adorned rs)) (sym (add-one k))
 
   pub fill-end : (all : List TypeSummary) (k count : ℕ) → count ≡ length (types rs) → k ≤ count → count ≤ k → toldFirst k all ≡ take k (adorned rs)
-      → toldFrom k all ≡ replicate (mostTypes - k) noSummary → map told all ≡ padded (adorned rs)
+      → toldFrom k all ≡ replicate (mostTypes - k) noSummary → map told all ≡ placed (adorned rs)
   fill-end all k count c le ge e z =
       let n : k ≡ length (adorned rs) = omega (arith, adorned-length) in
       ap (map told) (sym (take-append-drop k all)) ∙ map-append told (take k all) (drop k all)

@@ -13,7 +13,7 @@ use Rattle.paper.specs.Tables.{Row, rows, types}
 use Rattle.paper.specs.Adorned.{Summary, adorned}
 use Rattle.paper.specs.Calls.{Answer, refused, given, _>>=_, refuse, refuseAt, Reply, reply, typeTooMany, tests1-3, tests1-4, adorning}
 use Rattle.tables.specs.Place.{placeOf}
-use Rattle.adorned.specs.Told.{adornFigures, told, padded, Says}
+use Rattle.adorned.specs.Told.{adornFigures, told, placed, Says}
 use Rattle.adorned.specs.declared.Adorned.{Adorned}
 use Rattle.adorned.proofs.All.{adorned-length, few-from}
 
@@ -57,5 +57,5 @@ pub says : (a b : Reply (List Summary)) (r : Adorned) → Says a r → a ≡ b �
 says a b r s e = subst (λ (x : Reply (List Summary)). Says x r) e s
 
 -- a refused answer holds no summary
-pub answer-is : (r : Adorned) (k p : ℕ) → (r .number ≡ k) × (r .place ≡ p) × (r .count ≡ 0) × (map told (r .summaries) ≡ padded []) → Says record { number = k; place = p; rest = [] } r
+pub answer-is : (r : Adorned) (k p : ℕ) → (r .number ≡ k) × (r .place ≡ p) × (r .count ≡ 0) × (map told (r .summaries) ≡ placed []) → Says record { number = k; place = p; rest = [] } r
 answer-is r k p e = record { number-is = e .0; place-is = e .1; count-is = e .2; summaries-are = e .3 }

@@ -30,8 +30,8 @@ abbrev pub noSummary : Summary
 noSummary = record { parent = 0; label = 0; level = 0; rows = 0; least = 0; greatest = 0 }
 
 -- the 64 places of an answer: the summaries, then zeros
-abbrev pub padded : List Summary → List Summary
-padded ss = ss ++ replicate (mostTypes - length ss) noSummary
+abbrev pub placed : List Summary → List Summary
+placed ss = ss ++ replicate (mostTypes - length ss) noSummary
 
 -- the type list is that of this table of n rows, and no type is one too many
 pub record Counted (levels largest n : ℕ) (t : List ℕ) (ty : Types) : Type 0 where
@@ -46,7 +46,7 @@ pub record Says (a : Reply (List Summary)) (r : Adorned) : Type 0 where
   pub number-is : r .number ≡ a .number
   pub place-is : r .place ≡ a .place
   pub count-is : r .count ≡ length (a .rest)
-  pub summaries-are : map told (r .summaries) ≡ padded (a .rest)
+  pub summaries-are : map told (r .summaries) ≡ placed (a .rest)
 
 -- what adorning finds out where a place is lent for every type
 unfoldable pub adornFigures : List ℕ → Reply (List Summary)

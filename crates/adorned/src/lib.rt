@@ -14,7 +14,7 @@ ghost use Rattle.paper.specs.Closeness.{nodes};
 ghost use Rattle.paper.specs.Adorned.{summary, adorned};
 ghost use Rattle.closest.specs.Node.{Typed};
 ghost use Rattle.adorned.specs.Runs.{runs, tally, low, high};
-ghost use Rattle.adorned.specs.Told.{Listed, Counted, told, noSummary, padded, Says, adornFigures};
+ghost use Rattle.adorned.specs.Told.{Listed, Counted, told, noSummary, placed, Says, adornFigures};
 
 // The least and the greatest of some counts.
 pub struct Range {
@@ -170,7 +170,7 @@ fn no_summary() -> TypeSummary
 }
 
 fn no_summaries() -> [TypeSummary; 64]
-    ensures { λ r. ⌜ map told r ≡ padded [] ⌝ }
+    ensures { λ r. ⌜ map told r ≡ placed [] ⌝ }
 {
     let none = no_summary();
     [none; 64]
@@ -185,7 +185,7 @@ fn summaries_of(
     types: Types,
 ) -> [TypeSummary; 64]
     requires { ⌜ Counted levels largest n (now t) types ⌝ }
-    ensures { λ r. ⌜ map told r ≡ padded (adorned (rows (format levels largest) (now (t .entry)))) ⌝ }
+    ensures { λ r. ⌜ map told r ≡ placed (adorned (rows (format levels largest) (now (t .entry)))) ⌝ }
 {
     let ks = types.kinds;
     let first = types.first;
@@ -205,7 +205,7 @@ fn summaries_of(
 }
 
 fn refused(number: usize, place: usize) -> Adorned
-    ensures { λ r. ⌜ (r .number ≡ number) × (r .place ≡ place) × (r .count ≡ 0) × (map told (r .summaries) ≡ padded []) ⌝ }
+    ensures { λ r. ⌜ (r .number ≡ number) × (r .place ≡ place) × (r .count ≡ 0) × (map told (r .summaries) ≡ placed []) ⌝ }
 {
     let none = no_summaries();
     Adorned {

@@ -17,7 +17,7 @@ use Rattle.paper.proofs.Tables.{step, length-ways}
 use Rattle.paper.proofs.Calls.{count-rows}
 use Rattle.tables.proofs.Rows.{rec, rows-from}
 use Rattle.types.specs.Types.{kinds}
-use Rattle.types.proofs.Listed.{l-fits, l-pos}
+use Rattle.types.proofs.Listed.{at-drop, l-fits, l-pos}
 use Rattle.closest.specs.Node.{node, Sound}
 
 nodesFrom-at : (i : ℕ) (ks : List ℕ) (ds : List (List ℕ)) (j : ℕ) → j < length ks → j < length ds
@@ -28,11 +28,6 @@ nodesFrom-at i (k ∷ ks) (d ∷ ds) zero lk ld = inl (ap {B = Node} (λ n. reco
 nodesFrom-at i (k ∷ ks) (d ∷ ds) (suc j) lk ld =
     inr (subst (λ n. Has (record { place = n; kind = getD ks j 0; dewey = getD ds j [] }) (nodesFrom (suc i) ks ds)) (omega arith)
     (nodesFrom-at (suc i) ks ds j (le-of-suc-le-suc lk) (le-of-suc-le-suc ld)))
-
-at-drop : {A : Type 0} (g : Row → A) (d : A) (rs : List Row) (i : ℕ) (r : Row) (rest : List Row) → drop i rs ≡ r ∷ rest → getD (map g rs) i d ≡ g r
-at-drop g d rs zero r rest e = ap (λ l. getD (map g l) 0 d) e
-at-drop g d [] (suc i) r rest e = let z : ⊥ = omega (arith, ap length e) in absurd z
-at-drop g d (x ∷ rs) (suc i) r rest e = at-drop g d rs i r rest e
 
 module _ (f : Format) (t : List ℕ) where
   pub length-kinds : length (kinds (rows f t)) ≡ length (rows f t)

@@ -1,18 +1,18 @@
 -- A row of a table as a node, and what the leaves ask of a table. Assumes nothing.
-use Prim.Native.Nat.{ℕ, _*_, _≤_, _<_}
+use Prim.Native.Nat.{ℕ, _≤_, _<_}
 use mathlib.Core.Path.{_≡_}
 use mathlib.Core.Bool.{true}
 use mathlib.Core.List.{List}
 use mathlib.Core.Option.{none}
-use lib.ListN.{length, getD, take, drop}
-use Rattle.paper.specs.Format.{Format, format, rowBytes}
-use Rattle.paper.specs.Tables.{rowOf, rows, dewey, badRow}
+use lib.ListN.{length, getD, take}
+use Rattle.paper.specs.Format.{Format, format}
+use Rattle.paper.specs.Tables.{rowOf, rows, rowPart, dewey, badRow}
 use Rattle.paper.specs.Closeness.{Node, meet, meetAt}
 use Rattle.types.specs.Types.{kinds}
 
 -- row i of a table
 abbrev pub node : Format → List ℕ → ℕ → Node
-node f t i = record { place = i; kind = getD (kinds (rows f t)) i 0; dewey = dewey (rowOf f (take (rowBytes f) (drop (rowBytes f * i) t))) }
+node f t i = record { place = i; kind = getD (kinds (rows f t)) i 0; dewey = dewey (rowOf f (rowPart f t i)) }
 
 -- the table keeps the row rules and has few enough levels for the leaves
 pub record Sound (levels largest : ℕ) (t : List ℕ) : Type 0 where

@@ -95,9 +95,6 @@ shared-sym a b = le-antisymm (le a b) (le b a)
 pub shared-length : (a b : List ℕ) → shared a b ≤ length a
 shared-length a b = agree-length (shared a b) a b (shared-agree a b)
 
-pub shared-self : (a : List ℕ) → length a ≤ shared a a
-shared-self a = agree→shared (length a) a a (agree-self a)
-
 -- numbers of one length that meet at it are equal
 pub shared-eq : (a b : List ℕ) → length a ≡ length b → Agree (length a) a b → a ≡ b
 shared-eq a b e h = sym (take-length a) ∙ agree-take (length a) a b h ∙ ap (λ n. take n b) e ∙ take-length b

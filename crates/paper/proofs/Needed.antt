@@ -7,15 +7,15 @@ use mathlib.Core.Logic.{_⊎_, inl, inr, ⊎-elim}
 use mathlib.Core.Bool.{Bool, true, false, _&&_, false≢true}
 use mathlib.Core.List.{List, [], _∷_, _++_}
 use lib.Dec.{eqb}
-use lib.ListN.{length, take, replicate}
+use lib.ListN.{length, take}
 use borrow.Author.Tests.{eqb-true, eq-eqb}
 use Rattle.paper.specs.Lists.{Has, any}
 use Rattle.paper.specs.Format.{base, rowBytes}
 use Rattle.paper.specs.Shapes.{entries}
 use Rattle.paper.specs.Verdict.{Verdict, missing, apart, unsure}
-use Rattle.paper.specs.Calls.{judge, reshape, Reshaping}
+use Rattle.paper.specs.Calls.{judge}
 use Rattle.paper.specs.Links.{LinksKept, shownPairs, sourcePairs}
-use Rattle.paper.specs.Samples.{row, table, entry, A, table7, portfolio, lessee, lease, asset}
+use Rattle.paper.specs.Samples.{row, table, entry, A, table7, reshaped, portfolio, lessee, lease, asset}
 use Rattle.paper.specs.Opened.{opened}
 use Rattle.paper.specs.Tried.{among}
 use Rattle.paper.proofs.Lists.{both, and, any-has, has-any}
@@ -29,14 +29,10 @@ among-has p l e =
     let (a, b) = both (eqb (p .0) (q .0)) (eqb (p .1) (q .1)) t in
     subst (λ (z : ℕ × ℕ). Has z l) (sym (ap₂ {C = ℕ × ℕ} (λ x y. (x, y)) (eqb-true (p .0) (q .0) a) (eqb-true (p .1) (q .1) b))) h
 
--- a reshape with room for ten lines
-abbrev written : List ℕ → List ℕ → Reshaping
-written b sb = reshape base b sb (replicate (10 * rowBytes base) 0) (replicate 10 0)
-
 -- The reshape is accepted, and its new table and source list do not keep the links.
 abbrev pub LinksLost : List ℕ → List ℕ → Type 0
 LinksLost b sb =
-    let r = written b sb in
+    let r = reshaped b sb in
     (r .reply .number ≡ 0) × (LinksKept base b sb (take (r .reply .rest * rowBytes base) (r .table)) (take (r .reply .rest) (r .sources)) → ⊥)
 
 -- a pair on one side that is not on the other
@@ -57,7 +53,7 @@ shape5 = entry 1 asset ++ entry 2 lease ++ entry 3 lessee
 pub partner-needed : (judge base A shape5 .rest ≡ missing 1 8) × LinksLost A shape5
 unfolding opened row table entry A lessee lease asset
 partner-needed =
-    let r = written A shape5 in (
+    let r = reshaped A shape5 in (
       refl,
       (
         refl,
@@ -73,7 +69,7 @@ shape6 = entry 1 portfolio ++ entry 2 lessee ++ entry 2 asset
 pub least-level-needed : (judge base A shape6 .rest ≡ apart 1 2) × LinksLost A shape6
 unfolding opened row table entry A portfolio lessee asset
 least-level-needed =
-    let r = written A shape6 in (
+    let r = reshaped A shape6 in (
       refl,
       (
         refl,
@@ -89,7 +85,7 @@ shape7 = entry 1 (1 ∷ 3 ∷ []) ++ entry 2 (1 ∷ 3 ∷ 4 ∷ []) ++ entry 3 (
 pub full-edges-needed : (judge base table7 shape7 .rest ≡ unsure 0 2) × LinksLost table7 shape7
 unfolding opened row table entry table7
 full-edges-needed =
-    let r = written table7 shape7 in (
+    let r = reshaped table7 shape7 in (
       refl,
       (
         refl,

@@ -5,7 +5,7 @@ use native.Mathlib.Omega.{arith}
 use mathlib.Core.Path.{_≡_, refl, sym, _∙_, ap, ap₂, subst, subst₂}
 use mathlib.Core.Logic.{_⊎_, inl, inr, ⊎-elim}
 use mathlib.Core.Bool.{Bool, true, false, _&&_}
-use mathlib.Core.List.{List, [], _∷_, _++_, map}
+use mathlib.Core.List.{List, [], _∷_, _++_, map, map-map}
 use mathlib.Core.Option.{none}
 use lib.Dec.{eqb, leb}
 use lib.ListN.{length, getD, take, drop, replicate, length-append, length-take, length-map, length-replicate}
@@ -97,10 +97,6 @@ chain-rules f row number p (x ∷ xs) each c =
 map-same : {A B : Type 0} (g h : A → B) (xs : List A) → ((x : A) → Has x xs → g x ≡ h x) → map g xs ≡ map h xs
 map-same g h [] e = refl
 map-same {B = B} g h (x ∷ xs) e = ap₂ {C = List B} (λ a l. a ∷ l) (e x (inl refl)) (map-same g h xs (λ y i. e y (inr i)))
-
-map-map : {A B C : Type 0} (g : B → C) (h : A → B) (xs : List A) → map g (map h xs) ≡ map (λ x. g (h x)) xs
-map-map g h [] = refl
-map-map {C = C} g h (x ∷ xs) = ap {B = List C} (λ l. g (h x) ∷ l) (map-map g h xs)
 
 -- ---- a table of lines over a source table
 module _ (f : Format) (b : List ℕ) (s : Shape) (w : Ways s) (some : 0 < length (s .ways))

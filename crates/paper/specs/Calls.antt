@@ -4,10 +4,10 @@ use mathlib.Core.Bool.{Bool, true, false, not, _||_}
 use mathlib.Core.List.{List, [], _∷_, _++_, map}
 use mathlib.Core.Option.{Option, none, some}
 use lib.Dec.{eqb, leb, ltb}
-use lib.ListN.{length, getD, take, drop, replicate}
+use lib.ListN.{length, getD, drop, replicate}
 use Rattle.paper.specs.Lists.{keep, any, place, same, padded}
 use Rattle.paper.specs.Format.{Format, mostRows, mostTypes, mostEntries, mostLines, rowBytes, entryBytes, whole}
-use Rattle.paper.specs.Tables.{Row, rows, badRow, rowTypes, types}
+use Rattle.paper.specs.Tables.{Row, rows, rowPart, badRow, rowTypes, types}
 use Rattle.paper.specs.Closeness.{Node, nodes, ofKind}
 use Rattle.paper.specs.Shapes.{Entry, Shape, entries, named, badEntry, shapeOver, kind, numbers}
 use Rattle.paper.specs.Adorned.{Summary, adorned}
@@ -122,12 +122,12 @@ unfoldable pub lookUp : Format → List ℕ → ℕ → Reply (List ℕ)
 lookUp f b i = reply [] do
   rs ← tests1-3 f b
   _ ← refuseAt 11 (elim (ltb i (length rs)) [ true ↦ none | false ↦ some i ])
-  given (take (rowBytes f) (drop (rowBytes f * i) b))
+  given (rowPart f b i)
 
 -- A small reader over a table holds the table and a row position and hands out rows in order. Past the last whole row it hands
 -- out an empty part and stays there.
 unfoldable pub readerRow : Format → List ℕ → ℕ → List ℕ
-readerRow f b at = elim (ltb at (whole (rowBytes f) b)) [ true ↦ take (rowBytes f) (drop (rowBytes f * at) b) | false ↦ [] ]
+readerRow f b at = elim (ltb at (whole (rowBytes f) b)) [ true ↦ rowPart f b at | false ↦ [] ]
 
 unfoldable pub readerNext : Format → List ℕ → ℕ → ℕ
 readerNext f b at = elim (ltb at (whole (rowBytes f) b)) [ true ↦ suc at | false ↦ at ]

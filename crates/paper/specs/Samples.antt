@@ -66,8 +66,7 @@ unfolding opened
 judged b sb = let j = judge base b sb in (j .number ∷ j .place ∷ []) ∷ verdictNumbers (j .rest) ∷ []
 
 -- a reshape with room for ten lines
-reshaped : List ℕ → List ℕ → Reshaping
-unfolding opened
+abbrev pub reshaped : List ℕ → List ℕ → Reshaping
 reshaped b sb = reshape base b sb (replicate (10 * rowBytes base) 0) (replicate 10 0)
 
 -- the refusal and its place, and the number of lines

@@ -1,5 +1,5 @@
 -- Tables: rows, the row rules, types. Assumes nothing.
-use Prim.Native.Nat.{ℕ, zero, suc, _+_}
+use Prim.Native.Nat.{ℕ, zero, suc, _+_, _*_}
 use mathlib.Core.Bool.{Bool, true, false, _&&_, _||_}
 use mathlib.Core.List.{List, [], _∷_, _++_, map}
 use mathlib.Core.Option.{Option}
@@ -32,6 +32,10 @@ rowBack r = r .level ∷ r .spare ∷ bytes 2 (r .label) ++ joinMap (bytes 2) (r
 -- the rows of a table
 unfoldable pub rows : Format → List ℕ → List Row
 rows f b = map (rowOf f) (records (rowBytes f) (whole (rowBytes f) b) b)
+
+-- A row is handed on as its own bytes (24 in the base) from the middle of the table.
+abbrev pub rowPart : Format → List ℕ → ℕ → List ℕ
+rowPart f b i = take (rowBytes f) (drop (rowBytes f * i) b)
 
 abbrev pub dewey : Row → List ℕ
 dewey r = take (r .level) (r .components)

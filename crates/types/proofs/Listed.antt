@@ -5,7 +5,7 @@ use native.Mathlib.Omega.{arith}
 use mathlib.Core.Path.{_≡_, refl, sym, _∙_, ap, ap₂, subst}
 use mathlib.Core.Logic.{inl, inr}
 use mathlib.Core.Bool.{Bool, true, false}
-use mathlib.Core.List.{List, [], _∷_, _++_, map}
+use mathlib.Core.List.{List, [], _∷_, _++_, map, map-map}
 use mathlib.Core.Option.{Option, none, some}
 use lib.Dec.{ltb}
 use lib.ListN.{length, getD, take, drop, set, length-append, length-take, length-map, length-set}
@@ -23,19 +23,15 @@ use Rattle.tables.specs.Place.{placeOf}
 use Rattle.tables.proofs.Rows.{rec, rows-from, kept-level, some-place, none-place}
 use Rattle.types.specs.Types.{kinds, parentOf, Lists}
 use Rattle.types.specs.declared.list.Types.{Types}
-use Rattle.types.proofs.Ways.{before}
+use Rattle.types.proofs.Ways.{beforeOr, before}
 use Rattle.types.proofs.Pass.{seen, numberOr, Pass, found-type, new-type}
 use Rattle.types.proofs.Step.{pass-start, pass-known, pass-new, pass-full, pass-end}
 
 -- ---- the level and label of row i
-at-drop : {A : Type 0} (g : Row → A) (d : A) (rs : List Row) (i : ℕ) (r : Row) (rest : List Row) → drop i rs ≡ r ∷ rest → getD (map g rs) i d ≡ g r
+pub at-drop : {A : Type 0} (g : Row → A) (d : A) (rs : List Row) (i : ℕ) (r : Row) (rest : List Row) → drop i rs ≡ r ∷ rest → getD (map g rs) i d ≡ g r
 at-drop g d rs zero r rest e = ap (λ l. getD (map g l) 0 d) e
 at-drop g d [] (suc i) r rest e = let z : ⊥ = omega (arith, ap length e) in absurd z
 at-drop g d (x ∷ rs) (suc i) r rest e = at-drop g d rs i r rest e
-
-map-map : {A B C : Type 0} (g : B → C) (h : A → B) (xs : List A) → map g (map h xs) ≡ map (λ x. g (h x)) xs
-map-map g h [] = refl
-map-map {C = C} g h (x ∷ xs) = ap {B = List C} (λ l. g (h x) ∷ l) (map-map g h xs)
 
 module _ (f : Format) (t : List ℕ) (i : ℕ) (lt : i < whole (rowBytes f) t) where
   pub level-at : getD (map (λ (x : ℕ × ℕ). x .0) (map step (rows f t))) i 0 ≡ byte (rec (rowBytes f) i t) 0
@@ -51,10 +47,6 @@ module _ (f : Format) (t : List ℕ) (i : ℕ) (lt : i < whole (rowBytes f) t) w
       ∙ at-drop (λ (r : Row). r .label) 0 (rows f t) i (rowOf f (rec (rowBytes f) i t)) (drop (suc i) (rows f t)) (rows-from f t i lt)
 
 -- ---- levels in a sound table: at least 1, and one more than the level before at the most
-abbrev beforeOr : List ℕ → List (List ℕ) → ℕ → List ℕ
-beforeOr w ws zero = w
-beforeOr w ws (suc i) = getD ws i []
-
 levels-from : (p w : List ℕ) (rs : List Row) (i : ℕ) → length w ≡ length p → Chain p (map dewey rs) → Levelled rs → i < length rs
     → (1 ≤ getD (map (λ (x : ℕ × ℕ). x .0) (map step rs)) i 0)
     × (getD (map (λ (x : ℕ × ℕ). x .0) (map step rs)) i 0 ≤ suc (length (beforeOr w (ways w (map step rs)) i)))

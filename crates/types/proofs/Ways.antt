@@ -25,7 +25,7 @@ abbrev pub before : List (List ℕ) → ℕ → List ℕ
 before ws zero = []
 before ws (suc i) = getD ws i []
 
-abbrev beforeOr : List ℕ → List (List ℕ) → ℕ → List ℕ
+abbrev pub beforeOr : List ℕ → List (List ℕ) → ℕ → List ℕ
 beforeOr w ws zero = w
 beforeOr w ws (suc i) = getD ws i []
 

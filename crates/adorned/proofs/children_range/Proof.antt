@@ -1,4 +1,5 @@
 use Prim.Native.Nat.{_+_, _<_, _≤_, _-_}
+use mathlib.Core.Bool.{true}
 use mathlib.Core.Path.{_≡_, sym, _∙_, subst}
 use lib.ListN.{length, getD, take, length-take}
 use lib.Seq.{getD-take}
@@ -54,12 +55,14 @@ loop-again c =
     let s = l .before .before in
     let a = s .args in
     let i = l .loop .i in
+    let test = c .before .if2 .taken in
+    let seen : l .loop .seen ≡ true = cc in
     let ns = take (a .n) (a .ks .now) in
     let lt : i < length ns = omega (arith, length-take (a .n) (a .ks .now), s .pre, x .before .before .loop-test .taken) in
     let e : x .wide .result ≡ getD ns i 0 = x .wide .ensures .0 ∙ sym (getD-take (a .n) (a .ks .now) i 0 (x .before .before .loop-test .taken)) in (
       omega arith,
-      subst (λ b. Walk ns (a .p) (a .k) (c .with-count .result .least) (c .with-count .result .greatest) b (l .loop .m + 1) 0 (i + 1)) (sym (c .before .if2 .taken))
-          (walk-close ns (a .p) (a .k) (l .loop .r .least) (l .loop .r .greatest) (l .loop .m) (l .loop .c) i (x .wide .result) lt e (subst (λ b. Walk ns (a .p) (a .k) (l .loop .r .least) (l .loop .r .greatest) b (l .loop .m) (l .loop .c) i) (c .before .if2 .taken) (l .loop .inv .1)) (c .before .before .if1 .taken)
+      subst (λ b. Walk ns (a .p) (a .k) (c .with-count .result .least) (c .with-count .result .greatest) b (l .loop .m + 1) 0 (i + 1)) (sym seen)
+          (walk-close ns (a .p) (a .k) (l .loop .r .least) (l .loop .r .greatest) (l .loop .m) (l .loop .c) i (x .wide .result) lt e (subst (λ b. Walk ns (a .p) (a .k) (l .loop .r .least) (l .loop .r .greatest) b (l .loop .m) (l .loop .c) i) seen (l .loop .inv .1)) (c .before .before .if1 .taken)
           (c .with-count .result .least) (c .with-count .result .greatest) (c .with-count .ensures .0) (c .with-count .ensures .1)),
     )
 

@@ -57,7 +57,7 @@ returns-2 c =
       after = λ lt. let z : ⊥ = omega arith in absurd z;
       typed = λ lt. let z : ⊥ = omega arith in absurd z;
       meets = λ lt. let z : ⊥ = omega arith in absurd z;
-      passed = λ j le lt q m. passed-end (a .levels) (a .largest) (a .n) (a .t .now) (a .ks .now) (s .pre .0) (a .r) (s .pre .1) (a .k) (a .at) (a .from) (l .loop .j) (l .loop .inv .1) (c .if3 .taken) (c .before .before .before .loop-test .taken) (omega (arith, c .before .if2 .taken, c .before .before .rows-meet .ensures)) j le lt q (at-meets (a .at) (node f (a .t .now) (a .r)) (node f (a .t .now) j) m);
+      passed = λ j le lt q m. passed-end (a .levels) (a .largest) (a .n) (a .t .now) (a .ks .now) (s .pre .0) (a .r) (s .pre .1) (a .k) (a .at) (a .from) (l .loop .j) (l .loop .inv .1) (omega (arith, c .if3 .taken)) (c .before .before .before .loop-test .taken) (omega (arith, c .before .if2 .taken, c .before .before .rows-meet .ensures)) j le lt q (at-meets (a .at) (node f (a .t .now) (a .r)) (node f (a .t .now) j) m);
     }
 
 -- src/lib.rt:136:13
@@ -100,7 +100,7 @@ returns-3 c =
       within = omega (arith, m .before .loop-test .taken);
       after = λ lt. l .loop .inv .0;
       typed = λ lt. sym (c .before .wide .ensures .0) ∙ c .if5 .taken;
-      meets = λ lt. sym (at-some (a .at) (m .rows-meet .result) (node f (a .t .now) (a .r)) (node f (a .t .now) (l .loop .j)) (l .before .if1 .left) (m .rows-meet .ensures)) ∙ eq-eqb (m .rows-meet .result) (a .at) (c .before .before .before .if4 .taken);
+      meets = λ lt. sym (at-some (a .at) (m .rows-meet .result) (node f (a .t .now) (a .r)) (node f (a .t .now) (l .loop .j)) (l .before .if1 .left) (m .rows-meet .ensures)) ∙ eq-eqb (m .rows-meet .result) (a .at) (omega (arith, c .before .before .before .if4 .taken));
       passed = λ j le lt q m. l .loop .inv .1 j le lt q (at-meets (a .at) (node f (a .t .now) (a .r)) (node f (a .t .now) j) m);
     }
 
