@@ -4,23 +4,17 @@ use native.Mathlib.Nat.{not-suc-le-zero, le-of-suc-le-suc, zero-add}
 use native.Mathlib.Numerals.{add-one}
 use native.Mathlib.Omega.{arith}
 use mathlib.Core.Path.{_≡_, refl, sym, _∙_, ap, ap₂, subst}
-use mathlib.Core.Bool.{Bool, true, false}
 use mathlib.Core.List.{List, [], _∷_, _++_, map}
-use mathlib.Core.Option.{Option, none, some}
-use lib.Dec.{ltb}
 use lib.ListN.{length, getD, take, drop, set, length-set, replicate, length-replicate, length-map, take-append-drop}
 use lib.Seq.{take-all, take-suc-set, drop-set-lt, drop-drop}
-use borrow.Author.Tests.{ltb-false, le-ltb}
-use Rattle.paper.specs.Lists.{place, same}
 use Rattle.paper.specs.Format.{format, mostTypes}
 use Rattle.paper.specs.Tables.{Row, rows, rowTypes, types}
 use Rattle.paper.specs.Closeness.{Node, nodes}
 use Rattle.paper.specs.Adorned.{Summary, summary, summariesFrom, adorned}
-use Rattle.paper.specs.Calls.{typeTooMany}
 use Rattle.paper.proofs.Lists.{map-append}
-use Rattle.tables.specs.Place.{placeOf}
 use Rattle.types.specs.Types.{Lists}
 use Rattle.types.specs.declared.list.Types.{Types}
+use Rattle.types.proofs.Few.{few-from}
 use Rattle.closest.specs.Node.{Sound, Typed}
 use Rattle.adorned.specs.Told.{told, noSummary, placed, Listed, Counted}
 use Rattle.adorned.specs.declared.TypeSummary.{TypeSummary}
@@ -93,19 +87,6 @@ module _ (rs : List Row) where
       ∙ ap₂ {C = List Summary} (λ a b. a ++ b) (e ∙ take-all k (adorned rs) (omega (arith, n))) (z ∙ ap (λ m. replicate (mostTypes - m) noSummary) n)
 
 -- ---- the type list of a table with no type too many
-pub few-from : (rs : List Row) (o n : ℕ) → typeTooMany rs ≡ placeOf o n → n ≤ o → length (types rs) ≤ mostTypes
-unfolding typeTooMany placeOf
-few-from rs o n e le = go (ltb mostTypes (length (types rs))) refl
-  where
-    go : (b : Bool) → ltb mostTypes (length (types rs)) ≡ b → length (types rs) ≤ mostTypes
-    go true q =
-        let p = place (same (getD (types rs) mostTypes [])) (rowTypes rs) in
-        let a : typeTooMany rs ≡ some p = rw (q, typeTooMany) refl in
-        let b : placeOf o n ≡ none = rw (le-ltb o n le, placeOf) refl in
-        let c : some p ≡ none = sym a ∙ e ∙ b in
-        let z : _≡_ {A = ℕ} 0 1 = cc in let w : ⊥ = omega arith in absurd w
-    go false q = ltb-false mostTypes (length (types rs)) q
-
 module _ (levels largest n : ℕ) (t : List ℕ) (ty : Types) (c : Counted levels largest n t ty) where
   abbrev rs : List Row
   rs = rows (format levels largest) t

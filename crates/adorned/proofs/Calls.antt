@@ -15,7 +15,8 @@ use Rattle.paper.specs.Calls.{Answer, refused, given, _>>=_, refuse, refuseAt, 
 use Rattle.tables.specs.Place.{placeOf}
 use Rattle.adorned.specs.Told.{adornFigures, told, placed, Says}
 use Rattle.adorned.specs.declared.Adorned.{Adorned}
-use Rattle.adorned.proofs.All.{adorned-length, few-from}
+use Rattle.types.proofs.Few.{few-from}
+use Rattle.adorned.proofs.All.{adorned-length}
 
 -- the tests after 1 to 3
 abbrev after3 : Answer (List Row) → Answer (List Row)

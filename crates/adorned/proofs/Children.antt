@@ -18,10 +18,8 @@ use Rattle.paper.proofs.Agree.{Agree, agree-take, agree-front, shared-eq, agree
 use Rattle.paper.proofs.Forest.{Lt, lt-trans, lt-self, Forest, Numbered, place-bounds, one-place, in-order, run}
 use Rattle.paper.proofs.Closeness.{Of, kind-of, of-kind}
 use Rattle.paper.proofs.Adorned.{children-none}
-use Rattle.adorned.specs.Runs.{lead, runs, tally}
-
-abbrev pub kindsOf : List Node → List ℕ
-kindsOf t = map (λ (x : Node). x .kind) t
+use Rattle.closest.proofs.Counts.{kindsOf}
+use Rattle.adorned.specs.Runs.{lead, runs}
 
 -- ---- counts over lists
 keep-append : {A : Type 0} (q : A → Bool) (xs ys : List A) → keep q (xs ++ ys) ≡ keep q xs ++ keep q ys
@@ -59,17 +57,6 @@ ofKind-other x xs k ne = rw (ne-eqb (x .kind) k ne, keep) refl
 ofKind-nil : (k : ℕ) → ofKind [] k ≡ []
 unfolding ofKind
 ofKind-nil k = refl
-
--- how many are of a kind
-pub tally-kind : (t : List Node) (k : ℕ) → tally k (kindsOf t) ≡ length (ofKind t k)
-unfolding ofKind
-tally-kind [] k = refl
-tally-kind (x ∷ t) k = go (eqb (x .kind) k) refl (tally-kind t k)
-  where
-    go : (b : Bool) → eqb (x .kind) k ≡ b → tally k (kindsOf t) ≡ length (keep (λ (r : Node). eqb (r .kind) k) t)
-        → tally k (kindsOf (x ∷ t)) ≡ length (keep (λ (r : Node). eqb (r .kind) k) (x ∷ t))
-    go true e ih = rw (e, tally, keep) (ap suc ih)
-    go false e ih = rw (e, tally, keep) ih
 
 lt-up : (d : List ℕ) → 0 < length d → Lt (up d) d
 lt-up [] pos = absurd (not-suc-le-zero pos)

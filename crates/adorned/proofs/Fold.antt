@@ -1,16 +1,15 @@
 -- Least and greatest, one count after the other. Assumes nothing.
 use Prim.Native.Nat.{ℕ, zero, suc, _+_, _-_, _≤_, _<_, min, max}
-use native.Mathlib.Numerals.{add-one}
 use native.Mathlib.Omega.{arith}
-use mathlib.Core.Path.{_≡_, refl, sym, _∙_, ap, ap₂}
+use mathlib.Core.Path.{_≡_, refl, _∙_, ap}
 use mathlib.Core.Bool.{Bool, true, false}
 use mathlib.Core.List.{List, [], _∷_, _++_}
 use lib.Dec.{eqb}
 use lib.ListN.{length, getD, drop, drop-of-length-le}
-use lib.Seq.{drop-cons}
 use borrow.Author.Tests.{eq-eqb, ne-eqb}
 use Rattle.paper.specs.Lists.{least, most}
-use Rattle.adorned.specs.Runs.{lead, runs, tally, low, high}
+use Rattle.closest.proofs.Counts.{rest-at}
+use Rattle.adorned.specs.Runs.{lead, runs, low, high}
 
 abbrev pub lows : ℕ → ℕ → List ℕ → ℕ
 lows m l [] = l
@@ -42,29 +41,20 @@ highs-most (c ∷ cs) = highs-from 0 c cs
 
 -- ---- the rest of the type numbers, from place i on
 module _ (l : List ℕ) (i x p k : ℕ) (lt : i < length l) (e : x ≡ getD l i 0) where
-  at : drop i l ≡ x ∷ drop (i + 1) l
-  at = drop-cons l i 0 lt ∙ ap₂ {C = List ℕ} (λ y n. y ∷ drop n l) (sym e) (sym (add-one i))
-
   pub runs-parent : x ≡ p → runs p k (drop i l) ≡ lead p k (drop (i + 1) l) ∷ runs p k (drop (i + 1) l)
-  runs-parent q = ap (runs p k) at ∙ rw (eq-eqb x p q, runs) refl
+  runs-parent q = ap (runs p k) (rest-at l i x lt e) ∙ rw (eq-eqb x p q, runs) refl
 
   pub runs-other : (x ≡ p → ⊥) → runs p k (drop i l) ≡ runs p k (drop (i + 1) l)
-  runs-other ne = ap (runs p k) at ∙ rw (ne-eqb x p ne, runs) refl
+  runs-other ne = ap (runs p k) (rest-at l i x lt e) ∙ rw (ne-eqb x p ne, runs) refl
 
   pub lead-parent : x ≡ p → lead p k (drop i l) ≡ 0
-  lead-parent q = ap (lead p k) at ∙ rw (eq-eqb x p q, lead) refl
+  lead-parent q = ap (lead p k) (rest-at l i x lt e) ∙ rw (eq-eqb x p q, lead) refl
 
   pub lead-child : (x ≡ p → ⊥) → x ≡ k → lead p k (drop i l) ≡ suc (lead p k (drop (i + 1) l))
-  lead-child ne q = ap (lead p k) at ∙ rw (ne-eqb x p ne, lead) (rw (eq-eqb x k q) refl)
+  lead-child ne q = ap (lead p k) (rest-at l i x lt e) ∙ rw (ne-eqb x p ne, lead) (rw (eq-eqb x k q) refl)
 
   pub lead-other : (x ≡ p → ⊥) → (x ≡ k → ⊥) → lead p k (drop i l) ≡ lead p k (drop (i + 1) l)
-  lead-other np nk = ap (lead p k) at ∙ rw (ne-eqb x p np, lead) (rw (ne-eqb x k nk) refl)
-
-  pub tally-one : x ≡ k → tally k (drop i l) ≡ suc (tally k (drop (i + 1) l))
-  tally-one q = ap (tally k) at ∙ rw (eq-eqb x k q, tally) refl
-
-  pub tally-other : (x ≡ k → ⊥) → tally k (drop i l) ≡ tally k (drop (i + 1) l)
-  tally-other ne = ap (tally k) at ∙ rw (ne-eqb x k ne, tally) refl
+  lead-other np nk = ap (lead p k) (rest-at l i x lt e) ∙ rw (ne-eqb x p np, lead) (rw (ne-eqb x k nk) refl)
 
 pub past : (l : List ℕ) (i : ℕ) → length l ≤ i → drop i l ≡ []
 past l i le = drop-of-length-le l {i = i} le

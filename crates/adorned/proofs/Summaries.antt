@@ -1,5 +1,5 @@
 -- The summary of a type, figure by figure. Assumes nothing.
-use Prim.Native.Nat.{ℕ, zero, suc, _+_, _≤_, _<_, pred, max}
+use Prim.Native.Nat.{ℕ, zero, _+_, _≤_, _<_, pred, max}
 use native.Mathlib.Nat.{not-suc-le-zero, lt-irrefl}
 use native.Mathlib.Omega.{arith}
 use mathlib.Core.Path.{_≡_, refl, sym, _∙_, ap, ap₂, subst}
@@ -10,10 +10,10 @@ use lib.Dec.{eqb, leb}
 use lib.ListN.{length, getD, take, length-map, length-take}
 use borrow.Author.Tests.{eq-eqb, leb-true, leb-false}
 use Rattle.paper.specs.Lists
-use Rattle.paper.specs.Lists.{Has, place, same, up, lastOr, distinct, ways}
+use Rattle.paper.specs.Lists.{Has, keep, place, same, up, lastOr, distinct, ways}
 use Rattle.paper.specs.Format.{Format, format, mostTypes, rowBytes, byte, whole}
 use Rattle.paper.specs.Tables.{Row, rows, dewey, badRow, rowTypes, types, typeNumber}
-use Rattle.paper.specs.Closeness.{Node, nodesFrom, nodes, ofKind}
+use Rattle.paper.specs.Closeness.{Node, nodes, ofKind}
 use Rattle.paper.specs.Adorned.{Summary, childrenOf, counts, summary}
 use Rattle.paper.proofs.Lists.{getD-has, up-snoc}
 use Rattle.paper.proofs.Closeness.{Of}
@@ -21,27 +21,15 @@ use Rattle.paper.proofs.Tables.{rows-laid, sound-numbered, sound-forest, sound-
 use Rattle.paper.proofs.Adorned.{distinct-once, figures, root-figures}
 use Rattle.paper.proofs.Calls.{count-rows}
 use Rattle.tables.proofs.Rows.{rec}
-use Rattle.types.specs.Types.{kinds, parentOf}
+use Rattle.types.specs.Types.{parentOf}
 use Rattle.types.proofs.Ways.{before, way-whole}
 use Rattle.types.proofs.Pass.{once-number, long}
 use Rattle.types.proofs.Listed.{in-ways, l-is, a-is, l-pos, l-next}
 use Rattle.closest.specs.Node.{Sound, Typed}
-use Rattle.adorned.specs.Runs.{runs, tally}
+use Rattle.closest.proofs.Counts.{kinds-of, kinds-count}
+use Rattle.adorned.specs.Runs.{runs}
 use Rattle.adorned.specs.Told.{Listed}
-use Rattle.adorned.proofs.Children.{kindsOf, tally-kind, runs-counts}
-
--- the nodes' kinds are the rows' type numbers
-kinds-nodes : (i : ℕ) (ks : List ℕ) (ds : List (List ℕ)) → length ks ≡ length ds → kindsOf (nodesFrom i ks ds) ≡ ks
-kinds-nodes i [] [] e = refl
-kinds-nodes i [] (d ∷ ds) e = let z : ⊥ = omega arith in absurd z
-kinds-nodes i (k ∷ ks) [] e = let z : ⊥ = omega arith in absurd z
-kinds-nodes i (k ∷ ks) (d ∷ ds) e = ap {B = List ℕ} (λ l. k ∷ l) (kinds-nodes (suc i) ks ds (omega arith))
-
-pub kinds-of : (rs : List Row) → kindsOf (nodes rs) ≡ kinds rs
-unfolding nodes kinds rowTypes
-kinds-of rs =
-    kinds-nodes 0 (map (typeNumber (types rs)) (rowTypes rs)) (map dewey rs)
-    (length-map (rowTypes rs) (typeNumber (types rs)) ∙ length-ways [] (map step rs) ∙ length-map rs step ∙ sym (length-map rs dewey))
+use Rattle.adorned.proofs.Children.{runs-counts}
 
 module _ (levels largest n : ℕ) (t ks : List ℕ) (ty : Typed levels largest n t ks) (k parent label first : ℕ)
     (li : Listed (rows (format levels largest) t) k parent label first) where
@@ -93,10 +81,6 @@ module _ (levels largest n : ℕ) (t ks : List ℕ) (ty : Typed levels largest n
       sym (long (map step rs) first l a (in-ways f t s first first-in l a refl refl) (l-is f t s first first-in l a refl refl) (a-is f t s first first-in l a refl refl)
       (l-pos f t s first first-in l a refl refl) (l-next f t s first first-in l a refl refl)) ∙ ap length (first-row .1)
 
-  -- ---- how many rows
-  pub rows-are : tally k (take n ks) ≡ length (ofKind (nodes (rows (format levels largest) t)) k)
-  rows-are = ap (tally k) (ty .listed ∙ sym (kinds-of rs)) ∙ tally-kind (nodes rs) k
-
   -- ---- root or not
   at-root : (u : List ℕ) → length u ≡ 1 → parentOf ts (up u) ≡ mostTypes
   at-root [] e = refl
@@ -139,13 +123,13 @@ module _ (levels largest n : ℕ) (t ks : List ℕ) (ty : Typed levels largest n
       go false q = absurd (ne (root-parent (omega (arith, leb-false 2 (length v) q, some))))
 
   -- ---- a root type
-  pub root-summary : (c l : ℕ) → parent ≡ mostTypes → c ≡ tally k (take n ks) → l ≡ byte (rec (rowBytes (format levels largest)) first t) 0
+  pub root-summary : (c l : ℕ) → parent ≡ mostTypes → c ≡ length (keep (λ x. eqb x k) (take n ks)) → l ≡ byte (rec (rowBytes (format levels largest)) first t) 0
       → record { parent = parent; label = label; level = l; rows = c; least = c; greatest = c }
       ≡ summary (nodes (rows (format levels largest) t)) (types (rows (format levels largest) t)) k (getD (types (rows (format levels largest) t)) k [])
   unfolding summary
   root-summary c l e ec el =
       let one = is-root e in
-      let rc : c ≡ length (ofKind (nodes rs) k) = ec ∙ rows-are in
+      let rc : c ≡ length (ofKind (nodes rs) k) = ec ∙ kinds-count levels largest n t ks ty k in
       let (lo, hi) = root-figures (nodes rs) ts k v one in
       λ i. record {
         parent = (e ∙ sym (pick-true (eqb (length v) 1) mostTypes (typeNumber ts (up v)) (eq-eqb (length v) 1 one))) i;
@@ -166,7 +150,7 @@ module _ (levels largest n : ℕ) (t ks : List ℕ) (ty : Typed levels largest n
       let s = ty .sound .kept in
       let la = rows-laid f t in
       let p = typeNumber ts (up v) in
-      ap₂ (λ a b. runs a k b) (deep-parent deep .0) (ty .listed ∙ sym (kinds-of rs))
+      ap₂ (λ a b. runs a k b) (deep-parent deep .0) (ty .listed ∙ sym (kinds-of f t))
       ∙ runs-counts (nodes rs) (sound-numbered f rs la s) (sound-forest f rs la s) (sound-pos f rs la s) p k apart
       (λ x y ox oy. one-level f rs la s x y (ox .0) (oy .0) (ox .1 ∙ sym (oy .1))) parent-of
     where
@@ -186,7 +170,7 @@ module _ (levels largest n : ℕ) (t ks : List ℕ) (ty : Typed levels largest n
           let (r, hr, er, tr, kr) = ancestor f rs la so s u tu (pred (length u)) (omega arith) (omega arith) in
           (r, (hr, kr ∙ ap (λ z. typeNumber ts (up z)) q), er ∙ ap (λ m. take (pred m) (s .dewey)) l)
 
-  pub deep-summary : (c l lo hi : ℕ) → (parent ≡ mostTypes → ⊥) → c ≡ tally k (take n ks) → l ≡ byte (rec (rowBytes (format levels largest)) first t) 0
+  pub deep-summary : (c l lo hi : ℕ) → (parent ≡ mostTypes → ⊥) → c ≡ length (keep (λ x. eqb x k) (take n ks)) → l ≡ byte (rec (rowBytes (format levels largest)) first t) 0
       → lo ≡ Lists.least (runs parent k (take n ks)) → hi ≡ Lists.most (λ x. x) (runs parent k (take n ks))
       → record { parent = parent; label = label; level = l; rows = c; least = lo; greatest = hi }
       ≡ summary (nodes (rows (format levels largest) t)) (types (rows (format levels largest) t)) k (getD (types (rows (format levels largest) t)) k [])
@@ -203,7 +187,7 @@ module _ (levels largest n : ℕ) (t ks : List ℕ) (ty : Typed levels largest n
         parent = (deep-parent deep .0 ∙ sym fp ∙ ap (λ (x : Summary). x .parent) same) i;
         label = li .label-is i;
         level = (el ∙ level-is) i;
-        rows = (ec ∙ rows-are) i;
+        rows = (ec ∙ kinds-count levels largest n t ks ty k) i;
         least = (elo ∙ ap Lists.least (cs ∙ at) ∙ sym fl ∙ ap (λ (x : Summary). x .least) same) i;
         greatest = (ehi ∙ ap (Lists.most (λ x. x)) (cs ∙ at) ∙ sym fg ∙ ap (λ (x : Summary). x .greatest) same) i;
       }

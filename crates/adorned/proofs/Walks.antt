@@ -8,8 +8,8 @@ use mathlib.Core.Bool.{Bool, true, false}
 use mathlib.Core.List.{List, [], _∷_}
 use lib.ListN.{length, getD, drop}
 use Rattle.paper.specs.Lists.{least, most}
-use Rattle.adorned.specs.Runs.{lead, runs, tally, low, high}
-use Rattle.adorned.proofs.Fold.{lows, highs, lows-least, highs-most, runs-parent, runs-other, lead-parent, lead-child, lead-other, tally-one, tally-other, past}
+use Rattle.adorned.specs.Runs.{lead, runs, low, high}
+use Rattle.adorned.proofs.Fold.{lows, highs, lows-least, highs-most, runs-parent, runs-other, lead-parent, lead-child, lead-other, past}
 
 pub low-more : (m l c : ℕ) → (m ≡ 0 → ⊥) → (low m l c ≡ min l c) × (high m l c ≡ max l c)
 low-more zero l c ne = absurd (ne refl)
@@ -81,19 +81,3 @@ pub walk-none : (l : List ℕ) (p k lo hi m c i : ℕ) → Walk l p k lo hi fals
 walk-none l p k lo hi m c i w le =
     let now : left false c p k (drop i l) ≡ [] = ap (left false c p k) (past l i le) in
     (sym (ap (lows m lo) now) ∙ w .lowest, sym (ap (highs m hi) now) ∙ w .highest)
-
--- ---- counting
-pub record Tally (l : List ℕ) (k c i : ℕ) : Type 0 where
-  pub inside : i ≤ length l
-  pub counted : c ≤ i
-  pub so-far : c + tally k (drop i l) ≡ tally k l
-
-module _ (l : List ℕ) (k c i x : ℕ) (w : Tally l k c i) (lt : i < length l) (e : x ≡ getD l i 0) where
-  pub tally-more : x ≡ k → Tally l k (c + 1) (i + 1)
-  tally-more q = record { inside = omega arith; counted = omega (arith, w .counted); so-far = omega (arith, w .so-far, tally-one l i x k k lt e q) }
-
-  pub tally-same : (x ≡ k → ⊥) → Tally l k c (i + 1)
-  tally-same ne = record { inside = omega arith; counted = omega (arith, w .counted); so-far = omega (arith, w .so-far, tally-other l i x k k lt e ne) }
-
-pub tally-end : (l : List ℕ) (k c i : ℕ) → Tally l k c i → length l ≤ i → c ≡ tally k l
-tally-end l k c i w le = omega (arith, w .so-far, ap (tally k) (past l i le))

@@ -14,11 +14,6 @@ abbrev pub runs : ℕ → ℕ → List ℕ → List ℕ
 runs p k [] = []
 runs p k (x ∷ xs) = elim (eqb x p) [ true ↦ lead p k xs ∷ runs p k xs | false ↦ runs p k xs ]
 
--- how many are of type k
-abbrev pub tally : ℕ → List ℕ → ℕ
-tally k [] = 0
-tally k (x ∷ xs) = elim (eqb x k) [ true ↦ suc (tally k xs) | false ↦ tally k xs ]
-
 -- the least and the greatest after one more count, where m have been seen
 abbrev pub low : ℕ → ℕ → ℕ → ℕ
 low zero l c = c

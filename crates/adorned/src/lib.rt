@@ -13,7 +13,7 @@ ghost use Rattle.paper.specs.Tables.{rows, types};
 ghost use Rattle.paper.specs.Closeness.{nodes};
 ghost use Rattle.paper.specs.Adorned.{summary, adorned};
 ghost use Rattle.closest.specs.Node.{Typed};
-ghost use Rattle.adorned.specs.Runs.{runs, tally, low, high};
+ghost use Rattle.adorned.specs.Runs.{runs, low, high};
 ghost use Rattle.adorned.specs.Told.{Listed, Counted, told, noSummary, placed, Says, adornFigures};
 
 // The least and the greatest of some counts.
@@ -36,24 +36,6 @@ fn with_count(r: Range, m: usize, c: usize) -> Range
         least: tables::row::smaller(r.least, c),
         greatest: closest::larger(r.greatest, c),
     }
-}
-
-// How many of the first n rows are of type k.
-fn count_rows(ks: &[u8], n: usize, k: usize) -> usize
-    requires { ⌜ n ≤ length (now ks) ⌝ }
-    ensures { λ r. ⌜ (r ≡ tally k (take n (now (ks .entry)))) × (r ≤ n) ⌝ }
-{
-    let mut c = 0;
-    let mut i = 0;
-    while i < n {
-        if bytes::wide(ks[i]) == k {
-            c += 1;
-            i += 1;
-        } else {
-            i += 1;
-        }
-    }
-    c
 }
 
 // The least and the greatest number of children of type k under a row of type p; zeros where there is no such row.
@@ -126,7 +108,7 @@ fn summary_of(
     let w = 4 + 2 * levels + 8;
     let row = bytes::record(t, w, first);
     let level = bytes::wide(row[0]);
-    let c = count_rows(ks, n, k);
+    let c = closest::count_rows(ks, n, k);
     if parent == 64 {
         return TypeSummary {
             parent: parent,

@@ -1,4 +1,7 @@
 pub mod Nodes
-pub mod Neighbours
 pub mod Meets
+pub mod Levels
 pub mod Runs
+pub mod Deepest
+pub mod Listed
+pub mod Counts

@@ -17,17 +17,18 @@ use Rattle.paper.proofs.Tables.{step, length-ways}
 use Rattle.paper.proofs.Calls.{count-rows}
 use Rattle.tables.proofs.Rows.{rec, rows-from}
 use Rattle.types.specs.Types.{kinds}
-use Rattle.types.proofs.Listed.{at-drop, l-fits, l-pos}
+use Rattle.types.proofs.Listed.{at-drop, drop-has, l-fits, l-pos}
 use Rattle.closest.specs.Node.{node, Sound}
 
-nodesFrom-at : (i : ℕ) (ks : List ℕ) (ds : List (List ℕ)) (j : ℕ) → j < length ks → j < length ds
-    → Has (record { place = i + j; kind = getD ks j 0; dewey = getD ds j [] }) (nodesFrom i ks ds)
-nodesFrom-at i [] ds j lk ld = absurd (not-suc-le-zero lk)
-nodesFrom-at i (k ∷ ks) [] j lk ld = absurd (not-suc-le-zero ld)
-nodesFrom-at i (k ∷ ks) (d ∷ ds) zero lk ld = inl (ap {B = Node} (λ n. record { place = n; kind = k; dewey = d }) (omega arith))
-nodesFrom-at i (k ∷ ks) (d ∷ ds) (suc j) lk ld =
-    inr (subst (λ n. Has (record { place = n; kind = getD ks j 0; dewey = getD ds j [] }) (nodesFrom (suc i) ks ds)) (omega arith)
-    (nodesFrom-at (suc i) ks ds j (le-of-suc-le-suc lk) (le-of-suc-le-suc ld)))
+nodesFrom-drop : (i : ℕ) (ks : List ℕ) (ds : List (List ℕ)) (j : ℕ) → j < length ks → j < length ds
+    → drop j (nodesFrom i ks ds) ≡ record { place = i + j; kind = getD ks j 0; dewey = getD ds j [] } ∷ drop (suc j) (nodesFrom i ks ds)
+nodesFrom-drop i [] ds j lk ld = absurd (not-suc-le-zero lk)
+nodesFrom-drop i (k ∷ ks) [] j lk ld = absurd (not-suc-le-zero ld)
+nodesFrom-drop i (k ∷ ks) (d ∷ ds) zero lk ld =
+    ap {B = List Node} (λ n. record { place = n; kind = k; dewey = d } ∷ nodesFrom (suc i) ks ds) (omega arith)
+nodesFrom-drop i (k ∷ ks) (d ∷ ds) (suc j) lk ld =
+    nodesFrom-drop (suc i) ks ds j (le-of-suc-le-suc lk) (le-of-suc-le-suc ld)
+    ∙ ap {B = List Node} (λ n. record { place = n; kind = getD ks j 0; dewey = getD ds j [] } ∷ drop (suc j) (nodesFrom (suc i) ks ds)) (omega arith)
 
 module _ (f : Format) (t : List ℕ) where
   pub length-kinds : length (kinds (rows f t)) ≡ length (rows f t)
@@ -39,14 +40,18 @@ module _ (f : Format) (t : List ℕ) where
   length-nodes =
       omega (arith, nodesFrom-length 0 (map (typeNumber (types (rows f t))) (rowTypes (rows f t))) (map dewey (rows f t)), length-map (rows f t) dewey)
 
-  pub node-in : (i : ℕ) → i < length (rows f t) → Has (node f t i) (nodes (rows f t))
+  -- the nodes from row i on
+  pub nodes-from : (i : ℕ) → i < length (rows f t) → drop i (nodes (rows f t)) ≡ node f t i ∷ drop (suc i) (nodes (rows f t))
   unfolding nodes kinds
-  node-in i lt =
-      let at = nodesFrom-at 0 (kinds (rows f t)) (map dewey (rows f t)) i (omega (arith, length-kinds)) (omega (arith, length-map (rows f t) dewey)) in
+  nodes-from i lt =
+      let rest = drop (suc i) (nodesFrom 0 (kinds (rows f t)) (map dewey (rows f t))) in
       let d : getD (map dewey (rows f t)) i [] ≡ dewey (rowOf f (rec (rowBytes f) i t)) =
       at-drop dewey [] (rows f t) i (rowOf f (rec (rowBytes f) i t)) (drop (suc i) (rows f t)) (rows-from f t i (omega (arith, count-rows f t))) in
-      subst (λ (x : Node). Has x (nodesFrom 0 (kinds (rows f t)) (map dewey (rows f t))))
-      (ap₂ {C = Node} (λ n z. record { place = n; kind = getD (kinds (rows f t)) i 0; dewey = z }) (zero-add i) d) at
+      nodesFrom-drop 0 (kinds (rows f t)) (map dewey (rows f t)) i (omega (arith, length-kinds)) (omega (arith, length-map (rows f t) dewey))
+      ∙ ap₂ {C = List Node} (λ n z. record { place = n; kind = getD (kinds (rows f t)) i 0; dewey = z } ∷ rest) (zero-add i) d
+
+  pub node-in : (i : ℕ) → i < length (rows f t) → Has (node f t i) (nodes (rows f t))
+  node-in i lt = drop-has (nodes (rows f t)) i (node f t i) (drop (suc i) (nodes (rows f t))) (nodes-from i lt)
 
   -- every node is a row's
   pub in-node : Numbered 0 (nodes (rows f t)) → (x : Node) → Has x (nodes (rows f t)) → (x .place < length (rows f t)) → x ≡ node f t (x .place)

@@ -7,7 +7,7 @@ use mathlib.Core.Option.{none}
 use lib.ListN.{length, getD, take}
 use Rattle.paper.specs.Format.{Format, format}
 use Rattle.paper.specs.Tables.{rowOf, rows, rowPart, dewey, badRow}
-use Rattle.paper.specs.Closeness.{Node, meet, meetAt}
+use Rattle.paper.specs.Closeness.{Node, level, meet, meetAt}
 use Rattle.types.specs.Types.{kinds}
 
 -- row i of a table
@@ -38,3 +38,8 @@ pub record Starts (levels largest : ℕ) (t : List ℕ) (r at p : ℕ) : Type 0 
   pub within : p ≤ r
   pub before : (j : ℕ) → j < p → meet (node (format levels largest) t r) (node (format levels largest) t j) < at
   pub agrees : (j : ℕ) → p ≤ j → j < r → at ≤ meet (node (format levels largest) t r) (node (format levels largest) t j)
+
+-- a search from row `from` on leaves out no row of the run around row r at level `at` but what it has passed, and is still in it
+pub record Reached (levels largest : ℕ) (t : List ℕ) (r at from : ℕ) : Type 0 where
+  pub before : (j : ℕ) → from ≤ j → j < r → at ≤ meet (node (format levels largest) t r) (node (format levels largest) t j)
+  pub after : (m : ℕ) → r < m → m < from → at < level (node (format levels largest) t m)

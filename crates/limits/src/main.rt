@@ -1,14 +1,18 @@
-// Runs the calls on the cases of standard input, and prints a line of numbers for each. A case is the length of a table and a
-// row number, two bytes each, least byte first, and then the table's bytes. The line: examining's number, place and rows; the
-// number and place of a look-up; the length of the part that the look-up hands back, and the sum of its bytes; adorning's number,
-// place and types, and the six figures of each type's summary.
+// Runs the calls on the cases of standard input, and prints a line of numbers for each. A case is the length of a table, a row
+// number and the length of a shape, two bytes each, least byte first, and then the table's bytes and the shape's. The line:
+// examining's number, place and rows; the number and place of a look-up; the length of the part that the look-up hands back, and
+// the sum of its bytes; adorning's number, place and types, and the six figures of each type's summary; judging's number and place,
+// and document 01's number of the verdict with its values.
 use adorned::TypeSummary;
 use adorned::adorn_by_value;
+use judging::verdict::Verdict;
 use libc::STDIN_FILENO;
 use libc::STDOUT_FILENO;
 use tables::table::examine;
 use tables::table::look_up;
 use tables::table::look_up_refusal;
+ghost use Prim.Native.Nat.{_≤_};
+ghost use lib.ListN.{length};
 
 // Prints a number, and what stands after it.
 fn number(n: usize, after: &[u8]) {
@@ -70,29 +74,63 @@ fn print_adorned(t: &[u8]) {
     number(a.place, b" ");
     number(count, b"");
     print_summaries(all, count);
-    io::write_all(STDOUT_FILENO, b"\n");
 }
 
-// A case's line: a call that is added prints its numbers here.
-fn print_case(t: &[u8], i: usize) {
+// Prints a verdict's number and its two values.
+fn print_found(kind: usize, first: usize, second: usize) {
+    number(kind, b" ");
+    number(first, b" ");
+    number(second, b"");
+}
+
+fn print_verdict(v: Verdict) {
+    match v {
+        Verdict::Kept => number(0, b""),
+        Verdict::Missing { entry, row } => print_found(1, entry, row),
+        Verdict::Apart { first, second } => print_found(2, first, second),
+        Verdict::Unsure { first, second } => print_found(3, first, second),
+    }
+}
+
+fn print_judged(t: &[u8], s: &[u8]) {
+    let j = judging::judge::judge(t, s);
+    let v = j.verdict;
+    io::write_all(STDOUT_FILENO, b" ");
+    number(j.number, b" ");
+    number(j.place, b" ");
+    print_verdict(v);
+}
+
+// A case's line. The table is the first n of the bytes, and the shape the rest. A call that is added prints its numbers here.
+fn print_case(both: &[u8], n: usize, i: usize)
+    requires { ⌜ n ≤ length (now both) ⌝ }
+{
+    let t = &both[0..n];
+    let s = &both[n..];
     print_examined(t);
     print_looked_up(t, i);
     print_adorned(t);
+    print_judged(t, s);
+    io::write_all(STDOUT_FILENO, b"\n");
 }
 
-// Reads a case and prints its line, or answers false where the input has no whole case left.
+// Reads a case and prints its line, or answers false where the input has no whole case left that fits the buffer.
 fn run_case() -> bool {
-    let mut head = [0u8; 4];
-    if io::read_full(STDIN_FILENO, &mut head) < 4 {
+    let mut head = [0u8; 6];
+    if io::read_full(STDIN_FILENO, &mut head) < 6 {
         return false;
     }
     let n = bytes::word(&head, 0);
     let row = bytes::word(&head, 2);
-    let mut table = io::large_buffer();
-    if io::read_full(STDIN_FILENO, &mut table[..n]) < n {
+    let size = n + bytes::word(&head, 4);
+    if 65536 < size {
         return false;
     }
-    print_case(&table[..n], row);
+    let mut both = io::large_buffer();
+    if io::read_full(STDIN_FILENO, &mut both[..size]) < size {
+        return false;
+    }
+    print_case(&both[..size], n, row);
     true
 }
 

@@ -86,7 +86,7 @@ length-records : (w n : ℕ) (b : List ℕ) → length (records w n b) ≡ n
 length-records w zero b = refl
 length-records w (suc n) b = ap suc (length-records w n (lib.ListN.drop w b))
 
-count-entries : (f : Format) (b : List ℕ) → length (entries f b) ≡ length b / entryBytes f
+pub count-entries : (f : Format) (b : List ℕ) → length (entries f b) ≡ length b / entryBytes f
 unfolding entries
 count-entries f b =
     length-map (records (entryBytes f) (whole (entryBytes f) b) b) (entryOf f) ∙ length-records (entryBytes f) (whole (entryBytes f) b) b

@@ -1,6 +1,6 @@
 -- A sound forest: Dewey numbers each of which follows the one before. Assumes nothing.
 use Prim.Native.Nat.{ℕ, zero, suc, _+_, _≤_, _<_, pred, min}
-use native.Mathlib.Nat.{le-refl, not-suc-le-zero, le-of-suc-le-suc, lt-irrefl}
+use native.Mathlib.Nat.{le-refl, le-antisymm, not-suc-le-zero, le-of-suc-le-suc, lt-irrefl}
 use native.Mathlib.Omega.{arith}
 use mathlib.Core.Path.{_≡_, refl, sym, _∙_, ap, ap₂, subst, subst₂}
 use mathlib.Core.Logic.{_⊎_, inl, inr, ⊎-elim}
@@ -12,10 +12,10 @@ use lib.Seq.{take-all, take-take, take-append-le}
 use borrow.Author.Tests.{leb-true, leb-false}
 use Rattle.paper.specs.Lists.{Has, same, lastOr}
 use Rattle.paper.specs.Tables.{raised, follows}
-use Rattle.paper.specs.Closeness.{Node, nodesFrom}
+use Rattle.paper.specs.Closeness.{Node, nodesFrom, shared}
 use Rattle.paper.specs.Faithful.{Chain}
 use Rattle.paper.proofs.Lists.{either, same-eq, has-map}
-use Rattle.paper.proofs.Agree.{Agree, agree-trans, agree-sym}
+use Rattle.paper.proofs.Agree.{Agree, agree-trans, agree-sym, take-agree, shared→agree, agree→shared}
 
 -- ---- document order
 abbrev pub Lt : List ℕ → List ℕ → Type 0
@@ -94,6 +94,24 @@ follows-lt p d (pos, h) =
           ∙ take-take (pred (length d)) (length d) p (omega arith),
     ))
     (either (same d (p ++ (1 ∷ []))) (same d (raised (take (length d) p))) h)
+
+-- what comes later is no beginning of what it comes after
+lt-beyond : (a b : List ℕ) → Lt a b → Agree (length b) a b → ⊥
+lt-beyond [] [] h g = h
+lt-beyond [] (y ∷ b) h g = g
+lt-beyond (x ∷ a) [] h g = h
+lt-beyond (x ∷ a) (y ∷ b) (inl h) g = omega (arith, g .0)
+lt-beyond (x ∷ a) (y ∷ b) (inr h) g = lt-beyond a b (h .1) (g .1)
+
+-- a number meets the one that follows it just above the last component of the latter
+pub follows-meet : (p d : List ℕ) → Follows p d → shared p d ≡ pred (length d)
+follows-meet p d h =
+    let (lt, le, e) = follows-lt p d h in
+    le-antisymm (most (leb (length d) (shared p d)) refl lt) (agree→shared (pred (length d)) p d (take-agree (pred (length d)) p d (omega arith) (sym e) (omega arith)))
+  where
+    most : (b : Bool) → leb (length d) (shared p d) ≡ b → Lt p d → shared p d ≤ pred (length d)
+    most true e lt = absurd (lt-beyond p d lt (shared→agree (length d) p d (leb-true (length d) (shared p d) e)))
+    most false e lt = omega (arith, leb-false (length d) (shared p d) e)
 
 -- ---- a chain of numbers, each following the one before; p is the number before the first
 pub chain-append : (p : List ℕ) (ds es : List (List ℕ)) → Chain p ds → Chain (lastOr p ds) es → Chain p (ds ++ es)
@@ -222,6 +240,21 @@ in-order i p (z ∷ t) o c x y (inl h) (inr k) lt = subst (λ d. Lt d (y .dewey)
 in-order i p (z ∷ t) o c x y (inr h) (inl k) lt =
     let w : ⊥ = omega (arith, ap (λ (z : Node). z .place) k, o .0, place-bounds (suc i) t (o .1) x h .0) in absurd w
 in-order i p (z ∷ t) o c x y (inr h) (inr k) lt = in-order (suc i) (z .dewey) t (o .1) (c .1) x y h k lt
+
+-- the node at the next place follows
+pub next-follows : (i : ℕ) (p : List ℕ) (t : List Node) → Numbered i t → Chain p (deweys t) → (x y : Node) → Has x t → Has y t
+    → y .place ≡ suc (x .place) → Follows (x .dewey) (y .dewey)
+next-follows i p [] o c x y h k e = absurd h
+next-follows i p (z ∷ t) o c x y (inr h) (inr k) e = next-follows (suc i) (z .dewey) t (o .1) (c .1) x y h k e
+next-follows i p (z ∷ t) o c x y (inr h) (inl k) e =
+    let w : ⊥ = omega (arith, ap (λ (z : Node). z .place) k, o .0, place-bounds (suc i) t (o .1) x h .0) in absurd w
+next-follows i p (z ∷ t) o c x y (inl h) (inl k) e =
+    let w : ⊥ = omega (arith, ap (λ (z : Node). z .place) h, ap (λ (z : Node). z .place) k) in absurd w
+next-follows i p (z ∷ []) o c x y (inl h) (inr k) e = absurd k
+next-follows i p (z ∷ u ∷ t) o c x y (inl h) (inr k) e =
+    let q : y .place ≡ u .place = omega (arith, ap (λ (z : Node). z .place) h, o .0, o .1 .0) in
+    let r = one-place (suc i) (u ∷ t) (o .1) y u k (inl refl) q in
+    subst₂ (λ a b. Follows a b) (sym (ap (λ (z : Node). z .dewey) h)) (sym (ap (λ (z : Node). z .dewey) r)) (c .1 .0)
 
 -- the rows that agree to a level are one unbroken run
 pub run : (t : List Node) → Numbered 0 t → Forest t → (k : ℕ) (x y z : Node) → Has x t → Has y t → Has z t

@@ -111,7 +111,7 @@ module _ (f : Format) (x y : List ℕ) (fx : byte x 0 ≤ f .levels) (fy : byte 
 pub and-left : {a : Bool} (b : Bool) → a ≡ false → a && b ≡ false
 and-left b e = ap (λ a. a && b) e
 
-and-right : (a : Bool) {b : Bool} → b ≡ false → a && b ≡ false
+pub and-right : (a : Bool) {b : Bool} → b ≡ false → a && b ≡ false
 and-right true e = e
 and-right false e = refl
 

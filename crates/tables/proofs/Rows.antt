@@ -25,13 +25,14 @@ use Rattle.tables.proofs.Follows.{longer-apart, child-decides}
 abbrev pub rec : ℕ → ℕ → List ℕ → List ℕ
 rec w i t = take w (drop (w * i) t)
 
-drop-records : (g : List ℕ → Row) (w n : ℕ) (t : List ℕ) (i : ℕ) → i < n
+-- what the records give from record i on
+pub drop-records : {A : Type 0} (g : List ℕ → A) (w n : ℕ) (t : List ℕ) (i : ℕ) → i < n
     → drop i (map g (records w n t)) ≡ g (rec w i t) ∷ drop (suc i) (map g (records w n t))
 drop-records g w zero t i lt = absurd (not-suc-le-zero lt)
-drop-records g w (suc n) t zero lt = ap {B = List Row} (λ k. g (take w (drop k t)) ∷ map g (records w n (drop w t))) (sym (mul-zero w))
-drop-records g w (suc n) t (suc i) lt =
+drop-records {A} g w (suc n) t zero lt = ap {B = List A} (λ k. g (take w (drop k t)) ∷ map g (records w n (drop w t))) (sym (mul-zero w))
+drop-records {A} g w (suc n) t (suc i) lt =
     drop-records g w n (drop w t) i (le-of-suc-le-suc lt)
-    ∙ ap {B = List Row} (λ l. g (take w l) ∷ drop (suc i) (map g (records w n (drop w t)))) (drop-drop (w * i) w t ∙ ap (λ k. drop k t) (at i))
+    ∙ ap {B = List A} (λ l. g (take w l) ∷ drop (suc i) (map g (records w n (drop w t)))) (drop-drop (w * i) w t ∙ ap (λ k. drop k t) (at i))
   where
     at : (i : ℕ) → w + w * i ≡ w * suc i
     at i = omega (arith, mul-suc w i)

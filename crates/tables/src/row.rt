@@ -6,21 +6,21 @@ ghost use Prim.Native.Nat.{_+_, _*_, _≤_, _<_, min};
 ghost use lib.Dec.{eqb};
 ghost use lib.ListN.{length, getD, drop};
 ghost use Rattle.paper.specs.Lists.{all};
-ghost use Rattle.paper.specs.Format.{format, rowBytes, byte, words};
+ghost use Rattle.paper.specs.Format.{format, rowBytes, entryBytes, byte, words};
 ghost use Rattle.paper.specs.Tables.{rowOf, dewey, fieldsKept, follows};
 ghost use Rattle.paper.specs.Closeness.{shared};
 
-// Component k of a row's Dewey number.
+// Number k of the list that a record holds: a component of a row's Dewey number, a label of an entry's type.
 pub fn component(row: &[u8], levels: usize, k: usize) -> usize
-    requires { ⌜ (length (now row) ≡ rowBytes (format levels 0)) × (k < levels) × (levels ≤ 255) ⌝ }
+    requires { ⌜ (entryBytes (format levels 0) ≤ length (now row)) × (k < levels) × (levels ≤ 255) ⌝ }
     ensures { λ r. ⌜ (r ≡ getD (words levels (now (row .entry)) 4) k 0) × (r < 65536) ⌝ }
 {
     bytes::word(row, 4 + 2 * k)
 }
 
-// Are the components from k on zero?
-fn zeros_from(row: &[u8], levels: usize, k: usize) -> bool
-    requires { ⌜ (length (now row) ≡ rowBytes (format levels 0)) × (levels ≤ 255) ⌝ }
+// Are the numbers of that list from k on zero?
+pub fn zeros_from(row: &[u8], levels: usize, k: usize) -> bool
+    requires { ⌜ (entryBytes (format levels 0) ≤ length (now row)) × (levels ≤ 255) ⌝ }
     ensures { λ r. ⌜ r ≡ all (eqb 0) (drop k (words levels (now (row .entry)) 4)) ⌝ }
 {
     let mut i = k;

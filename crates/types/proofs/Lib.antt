@@ -3,3 +3,4 @@ pub mod Pass
 pub mod Step
 pub mod Search
 pub mod Listed
+pub mod Few

@@ -27,12 +27,18 @@ use Rattle.types.proofs.Ways.{beforeOr, before}
 use Rattle.types.proofs.Pass.{seen, numberOr, Pass, found-type, new-type}
 use Rattle.types.proofs.Step.{pass-start, pass-known, pass-new, pass-full, pass-end}
 
--- ---- the level and label of row i
-pub at-drop : {A : Type 0} (g : Row → A) (d : A) (rs : List Row) (i : ℕ) (r : Row) (rest : List Row) → drop i rs ≡ r ∷ rest → getD (map g rs) i d ≡ g r
+-- ---- the element that a list drops to
+pub at-drop : {A B : Type 0} (g : A → B) (d : B) (rs : List A) (i : ℕ) (r : A) (rest : List A) → drop i rs ≡ r ∷ rest → getD (map g rs) i d ≡ g r
 at-drop g d rs zero r rest e = ap (λ l. getD (map g l) 0 d) e
 at-drop g d [] (suc i) r rest e = let z : ⊥ = omega (arith, ap length e) in absurd z
 at-drop g d (x ∷ rs) (suc i) r rest e = at-drop g d rs i r rest e
 
+pub drop-has : {A : Type 0} (xs : List A) (i : ℕ) (x : A) (rest : List A) → drop i xs ≡ x ∷ rest → Has x xs
+drop-has xs zero x rest e = subst (λ l. Has x l) (sym e) (inl refl)
+drop-has [] (suc i) x rest e = let z : ⊥ = omega (arith, ap length e) in absurd z
+drop-has (y ∷ xs) (suc i) x rest e = inr (drop-has xs i x rest e)
+
+-- ---- the level and label of row i
 module _ (f : Format) (t : List ℕ) (i : ℕ) (lt : i < whole (rowBytes f) t) where
   pub level-at : getD (map (λ (x : ℕ × ℕ). x .0) (map step (rows f t))) i 0 ≡ byte (rec (rowBytes f) i t) 0
   unfolding rowOf
@@ -159,11 +165,6 @@ module _ (f : Format) (t : List ℕ) (sound : badRow f (rows f t) ≡ none) (i :
 
   pub l-next : l ≤ suc (length (before (ways [] (map step (rows f t))) i))
   l-next = omega (arith, l-is, level-next f t sound i in-rows .1)
-
-  drop-has : (rs : List Row) (j : ℕ) (r : Row) (rest : List Row) → drop j rs ≡ r ∷ rest → Has r rs
-  drop-has rs zero r rest e = subst (λ l. Has r l) (sym e) (inl refl)
-  drop-has [] (suc j) r rest e = let z : ⊥ = omega (arith, ap length e) in absurd z
-  drop-has (x ∷ rs) (suc j) r rest e = inr (drop-has rs j r rest e)
 
   pub l-fits : l ≤ f .levels
   unfolding badRow

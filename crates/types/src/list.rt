@@ -19,7 +19,7 @@ pub struct Types {
 }
 
 // The listed type with this parent and label, count for none.
-fn find_type(parents: &[u8], labels: &[u16], count: usize, p: u8, a: u16) -> usize
+pub fn find_type(parents: &[u8], labels: &[u16], count: usize, p: u8, a: u16) -> usize
     requires { ⌜ (count ≤ length (now parents)) × (count ≤ length (now labels)) ⌝ }
     ensures { λ r. ⌜ Found (now (parents .entry)) (now (labels .entry)) count p a r ⌝ }
 {

@@ -9,7 +9,7 @@ use Rattle.adorned.proofs.summary_of.Tie as tie
 use Rattle.adorned.proofs.summary_of.Reads as reads
 use Rattle.adorned.proofs.summary_of.Lts as lts
 use Rattle.adorned.proofs.children_range.Reads as children-range-reads
-use Rattle.adorned.proofs.count_rows.Reads as count-rows-reads
+use Rattle.closest.proofs.count_rows.Reads as count-rows-reads
 use Rattle.bytes.proofs.record.Reads as record-reads
 use Rattle.bytes.proofs.wide.Reads as wide-reads
 

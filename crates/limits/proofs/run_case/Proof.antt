@@ -1,7 +1,7 @@
--- `limits::run_case` is safe. A length of two bytes lies within the buffer, and a read that filled its part left the buffer as long. Assumes nothing.
+-- `limits::run_case` is safe. A table and a shape that fit lie within the buffer, and a read that filled its part left the buffer as long. Assumes nothing.
 use native.Mathlib.Omega.{arith}
 use mathlib.Core.Path.{sym}
-use lib.ListN.{length-append}
+use lib.ListN.{length-append, length-take}
 use lib.Seq.{length-take-le}
 use borrow.Author.Needs.{needs}
 use Rattle.limits.proofs.run_case.Statement.{statement}
@@ -28,11 +28,23 @@ slice-aggregate-word-2 c = search needs
 word-requires-2 : tie.Need-word-requires-2
 word-requires-2 c κs = search needs
 
+slice-aggregate-word-3 : tie.Need-slice-aggregate-word-3
+slice-aggregate-word-3 c = search needs
+
+word-requires-3 : tie.Need-word-requires-3
+word-requires-3 c κs = search needs
+
+add-size : tie.Need-add-size
+add-size c = search needs
+
+returns-2 : tie.Need-returns-2
+returns-2 c = search needs
+
 large-buffer-requires : tie.Need-large-buffer-requires
 large-buffer-requires c κs = search needs
 
-array-borrow-prefix-table : tie.Need-array-borrow-prefix-table
-array-borrow-prefix-table c = search needs
+array-borrow-prefix-both : tie.Need-array-borrow-prefix-both
+array-borrow-prefix-both c = search needs
 
 slice-aggregate-read-full-2 : tie.Need-slice-aggregate-read-full-2
 slice-aggregate-read-full-2 c = sym (length-take-le _ _ (omega arith))
@@ -40,20 +52,20 @@ slice-aggregate-read-full-2 c = sym (length-take-le _ _ (omega arith))
 read-full-requires-2 : tie.Need-read-full-requires-2
 read-full-requires-2 c κs = search needs
 
-returns-2 : tie.Need-returns-2
-returns-2 c = search needs
+returns-3 : tie.Need-returns-3
+returns-3 c = search needs
 
-array-share-prefix-table : tie.Need-array-share-prefix-table
-array-share-prefix-table c = simp length-append (omega arith)
+array-share-prefix-both : tie.Need-array-share-prefix-both
+array-share-prefix-both c = simp length-append (omega arith)
 
 slice-aggregate-print-case : tie.Need-slice-aggregate-print-case
 slice-aggregate-print-case c = sym (length-take-le _ _ (simp length-append (omega arith)))
 
 print-case-requires : tie.Need-print-case-requires
-print-case-requires c κs = search needs
+print-case-requires c κs = simp (length-take, length-append) (omega arith)
 
-returns-3 : tie.Need-returns-3
-returns-3 c = search needs
+returns-4 : tie.Need-returns-4
+returns-4 c = search needs
 
 pub run-case-spec : {M : Type 1} → statement M
 run-case-spec =
@@ -66,12 +78,16 @@ run-case-spec =
     word-requires
     slice-aggregate-word-2
     word-requires-2
+    slice-aggregate-word-3
+    word-requires-3
+    add-size
+    returns-2
     large-buffer-requires
-    array-borrow-prefix-table
+    array-borrow-prefix-both
     slice-aggregate-read-full-2
     read-full-requires-2
-    returns-2
-    array-share-prefix-table
+    returns-3
+    array-share-prefix-both
     slice-aggregate-print-case
     print-case-requires
-    returns-3)
+    returns-4)

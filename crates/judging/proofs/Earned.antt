@@ -1,0 +1,164 @@
+-- What one pair of entries earns: from what is found of its ways, and by the paper's definition. Assumes nothing.
+use Prim.Native.Nat.{ℕ, zero, suc, _+_, _≤_, _<_, min}
+use native.Mathlib.Omega.{arith}
+use mathlib.Core.Path.{_≡_, refl, sym, _∙_, ap, ap₂}
+use mathlib.Core.Logic.{_⊎_, inl, inr, ⊎-elim}
+use mathlib.Core.Bool.{Bool, true, false, _&&_, _||_}
+use mathlib.Core.List.{List, [], _∷_, _++_, map}
+use lib.Dec.{eqb, leb}
+use lib.ListN.{getD, drop}
+use borrow.Author.Tests.{eqb-true, eq-eqb, ne-eqb, leb-true, le-leb}
+use Rattle.paper.specs.Lists.{Has, all, any, joinMap, count}
+use Rattle.paper.specs.Closeness.{Node, shared}
+use Rattle.paper.specs.Shapes.{Shape, way, side, path}
+use Rattle.paper.specs.Verdict
+use Rattle.paper.specs.Verdict.{kept, apart, unsure, isLeast, overPairs, meeting, edgeLevel, sureDown, meetsLeast, sure, pairFault}
+use Rattle.paper.proofs.Lists.{both, and, or-left, has-left, has-right, has-all, any-has, has-any, map-append}
+use Rattle.paper.proofs.Papers.{same-test}
+use Rattle.paper.proofs.Agree.{shared-sym}
+use Rattle.judging.specs.Pairs.{lowest, levelsOn, sureOn, earned, fault}
+
+-- a pair's verdict by whether its types meet at the least level and whether some edge of that level is sure
+abbrev verdictBy : ℕ → ℕ → Bool → Bool → Verdict.Verdict
+verdictBy e f t u = elim t [ true ↦ elim u [ true ↦ kept | false ↦ unsure e f ] | false ↦ apart e f ]
+
+module _ (edges : List ℕ) (full : List Bool) (m e f : ℕ) (a b : List ℕ) where
+  -- ---- from what is found: what the ways share, the least level of one way's edges, then of both
+  module _ (k d l : ℕ) (qk : k ≡ shared a b) (qd : d ≡ lowest 255 (levelsOn edges (drop k a))) (ql : l ≡ lowest d (levelsOn edges (drop k b))) where
+    earned-by : (t w : Bool) → eqb l m ≡ t → sureOn edges full m (drop k a) || sureOn edges full m (drop k b) ≡ w
+        → verdictBy e f t w ≡ earned edges full m e f a b
+    earned-by t w qt qw = rw (← qt, ← qw, ql, qd, qk) refl
+
+    -- the least level is another than that at which the types meet
+    pub earned-apart : (l ≡ m → ⊥) → apart e f ≡ earned edges full m e f a b
+    earned-apart ne = earned-by false (sureOn edges full m (drop k a) || sureOn edges full m (drop k b)) (ne-eqb l m ne) refl
+
+    module _ (meets : l ≡ m) (u : Bool) (qu : u ≡ sureOn edges full m (drop k a)) where
+      -- one way is sure
+      pub earned-down : u ≡ true → kept ≡ earned edges full m e f a b
+      earned-down h = earned-by true true (eq-eqb l m meets) (or-left (sureOn edges full m (drop k b)) (sym qu ∙ h))
+
+      module _ (lost : u ≡ false) (v : Bool) (qv : v ≡ sureOn edges full m (drop k b)) where
+        earned-up : (w : Bool) → v ≡ w → verdictBy e f true w ≡ earned edges full m e f a b
+        earned-up w h = earned-by true w (eq-eqb l m meets) (ap₂ (λ x y. x || y) (sym qu ∙ lost) (sym qv ∙ h))
+
+        -- only the other way is sure
+        pub earned-kept : v ≡ true → kept ≡ earned edges full m e f a b
+        earned-kept = earned-up true
+
+        -- no way is sure
+        pub earned-unsure : v ≡ false → unsure e f ≡ earned edges full m e f a b
+        earned-unsure = earned-up false
+
+-- ---- the least level
+lowest-le : (b : ℕ) (xs : List ℕ) → lowest b xs ≤ b
+lowest-le b [] = omega arith
+lowest-le b (x ∷ xs) = omega (arith, lowest-le (min b x) xs)
+
+lowest-has : (b x : ℕ) (xs : List ℕ) → Has x xs → lowest b xs ≤ x
+lowest-has b x [] h = absurd h
+lowest-has b x (y ∷ xs) (inl q) = omega (arith, lowest-le (min b y) xs)
+lowest-has b x (y ∷ xs) (inr h) = lowest-has (min b y) x xs h
+
+lowest-ge : (m b : ℕ) (xs : List ℕ) → m ≤ b → all (leb m) xs ≡ true → m ≤ lowest b xs
+lowest-ge m b [] le h = le
+lowest-ge m b (x ∷ xs) le h =
+    let r = both (leb m x) (all (leb m) xs) h in
+    let lx : m ≤ x = leb-true m x (r .0) in
+    lowest-ge m (min b x) xs (omega arith) (r .1)
+
+-- the least is b or one of the list
+lowest-reached : (b : ℕ) (xs : List ℕ) → (lowest b xs ≡ b) ⊎ Has (lowest b xs) xs
+lowest-reached b [] = inl refl
+lowest-reached b (x ∷ xs) = ⊎-elim (λ q. go (leb b x) refl q) (λ h. inr (inr h)) (lowest-reached (min b x) xs)
+  where
+    go : (t : Bool) → leb b x ≡ t → lowest (min b x) xs ≡ min b x → (lowest (min b x) xs ≡ b) ⊎ Has (lowest (min b x) xs) (x ∷ xs)
+    go true e q = let le = leb-true b x e in inl (omega arith)
+    go false e q = let lt = borrow.Author.Tests.leb-false b x e in inr (inl (omega arith))
+
+-- m is the least, as it is below b
+lowest-least : (m b : ℕ) (xs : List ℕ) → m < b → eqb (lowest b xs) m ≡ isLeast m xs
+lowest-least m b xs lt = same-test (eqb (lowest b xs) m) (isLeast m xs) there back
+  where
+    there : eqb (lowest b xs) m ≡ true → isLeast m xs ≡ true
+    there h =
+        let q : lowest b xs ≡ m = eqb-true (lowest b xs) m h in
+        and (⊎-elim (λ r. let z : ⊥ = omega arith in absurd z) (λ i. has-any (eqb m) (lowest b xs) xs i (eq-eqb m (lowest b xs) (sym q))) (lowest-reached b xs))
+        (has-all (leb m) xs (λ x i. le-leb m x (omega (arith, lowest-has b x xs i))))
+
+    back : isLeast m xs ≡ true → eqb (lowest b xs) m ≡ true
+    back h =
+        let (a, l) = both (any (eqb m) xs) (all (leb m) xs) h in
+        let (x, i, q) = any-has (eqb m) xs a in
+        eq-eqb (lowest b xs) m (omega (arith, lowest-has b x xs i, eqb-true m x q, lowest-ge m b xs (omega arith) l))
+
+lowest-append : (b : ℕ) (xs ys : List ℕ) → lowest (lowest b xs) ys ≡ lowest b (xs ++ ys)
+lowest-append b [] ys = refl
+lowest-append b (x ∷ xs) ys = lowest-append (min b x) xs ys
+
+-- ---- by the paper's definition
+fault-by : (e f : ℕ) (w u : Bool)
+    → fault (verdictBy e f w u) ≡ elim w [ false ↦ apart e f ∷ [] | true ↦ elim u [ true ↦ [] | false ↦ unsure e f ∷ [] ] ]
+fault-by e f true true = refl
+fault-by e f true false = refl
+fault-by e f false u = refl
+
+module _ (t : List Node) (s : Shape) (edges : List ℕ) (full : List Bool) where
+  -- the array has the levels of these edges
+  abbrev pub Levels : List ℕ → Type 0
+  Levels cs = (c : ℕ) → Has c cs → getD edges c 0 ≡ edgeLevel t s c
+
+  -- the array says of these edges whether they are full
+  abbrev pub Fulls : List ℕ → Type 0
+  Fulls cs = (c : ℕ) → Has c cs → getD full c false ≡ Verdict.full t s c
+
+  levels-same : (cs : List ℕ) → Levels cs → levelsOn edges cs ≡ map (edgeLevel t s) cs
+  levels-same [] h = refl
+  levels-same (c ∷ cs) h = ap₂ {C = List ℕ} (λ x xs. x ∷ xs) (h c (inl refl)) (levels-same cs (λ d i. h d (inr i)))
+
+  sure-same : (l : ℕ) (cs : List ℕ) → Levels cs → Fulls cs → sureOn edges full l cs ≡ sureDown t s l cs
+  sure-same l [] h k = refl
+  sure-same l (c ∷ cs) h k =
+      ap₂ (λ x y. eqb x l || y) (h c (inl refl)) (ap₂ (λ x y. x && y) (k c (inl refl)) (sure-same l cs (λ d i. h d (inr i)) (λ d i. k d (inr i))))
+
+  module _ (e f m : ℕ) (meets : m ≡ meeting t s e f) (low : m < 255) (levels : Levels (path s e f)) (fulls : Fulls (path s e f)) where
+    -- the edges on the way to f from the fork on
+    up-is : drop (shared (way s e) (way s f)) (way s f) ≡ side s f e
+    up-is = ap (λ k. drop k (way s f)) (shared-sym (way s e) (way s f))
+
+    least-is : eqb (lowest (lowest 255 (levelsOn edges (side s e f))) (levelsOn edges (side s f e))) m ≡ meetsLeast t s e f
+    unfolding meetsLeast
+    least-is =
+        ap (λ x. eqb x m) (lowest-append 255 (levelsOn edges (side s e f)) (levelsOn edges (side s f e))
+        ∙ ap (lowest 255) (sym (map-append (λ c. getD edges c 0) (side s e f) (side s f e)) ∙ levels-same (path s e f) levels))
+        ∙ lowest-least m 255 (map (edgeLevel t s) (path s e f)) low ∙ ap (λ x. isLeast x (map (edgeLevel t s) (path s e f))) meets
+
+    sure-is : sureOn edges full m (side s e f) || sureOn edges full m (side s f e) ≡ sure t s e f
+    unfolding sure
+    sure-is =
+        ap₂ (λ x y. x || y)
+        (sure-same m (side s e f) (λ c h. levels c (has-left c (side s e f) (side s f e) h)) (λ c h. fulls c (has-left c (side s e f) (side s f e) h)))
+        (sure-same m (side s f e) (λ c h. levels c (has-right c (side s e f) (side s f e) h)) (λ c h. fulls c (has-right c (side s e f) (side s f e) h)))
+        ∙ ap (λ x. sureDown t s x (side s e f) || sureDown t s x (side s f e)) meets
+
+    -- a pair earns what the paper says
+    pub earned-fault : fault (earned edges full m e f (way s e) (way s f)) ≡ pairFault t s e f
+    unfolding pairFault
+    earned-fault =
+        ap (λ u. fault (verdictBy e f (eqb (lowest (lowest 255 (levelsOn edges (side s e f))) (levelsOn edges u)) m)
+        (sureOn edges full m (side s e f) || sureOn edges full m u))) up-is
+        ∙ ap₂ (λ w u. fault (verdictBy e f w u)) least-is sure-is ∙ fault-by e f (meetsLeast t s e f) (sure t s e f)
+
+-- ---- all pairs
+joins-same : (g h : ℕ → List Verdict.Verdict) (i n : ℕ) → ((f : ℕ) → i ≤ f → f < i + n → g f ≡ h f) → joinMap g (count i n) ≡ joinMap h (count i n)
+joins-same g h i zero q = refl
+joins-same g h i (suc n) q =
+    ap₂ (λ x y. x ++ y) (q i (omega arith) (omega arith)) (joins-same g h (suc i) n (λ f le lt. q f (omega arith) (omega arith)))
+
+-- what the pairs give is the same where each pair gives the same
+pub faults-same : (g h : ℕ → ℕ → List Verdict.Verdict) (i n : ℕ) → ((e f : ℕ) → i ≤ e → e < f → f < i + n → g e f ≡ h e f)
+    → overPairs g (count i n) ≡ overPairs h (count i n)
+faults-same g h i zero q = refl
+faults-same g h i (suc n) q =
+    ap₂ (λ x y. x ++ y) (joins-same (g i) (h i) (suc i) n (λ f le lt. q i f (omega arith) (omega arith) (omega arith)))
+    (faults-same g h (suc i) n (λ e f le ef lt. q e f (omega arith) ef (omega arith)))

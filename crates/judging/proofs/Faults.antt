@@ -1,0 +1,95 @@
+-- The walk over the pairs of entries to the first that earns a 2 or a 3. Assumes nothing.
+use Prim.Native.Nat.{ℕ, suc, _+_, _-_, _≤_, _<_}
+use native.Mathlib.Numerals.{add-one}
+use native.Mathlib.Omega.{arith}
+use mathlib.Core.Path.{_≡_, refl, sym, _∙_, ap}
+use mathlib.Core.Logic.{⊎-elim}
+use mathlib.Core.Bool.{Bool}
+use mathlib.Core.List.{List, [], _∷_, _++_}
+use Rattle.paper.specs.Lists.{firstOr, joinMap, count}
+use Rattle.paper.specs.Verdict
+use Rattle.paper.specs.Verdict.{kept, overPairs}
+use types.Run.{OneOf}
+use denote.Enum.Declared.{tagOf}
+use Rattle.judging.specs.Pairs.{wayOf, earned, fault}
+use Rattle.shapes.specs.Edges.{meetingOf}
+use Rattle.judging.specs.Told.{told}
+use Rattle.judging.specs.declared.verdict.Verdict.{Verdict}
+use Rattle.judging.specs.declared.verdict.Verdict.the-variants.{Kept, Missing, Apart, Unsure}
+use Rattle.judging.proofs.verdict.Verdict.{the-type}
+
+-- ---- counting on
+count-from : (i n : ℕ) → i < n → count i (n - i) ≡ i ∷ count (i + 1) (n - (i + 1))
+count-from i n lt =
+    let q : n - i ≡ suc (n - (i + 1)) = omega arith in
+    ap (count i) q ∙ ap (λ j. i ∷ count j (n - (i + 1))) (sym (add-one i))
+
+count-done : (i n : ℕ) → n ≤ i → count i (n - i) ≡ []
+count-done i n le = let q : n - i ≡ 0 = omega arith in ap (count i) q
+
+-- ---- the walk
+module _ (g : ℕ → ℕ → List Verdict.Verdict) (n : ℕ) where
+  -- the first fault of all pairs
+  abbrev pub first : Verdict.Verdict
+  first = firstOr kept (overPairs g (count 0 n))
+
+  -- it is the first fault from entry e on
+  abbrev pub Outer : ℕ → Type 0
+  Outer e = firstOr kept (overPairs g (count e (n - e))) ≡ first
+
+  -- it is the first fault of entry e with f and those after it, then of the entries after e
+  abbrev pub Inner : ℕ → ℕ → Type 0
+  Inner e f = firstOr kept (joinMap (g e) (count f (n - f)) ++ overPairs g (count (e + 1) (n - (e + 1)))) ≡ first
+
+  pub outer-start : Outer 0
+  outer-start = let q : n - 0 ≡ n = omega arith in ap (λ k. firstOr kept (overPairs g (count 0 k))) q
+
+  pub inner-start : (e : ℕ) → e < n → Outer e → Inner e (e + 1)
+  inner-start e lt o = ap (λ c. firstOr kept (overPairs g c)) (sym (count-from e n lt)) ∙ o
+
+  module _ (e f : ℕ) (i : Inner e f) where
+    module _ (lt : f < n) where
+      later : List Verdict.Verdict
+      later = joinMap (g e) (count (f + 1) (n - (f + 1)))
+
+      next : (l : List Verdict.Verdict) → g e f ≡ l → firstOr kept ((l ++ later) ++ overPairs g (count (e + 1) (n - (e + 1)))) ≡ first
+      unfolding later
+      next l q =
+          ap (λ k. firstOr kept ((k ++ later) ++ overPairs g (count (e + 1) (n - (e + 1))))) (sym q)
+          ∙ ap (λ c. firstOr kept (joinMap (g e) c ++ overPairs g (count (e + 1) (n - (e + 1))))) (sym (count-from f n lt)) ∙ i
+
+      pub inner-step : g e f ≡ [] → Inner e (f + 1)
+      unfolding later
+      inner-step q = next [] q
+
+      pub inner-found : (v : Verdict.Verdict) → g e f ≡ v ∷ [] → v ≡ first
+      inner-found v q = next (v ∷ []) q
+
+    pub inner-end : n ≤ f → Outer (e + 1)
+    inner-end past = ap (λ c. firstOr kept (joinMap (g e) c ++ overPairs g (count (e + 1) (n - (e + 1))))) (sym (count-done f n past)) ∙ i
+
+  pub outer-end : (e : ℕ) → n ≤ e → Outer e → kept ≡ first
+  outer-end e past o = ap (λ c. firstOr kept (overPairs g c)) (sym (count-done e n past)) ∙ o
+
+-- ---- one pair
+-- what each pair of entries earns, where it is a fault
+abbrev pub faultsOf : List ℕ → List ℕ → List ℕ → List Bool → List ℕ → List ℕ → ℕ → ℕ → List Verdict.Verdict
+faultsOf levels ways edges full meetings kinds e f =
+    fault (earned edges full (meetingOf meetings kinds e f) e f (wayOf levels ways e) (wayOf levels ways f))
+
+module _ (levels ways edges : List ℕ) (full : List Bool) (meetings kinds : List ℕ) (e f m : ℕ) (qm : m ≡ meetingOf meetings kinds e f) (v : Verdict)
+    (qv : told v ≡ earned edges full m e f (wayOf levels ways e) (wayOf levels ways f)) where
+  faults-told : faultsOf levels ways edges full meetings kinds e f ≡ fault (told v)
+  faults-told = ap (λ m. fault (earned edges full m e f (wayOf levels ways e) (wayOf levels ways f))) (sym qm) ∙ ap fault (sym qv)
+
+  pub faults-none : v ≡ Kept → faultsOf levels ways edges full meetings kinds e f ≡ []
+  faults-none q = faults-told ∙ ap (λ v. fault (told v)) q
+
+  pub faults-one : OneOf (1 ∷ 2 ∷ 3 ∷ []) (tagOf the-type v) → faultsOf levels ways edges full meetings kinds e f ≡ told v ∷ []
+  faults-one h = faults-told ∙ one v h
+    where
+      one : (v : Verdict) → OneOf (1 ∷ 2 ∷ 3 ∷ []) (tagOf the-type v) → fault (told v) ≡ told v ∷ []
+      one Kept h = ⊎-elim (λ x. absurd (omega arith)) (⊎-elim (λ x. absurd (omega arith)) (λ x. absurd (omega arith))) h
+      one (Missing e r) h = refl
+      one (Apart e f) h = refl
+      one (Unsure e f) h = refl

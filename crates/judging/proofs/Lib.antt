@@ -1,0 +1,9 @@
+pub mod Runs
+pub mod Partners
+pub mod Search
+pub mod Found
+pub mod Ways
+pub mod Earned
+pub mod Faults
+pub mod Whole
+pub mod Unique

@@ -1,0 +1,34 @@
+-- Any two answers that judging's contract allows are equal. Assumes nothing.
+use Prim.Native.Nat.{ℕ, zero, suc}
+use mathlib.Core.Path.{_≡_, refl, sym, _∙_, ap}
+use mathlib.Core.List.{List}
+use lib.ListN.{getD}
+use Rattle.paper.specs.Format.{base}
+use Rattle.paper.specs.Calls.{Reply, judge}
+use Rattle.judging.specs.Told.{numbersOf}
+use Rattle.judging.specs.Judged.{judged, inNumbers}
+use Rattle.judging.specs.declared.verdict.Verdict.{Verdict}
+use Rattle.judging.specs.declared.verdict.Verdict.the-variants.{Kept, Missing, Apart, Unsure}
+use Rattle.judging.specs.declared.judge.Judged.{Judged}
+
+-- the verdict with this number and these values
+abbrev verdictOf : ℕ → ℕ → ℕ → Verdict
+verdictOf zero a b = Kept
+verdictOf (suc zero) a b = Missing a b
+verdictOf (suc (suc zero)) a b = Apart a b
+verdictOf (suc (suc (suc n))) a b = Unsure a b
+
+abbrev fromNumbers : List ℕ → Verdict
+fromNumbers l = verdictOf (getD l 0 0) (getD l 1 0) (getD l 2 0)
+
+of-numbers : (v : Verdict) → fromNumbers (numbersOf v) ≡ v
+of-numbers Kept = refl
+of-numbers (Missing e r) = refl
+of-numbers (Apart e f) = refl
+of-numbers (Unsure e f) = refl
+
+pub judge-unique : (t s : List ℕ) (a b : Judged) → judged a ≡ inNumbers (judge base t s) → judged b ≡ inNumbers (judge base t s) → a ≡ b
+judge-unique t s a b p q =
+    let e : judged a ≡ judged b = p ∙ sym q in
+    let v : a .verdict ≡ b .verdict = sym (of-numbers (a .verdict)) ∙ ap (λ (x : Reply (List ℕ)). fromNumbers (x .rest)) e ∙ of-numbers (b .verdict) in
+    λ i. record { number = ap (λ (x : Reply (List ℕ)). x .number) e i; place = ap (λ (x : Reply (List ℕ)). x .place) e i; verdict = v i }

@@ -1,0 +1,15 @@
+pub mod Entries
+pub mod Kept
+pub mod Breaks
+pub mod Told
+pub mod Down
+pub mod Numbers
+pub mod Places
+pub mod Fields
+pub mod Reading
+pub mod Examined
+pub mod Tested
+pub mod Prepared
+pub mod Filled
+pub mod Inside
+pub mod Levelled

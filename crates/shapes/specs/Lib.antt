@@ -1,0 +1,4 @@
+pub mod Kinds
+pub mod Ways
+pub mod Work
+pub mod Edges

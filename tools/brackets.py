@@ -1,0 +1,44 @@
+"""Tables and shapes written by hand, in brackets or entry by entry. Used by the tools that make the cases of a program."""
+import re
+
+import cases
+
+
+def shape(*entries):
+    """Entries given as (level, type)."""
+    return b"".join(cases.entry_bytes(l, k) for l, k in entries)
+
+
+def with_byte(data, at, value):
+    return data[:at] + bytes([value]) + data[at + 1:]
+
+
+def nested(text):
+    """The rows of a forest of labels, each with its children in brackets behind it: 1[2 3[4]] has 1:1, 1.1:2, 1.2:3 and 1.2.1:4."""
+    rows, at = [], [0]
+    for word in re.findall(r"\d+|\[|\]", text):
+        if word == "[":
+            at.append(0)
+        elif word == "]":
+            at.pop()
+        else:
+            at[-1] += 1
+            rows.append((tuple(at), int(word)))
+    return rows
+
+
+def wanted(text, rows):
+    """A shape in brackets, in which a label stands for the one type that ends with it, or, where there is none, for itself alone."""
+    kinds = cases.types(rows)
+    ending = {k[-1]: k for k in kinds}
+    assert len(ending) == len(kinds), "two types end with one label"
+    return shape(*((len(d), ending.get(l, (l,))) for d, l in nested(text)))
+
+
+def children(n):
+    """Row by row, n types: a root and its children, each with a label of its own."""
+    return [((1,), 1)] + [((1, i), i) for i in range(1, n)]
+
+
+CHAIN = "1[2[3[4[5[6]]]]]"
+A = "1[2[3[4 4] 3[4]] 2[3]]"
