@@ -1,0 +1,12 @@
+pub mod Writing
+pub mod Line
+pub mod Trees
+pub mod Beneath
+pub mod Counting
+pub mod Walk
+pub mod Roots
+pub mod Under
+pub mod Width
+pub mod Going
+pub mod Walking
+pub mod Tops

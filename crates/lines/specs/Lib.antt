@@ -1,0 +1,4 @@
+pub mod Put
+pub mod Lines
+pub mod Tally
+pub mod Write

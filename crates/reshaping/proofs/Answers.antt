@@ -1,0 +1,100 @@
+-- What reshaping and summarising answer, refusal by refusal. Assumes nothing.
+use Prim.Native.Nat.{ℕ, _+_, _*_, _≤_, _<_}
+use mathlib.Core.Path.{_≡_, refl, sym, _∙_, ap, ap₂}
+use mathlib.Core.Bool.{Bool, true, false}
+use mathlib.Core.List.{List, [], _∷_, _++_, map}
+use mathlib.Core.Option.{Option, none}
+use lib.Dec.{ltb}
+use lib.ListN.{length, drop, length-map}
+use borrow.Author.Tests.{lt-ltb, le-ltb}
+use Rattle.paper.specs.Format.{base, mostLines}
+use Rattle.paper.specs.Tables.{rows, badRow}
+use Rattle.paper.specs.Closeness.{Node, nodes}
+use Rattle.paper.specs.Shapes.{Shape}
+use Rattle.paper.specs.NewTable.{Line, lines, lineRow, newTable, sourceList, entryUnit}
+use Rattle.paper.specs.Calls.{Answer, Work, refused, given, _>>=_, refuse, refuseAt, reply, after, Reply, tests1-7, test8, roomIn, reshaping, Reshaping, reshape, Figures, figures, noFigures, summarise}
+use Rattle.paper.proofs.Promises.{written-kept}
+use Rattle.shapes.specs.Work.{Prepared, shapeIn}
+use Rattle.shapes.specs.declared.work.Work
+
+module _ {t s : List ℕ} {w : Work.Work} (p : Prepared t s w) where
+  abbrev ns : List Node
+  ns = nodes (rows base t)
+
+  abbrev sh : Shape
+  sh = shapeIn base t s
+
+  abbrev ls : List Line
+  ls = lines ns sh 6
+
+  abbrev work : Work
+  work = record { rows = rows base t; nodes = ns; shape = sh }
+
+  abbrev counted : Work → Answer Figures
+  counted x = test8 base x mostLines >>= (λ l. given (figures x l))
+
+  module _ (table sources : List ℕ) where
+    -- what a reshape leaves, once it is known what it gives
+    abbrev from : Answer (List ℕ × List ℕ) → Reshaping
+    from a = record {
+      reply = reply 0 (a >>= (λ (x : List ℕ × List ℕ). given (length (x .1))));
+      table = after table (a >>= (λ (x : List ℕ × List ℕ). given (x .0)));
+      sources = after sources (a >>= (λ (x : List ℕ × List ℕ). given (x .1)));
+    }
+
+    -- the tests after 7, and what is written
+    abbrev written : List Line → Answer (List ℕ × List ℕ)
+    written l = refuseAt 9 (badRow base (map (lineRow base sh (rows base t)) l)) >>= (λ _. given (newTable base sh (rows base t) l, sourceList l))
+
+    abbrev rest : Work → Answer (List ℕ × List ℕ)
+    rest x =
+        test8 base x (roomIn base table sources)
+        >>= (λ (l : List Line). refuseAt 9 (badRow base (map (lineRow base (x .shape) (x .rows)) l)) >>= (λ _. given (newTable base (x .shape) (x .rows) l, sourceList l)))
+
+    pub reshape-refused : (w .number ≡ 0 → ⊥) → reshape base t s table sources ≡ record { reply = record { number = w .number; place = w .place; rest = 0 }; table = table; sources = sources }
+    unfolding reshape reshaping
+    reshape-refused ne = ap (λ a. from (a >>= rest)) (p .refused-is ne)
+
+    module _ (z : w .number ≡ 0) where
+      same : reshape base t s table sources ≡ from (rest work)
+      unfolding reshape reshaping
+      same = ap (λ a. from (a >>= rest)) (p .given-is z)
+
+      -- 8: more lines than there is room for
+      pub reshape-full : roomIn base table sources < length (lines (nodes (rows base t)) (shapeIn base t s) 6)
+          → reshape base t s table sources ≡ record { reply = record { number = 8; place = 0; rest = 0 }; table = table; sources = sources }
+      unfolding test8 base
+      reshape-full lt = same ∙ ap (λ b. from (refuse 8 b >>= (λ _. given ls) >>= written)) (lt-ltb (roomIn base table sources) (length ls) lt)
+
+      pub reshape-given : length (lines (nodes (rows base t)) (shapeIn base t s) 6) ≤ roomIn base table sources
+          → let new = newTable base (shapeIn base t s) (rows base t) (lines (nodes (rows base t)) (shapeIn base t s) 6) in
+          let list = sourceList (lines (nodes (rows base t)) (shapeIn base t s) 6) in
+          reshape base t s table sources ≡ record {
+            reply = record { number = 0; place = 0; rest = length (lines (nodes (rows base t)) (shapeIn base t s) 6) };
+            table = new ++ drop (length new) table;
+            sources = list ++ drop (length list) sources;
+          }
+      unfolding test8 base sourceList
+      reshape-given le =
+          same ∙ ap (λ b. from (refuse 8 b >>= (λ _. given ls) >>= written)) (le-ltb (roomIn base table sources) (length ls) le)
+          ∙ ap (λ o. from (refuseAt 9 o >>= (λ _. given (newTable base sh (rows base t) ls, sourceList ls)))) (written-kept base t s work (p .given-is z))
+          ∙ ap {B = Reshaping} (λ n. record { reply = record { number = 0; place = 0; rest = n }; table = newTable base sh (rows base t) ls ++ drop (length (newTable base sh (rows base t) ls)) table; sources = sourceList ls ++ drop (length (sourceList ls)) sources }) (length-map ls (λ (l : Line). l .entry * entryUnit + l .source .place))
+
+  -- ---- summarising
+  pub summary-refused : (w .number ≡ 0 → ⊥) → summarise base t s ≡ record { number = w .number; place = w .place; rest = noFigures }
+  unfolding summarise
+  summary-refused ne = ap (λ a. reply noFigures (a >>= counted)) (p .refused-is ne)
+
+  module _ (z : w .number ≡ 0) where
+    pub summary-full : mostLines < length (lines (nodes (rows base t)) (shapeIn base t s) 6) → summarise base t s ≡ record { number = 8; place = 0; rest = noFigures }
+    unfolding summarise test8 base
+    summary-full lt =
+        ap (λ a. reply noFigures (a >>= counted)) (p .given-is z)
+        ∙ ap (λ b. reply noFigures (refuse 8 b >>= (λ _. given ls) >>= (λ l. given (figures work l)))) (lt-ltb mostLines (length ls) lt)
+
+    pub summary-given : length (lines (nodes (rows base t)) (shapeIn base t s) 6) ≤ mostLines
+        → summarise base t s ≡ record { number = 0; place = 0; rest = figures (record { rows = rows base t; nodes = nodes (rows base t); shape = shapeIn base t s }) (lines (nodes (rows base t)) (shapeIn base t s) 6) }
+    unfolding summarise test8 base
+    summary-given le =
+        ap (λ a. reply noFigures (a >>= counted)) (p .given-is z)
+        ∙ ap (λ b. reply noFigures (refuse 8 b >>= (λ _. given ls) >>= (λ l. given (figures work l)))) (le-ltb mostLines (length ls) le)

@@ -1,0 +1,8 @@
+pub mod Children
+pub mod Paper
+pub mod Answers
+pub mod Figured
+pub mod Padded
+pub mod Ready
+pub mod Lent
+pub mod Unique

@@ -1,0 +1,133 @@
+-- The lines that are read off the arrays are the paper's. Assumes nothing.
+use Prim.Native.Nat.{ℕ, zero, suc, _+_, _*_, _-_, _≤_, _<_, pred}
+use native.Mathlib.Nat.{not-suc-le-zero, le-of-suc-le-suc}
+use native.Mathlib.Omega.{arith}
+use mathlib.Core.Path.{_≡_, refl, sym, _∙_, ap, ap₂, subst}
+use mathlib.Core.Logic.{inl, inr}
+use mathlib.Core.Bool.{Bool, true, false}
+use mathlib.Core.List.{List, [], _∷_, _++_, map, map-map}
+use lib.Dec.{eqb}
+use lib.ListN.{length, getD, take, drop, replicate, length-append, length-map}
+use lib.Seq.{take-take}
+use Rattle.paper.specs.Lists.{Has, keep, joined, joinMap, count, padded}
+use Rattle.paper.specs.Format.{Format, base, bytes}
+use Rattle.paper.specs.Tables.{Row, rows, rowBack}
+use Rattle.paper.specs.Closeness.{Node, nodes, ofKind, closestOf}
+use Rattle.paper.specs.Shapes.{Shape, kind, children}
+use Rattle.paper.specs.NewTable.{Line, forest, tree, beneath, tops, lines, lineRow, newTable, sourceList, entryUnit}
+use Rattle.paper.proofs.Lists.{join-has, map-has, keep-has, count-has, joined-map}
+use Rattle.paper.proofs.Verdict.{listed-child}
+use Rattle.shapes.specs.Work.{Prepared, shapeIn}
+use Rattle.shapes.specs.declared.work.Work.{Work}
+use Rattle.shapes.proofs.Levelled.{held, ways-are, some-entry}
+use Rattle.lines.specs.Put.{lineOf, lineBytes}
+use Rattle.lines.specs.Lines.{childrenOf, under, roots, treeOf, entriesOf, linesOf, allEntries, bytesOf, sourcesOf}
+use Rattle.lines.proofs.Trees.{forest-good, all-good, map-forest}
+use Rattle.reshaping.proofs.Children.{children-are}
+
+-- ---- lists
+map-same : {A B : Type 0} (f g : A → B) (xs : List A) → ((x : A) → Has x xs → f x ≡ g x) → map f xs ≡ map g xs
+map-same f g [] h = refl
+map-same {B = B} f g (x ∷ xs) h = ap₂ {C = List B} (λ y l. y ∷ l) (h x (inl refl)) (map-same f g xs (λ y q. h y (inr q)))
+
+join-same : {A B : Type 0} (f g : A → List B) (xs : List A) → ((x : A) → Has x xs → f x ≡ g x) → joinMap f xs ≡ joinMap g xs
+join-same f g [] h = refl
+join-same {B = B} f g (x ∷ xs) h = ap₂ {C = List B} (λ y l. y ++ l) (h x (inl refl)) (join-same f g xs (λ y q. h y (inr q)))
+
+join-map : {A B C : Type 0} (f : B → List C) (g : A → B) (xs : List A) → joinMap f (map g xs) ≡ joinMap (λ x. f (g x)) xs
+join-map f g [] = refl
+join-map f g (x ∷ xs) = ap (λ l. f (g x) ++ l) (join-map f g xs)
+
+-- a list with zeros behind it, cut sooner
+zeros-cut : (m n k : ℕ) (d : List ℕ) → m ≤ n → m ≤ k → take m (d ++ replicate n 0) ≡ take m (d ++ replicate k 0)
+zeros-cut zero n k d a b = refl
+zeros-cut (suc m) zero k [] a b = absurd (not-suc-le-zero a)
+zeros-cut (suc m) (suc n) zero [] a b = absurd (not-suc-le-zero b)
+zeros-cut (suc m) (suc n) (suc k) [] a b = ap {B = List ℕ} (λ l. 0 ∷ l) (zeros-cut m n k [] (le-of-suc-le-suc a) (le-of-suc-le-suc b))
+zeros-cut (suc m) n k (x ∷ d) a b = ap {B = List ℕ} (λ l. x ∷ l) (zeros-cut m n k d (omega arith) (omega arith))
+
+padded-cut : (m n : ℕ) (d : List ℕ) → m ≤ n → take m (padded n d) ≡ padded m d
+padded-cut m n d le = take-take m n (d ++ replicate n 0) le ∙ zeros-cut m n m d le (omega arith)
+
+-- the entries of the lines, whatever their numbers
+entries-of : (t : List Node) (n : ℕ) (kinds parents : List ℕ) (left : ℕ) (x : ℕ × Node) (d : List ℕ)
+    → map (λ (y : (ℕ × Node) × List ℕ). y .0 .0) (treeOf t n kinds parents left x d) ≡ entriesOf t n kinds parents left x
+entries-of t n kinds parents zero x d = refl
+entries-of t n kinds parents (suc left) x d =
+    ap {B = List ℕ} (λ l. x .0 ∷ l)
+    (map-forest (λ (y : (ℕ × Node) × List ℕ). y .0 .0) (treeOf t n kinds parents left) (entriesOf t n kinds parents left) d 1 (joined (under t n kinds parents x)) (entries-of t n kinds parents left))
+
+pub all-entries : (t : List Node) (n : ℕ) (kinds parents : List ℕ) (left : ℕ)
+    → map (λ (y : (ℕ × Node) × List ℕ). y .0 .0) (linesOf t n kinds parents left) ≡ allEntries t n kinds parents left
+all-entries t n kinds parents left =
+    map-forest (λ (y : (ℕ × Node) × List ℕ). y .0 .0) (treeOf t n kinds parents left) (entriesOf t n kinds parents left) [] 1 (roots t n kinds parents) (entries-of t n kinds parents left)
+
+module _ {t sb : List ℕ} {w : Work} (p : Prepared t sb w) (z : w .number ≡ 0) where
+  abbrev ns : List Node
+  ns = nodes (rows base t)
+
+  abbrev sh : Shape
+  sh = shapeIn base t sb
+
+  abbrev Good : ℕ × Node → Type 0
+  Good x = x .0 < w .entries
+
+  under-is : (x : ℕ × Node) → Good x → under ns (w .entries) (w .kinds) (w .parents) x ≡ beneath ns sh x
+  unfolding beneath
+  under-is x lt =
+      ap (map (λ c. map (λ (r : Node). (c, r)) (closestOf ns (x .1) (getD (w .kinds) c 0)))) (children-are p z (x .0) lt)
+      ∙ map-same _ _ (children sh (x .0)) (λ c h.
+      let lc = listed-child sh (ways-are p z) (x .0) c h .0 in
+      ap (λ k. map {B = ℕ × Node} (λ (r : Node). (c, r)) (closestOf ns (x .1) k)) (held p z .kind-is c (omega (arith, lc, held p z .counted))))
+
+  stay : (x : ℕ × Node) → Good x → (y : ℕ × Node) → Has y (joined (under ns (w .entries) (w .kinds) (w .parents) x)) → Good y
+  stay x lt y h =
+      let cs = childrenOf ns (w .entries) (w .kinds) (w .parents) (x .0) in
+      let g : ℕ → List (ℕ × Node) = λ c. map (λ (r : Node). (c, r)) (closestOf ns (x .1) (getD (w .kinds) c 0)) in
+      let (c, hc, hy) = join-has g y cs (subst (λ l. Has y l) (joined-map g cs) h) in
+      let (r, hr, e) = map-has {B = ℕ × Node} (λ (r : Node). (c, r)) y (closestOf ns (x .1) (getD (w .kinds) c 0)) hy in
+      let b = count-has (x .0 + 1) (w .entries - (x .0 + 1)) c (keep-has (λ c. eqb (getD (w .parents) c 0) (x .0)) c (count (x .0 + 1) (w .entries - (x .0 + 1))) hc .0) in
+      omega (arith, ap (λ (q : ℕ × Node). q .0) e, b .1)
+
+  good-roots : (x : ℕ × Node) → Has x (roots ns (w .entries) (w .kinds) (w .parents)) → Good x
+  good-roots x h =
+      let (r, hr, e) = map-has {B = ℕ × Node} (λ (r : Node). (0, r)) x (ofKind ns (getD (w .kinds) 0 0)) h in
+      omega (arith, ap (λ (q : ℕ × Node). q .0) e, some-entry p z)
+
+  abbrev found : List ((ℕ × Node) × List ℕ)
+  found = linesOf ns (w .entries) (w .kinds) (w .parents) 5
+
+  abbrev toLine : (ℕ × Node) × List ℕ → Line
+  toLine x = record { entry = x .0 .0; source = x .0 .1; dewey = x .1 }
+
+  pub lines-are : map (λ (x : (ℕ × Node) × List ℕ). record { entry = x .0 .0; source = x .0 .1; dewey = x .1 }) (linesOf (nodes (rows base t)) (w .entries) (w .kinds) (w .parents) 5)
+      ≡ lines (nodes (rows base t)) (shapeIn base t sb) 6
+  unfolding lines tops
+  lines-are =
+      ap (map toLine) (forest-good Good (under ns (w .entries) (w .kinds) (w .parents)) (beneath ns sh) under-is stay 5 [] 1 (roots ns (w .entries) (w .kinds) (w .parents)) good-roots
+      ∙ ap (λ k. forest (tree (beneath ns sh) 5) [] 1 (map {B = ℕ × Node} (λ (r : Node). (0, r)) (ofKind ns k))) (held p z .kind-is 0 (some-entry p z)))
+
+  pub sources-are : sourcesOf (linesOf (nodes (rows base t)) (w .entries) (w .kinds) (w .parents) 5) ≡ sourceList (lines (nodes (rows base t)) (shapeIn base t sb) 6)
+  unfolding sourceList
+  sources-are = sym (map-map (λ (l : Line). l .entry * entryUnit + l .source .place) toLine found) ∙ ap sourceList lines-are
+
+  -- each line is of an entry of the shape
+  pub entry-small : (x : (ℕ × Node) × List ℕ) → Has x (linesOf (nodes (rows base t)) (w .entries) (w .kinds) (w .parents) 5) → x .0 .0 < w .entries
+  entry-small = all-good Good (under ns (w .entries) (w .kinds) (w .parents)) (beneath ns sh) under-is stay 5 [] 1 (roots ns (w .entries) (w .kinds) (w .parents)) good-roots
+
+  -- the record of a line
+  record-is : (x : (ℕ × Node) × List ℕ) → Has x found
+      → lineBytes base t (getD (w .levels) (x .0 .0) 0) (getD (w .labels) (x .0 .0) 0) (padded 8 (x .1)) (x .0 .1 .place) ≡ rowBack (lineRow base sh (rows base t) (toLine x))
+  unfolding lineOf lineRow base
+  record-is x h =
+      let lt = entry-small x h in
+      ap (λ l. rowBack (record { level = l; spare = 0; label = getD (w .labels) (x .0 .0) 0; components = take 6 (padded 8 (x .1)); value = getD (map (λ (x : Row). x .value) (rows base t)) (x .0 .1 .place) [] })) (held p z .level (x .0 .0) lt)
+      ∙ ap₂ (λ l c. rowBack (record { level = getD (sh .levels) (x .0 .0) 0; spare = 0; label = l; components = c; value = getD (map (λ (x : Row). x .value) (rows base t)) (x .0 .1 .place) [] })) (held p z .label (x .0 .0) lt) (padded-cut 6 8 (x .1) (omega arith))
+
+  pub bytes-are : bytesOf base t (w .levels) (w .labels) (linesOf (nodes (rows base t)) (w .entries) (w .kinds) (w .parents) 5) ≡ newTable base (shapeIn base t sb) (rows base t) (lines (nodes (rows base t)) (shapeIn base t sb) 6)
+  unfolding newTable
+  bytes-are =
+      join-same _ _ found record-is ∙ sym (join-map (λ l. rowBack (lineRow base sh (rows base t) l)) toLine found) ∙ ap (newTable base sh (rows base t)) lines-are
+
+  pub length-is : length (linesOf (nodes (rows base t)) (w .entries) (w .kinds) (w .parents) 5) ≡ length (lines (nodes (rows base t)) (shapeIn base t sb) 6)
+  length-is = sym (length-map found toLine) ∙ ap length lines-are
