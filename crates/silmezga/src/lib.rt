@@ -1,0 +1,66 @@
+// The six calls, each with its whole promise: document 01's order, its refusals, and what every lent byte, place and summary holds
+// afterwards. None asks anything of its caller: a call takes bytes of every kind and gives its answer, or a refusal with a number and a
+// place, and a refused call changes nothing that it was lent. The definitions that the promises name are those of `paper` (specs/Calls).
+pub use judging::judge::Judged;
+pub use judging::verdict::Verdict;
+pub use reshaping::reshape::Reshaped;
+pub use reshaping::summarise::Summary;
+pub use tables::table::Examined;
+pub use tables::table::Refusal;
+ghost use mathlib.Core.Path.{_≡_};
+ghost use Prim.Native.Nat.{_*_};
+ghost use lib.ListN.{take};
+ghost use Rattle.paper.specs.Format.{base, rowBytes};
+ghost use Rattle.paper.specs.Verdict.{kept};
+ghost use Rattle.paper.specs.Calls.{examine, lookUp, judge, reshape, summarise};
+ghost use Rattle.paper.specs.Links.{LinksKept};
+ghost use Rattle.tables.specs.Reply.{examined};
+ghost use Rattle.judging.specs.Judged.{judged, inNumbers};
+ghost use Rattle.reshaping.specs.Reshaped.{reshaped, summarised};
+
+// Examines a table: refusals 1 to 3, or the count of rows.
+pub fn examine(table: &[u8]) -> Examined
+    ensures { λ r. ⌜ examined r ≡ examine base (now (table .entry)) ⌝ }
+{
+    tables::table::examine(table)
+}
+
+// Looks up a row: its own 24 bytes of the caller's table; refused, an empty part.
+pub fn look_up(table: &[u8], row: usize) -> &[u8]
+    ensures { λ r. ⌜ now r ≡ lookUp base (now (table .entry)) row .rest ⌝ }
+{
+    tables::table::look_up(table, row)
+}
+
+// The number and place of a look-up: refusals 1 to 3, then 11.
+pub fn look_up_refusal(table: &[u8], row: usize) -> Refusal
+    ensures { λ r. ⌜ (r .number ≡ lookUp base (now (table .entry)) row .number) × (r .place ≡ lookUp base (now (table .entry)) row .place) ⌝ }
+{
+    tables::table::look_up_refusal(table, row)
+}
+
+// Judges a table and a shape: refusals 1 to 7, or the verdict.
+pub fn judge(table: &[u8], shape: &[u8]) -> Judged
+    ensures { λ r. ⌜ judged r ≡ inNumbers (judge base (now (table .entry)) (now (shape .entry))) ⌝ }
+{
+    judging::judge::judge(table, shape)
+}
+
+// Reshapes a table: refusals 1 to 8, or the new table and its source list, at the front of what was lent; what lies past them stays as it
+// was. The last clause is the buyer's demand: where the verdict on the same table and shape is 0, what the call leaves keeps the links
+// between records, none missing and none made up.
+pub fn reshape(table: &[u8], shape: &[u8], new: &mut [u8], sources: &mut [u32]) -> Reshaped
+    ensures { λ r. ⌜ reshaped r ≡ reshape base (now (table .entry)) (now (shape .entry)) (now (new .entry)) (now (sources .entry)) .reply ⌝ }
+    ensures { λ _. ⌜ now (new .exit) ≡ reshape base (now (table .entry)) (now (shape .entry)) (now (new .entry)) (now (sources .entry)) .table ⌝ }
+    ensures { λ _. ⌜ now (sources .exit) ≡ reshape base (now (table .entry)) (now (shape .entry)) (now (new .entry)) (now (sources .entry)) .sources ⌝ }
+    ensures { λ r. ⌜ (r .number ≡ 0 → judge base (now (table .entry)) (now (shape .entry)) .rest ≡ kept → LinksKept base (now (table .entry)) (now (shape .entry)) (take (r .lines * rowBytes base) (now (new .exit))) (take (r .lines) (now (sources .exit)))) ⌝ }
+{
+    reshaping::reshape::reshape(table, shape, new, sources)
+}
+
+// Summarises a reshape: refusals 1 to 8, with room for 4,096 lines, or for each of 16 entries its lines, source rows and copies.
+pub fn summarise(table: &[u8], shape: &[u8]) -> Summary
+    ensures { λ r. ⌜ summarised r ≡ summarise base (now (table .entry)) (now (shape .entry)) ⌝ }
+{
+    reshaping::summarise::summarise(table, shape)
+}
