@@ -1,0 +1,100 @@
+-- What a reader hands out, and where it stands then: laws of `readerRow` and `readerNext`, over any format. Assumes nothing.
+use Prim.Native.Nat.{ℕ, zero, suc, _+_, _*_, _-_, _≤_, _<_}
+use native.Mathlib.Nat.{mul-zero, mul-suc}
+use native.Mathlib.Omega.{arith}
+use mathlib.Core.Path.{_≡_, refl, sym, _∙_, ap, ap₂}
+use mathlib.Core.List.{List, [], _∷_}
+use lib.ListN.{length, take, drop, replicate}
+use lib.Seq.{drop-drop}
+use denote.Ref.{RefT, now}
+use borrow.Author.Tests.{lt-ltb, le-ltb}
+use Rattle.paper.specs.Format.{Format, base, rowBytes, records, whole}
+use Rattle.paper.specs.Tables.{rowPart}
+use Rattle.paper.specs.Calls.{readerRow, readerNext}
+use Rattle.bytes.proofs.Laws.{over, record-length}
+use Rattle.tables.proofs.Rows.{row-in}
+use Rattle.silmezga.specs.Handed.{readerStart, Handed}
+use Rattle.silmezga.specs.declared.reader.Reader.{Reader}
+
+module _ (f : Format) (t : List ℕ) (at : ℕ) where
+  -- ---- at a whole row
+  pub readerRow-row : at < whole (rowBytes f) t → readerRow f t at ≡ rowPart f t at
+  unfolding readerRow
+  readerRow-row lt = rw (lt-ltb at (whole (rowBytes f) t) lt, readerRow) refl
+
+  pub readerNext-row : at < whole (rowBytes f) t → readerNext f t at ≡ suc at
+  unfolding readerNext
+  readerNext-row lt = rw (lt-ltb at (whole (rowBytes f) t) lt, readerNext) refl
+
+  pub readerStart-row : at < whole (rowBytes f) t → readerStart f t at ≡ rowBytes f * at
+  unfolding readerStart
+  readerStart-row lt = rw (lt-ltb at (whole (rowBytes f) t) lt, readerStart) refl
+
+  -- ---- past the last whole row: an empty part, and it stays there
+  pub readerRow-end : whole (rowBytes f) t ≤ at → readerRow f t at ≡ []
+  unfolding readerRow
+  readerRow-end le = rw (le-ltb at (whole (rowBytes f) t) le, readerRow) refl
+
+  pub readerNext-end : whole (rowBytes f) t ≤ at → readerNext f t at ≡ at
+  unfolding readerNext
+  readerNext-end le = rw (le-ltb at (whole (rowBytes f) t) le, readerNext) refl
+
+  pub readerStart-end : whole (rowBytes f) t ≤ at → readerStart f t at ≡ 0
+  unfolding readerStart
+  readerStart-end le = rw (le-ltb at (whole (rowBytes f) t) le, readerStart) refl
+
+-- a row handed out is whole
+pub readerRow-length : (f : Format) (t : List ℕ) (at : ℕ) → at < whole (rowBytes f) t → length (readerRow f t at) ≡ rowBytes f
+readerRow-length f t at lt = ap length (readerRow-row f t at lt) ∙ record-length t (rowBytes f) at (row-in (rowBytes f) at t lt)
+
+-- ---- the part handed out
+-- the part of t that begins at byte i and ends before byte j
+abbrev part : RefT (List ℕ) → ℕ → ℕ → RefT (List ℕ)
+part t i j = record { ptr = (t .ptr .0, i + t .ptr .1); name = t .name; now = take (j - i) (drop i (now t)) }
+
+pub row-handed : (t : RefT (List ℕ)) (at : ℕ) → at < whole (rowBytes base) (now t) → Handed t at (part t (24 * at) (24 * at + 24))
+unfolding base
+row-handed t at lt = (
+  ap (λ n. take n (drop (24 * at) (now t))) (over (24 * at) 24) ∙ sym (readerRow-row base (now t) at lt),
+  refl,
+  omega (arith, readerStart-row base (now t) at lt),
+)
+
+pub end-handed : (t : RefT (List ℕ)) (at : ℕ) → whole (rowBytes base) (now t) ≤ at → Handed t at (part t 0 0)
+unfolding base
+end-handed t at le = (sym (readerRow-end base (now t) at le), refl, omega (arith, readerStart-end base (now t) at le))
+
+-- ---- the rows in order
+-- What a reader hands out in n steps, from a place on.
+abbrev pub handedOut : Format → List ℕ → ℕ → ℕ → List (List ℕ)
+handedOut f t zero at = []
+handedOut f t (suc n) at = readerRow f t at ∷ handedOut f t n (readerNext f t at)
+
+from-place : (f : Format) (t : List ℕ) (n at : ℕ) → at + n ≤ whole (rowBytes f) t → handedOut f t n at ≡ records (rowBytes f) n (drop (rowBytes f * at) t)
+from-place f t zero at le = refl
+from-place f t (suc n) at le =
+    let w = rowBytes f in
+    let lt : at < whole w t = omega arith in
+    ap₂ (λ (x : List ℕ) (xs : List (List ℕ)). x ∷ xs) (readerRow-row f t at lt)
+    (ap (handedOut f t n) (readerNext-row f t at lt) ∙ from-place f t n (suc at) (omega arith)
+    ∙ ap (records w n) (ap (λ k. drop k t) (mul-suc w at) ∙ sym (drop-drop w (w * at) t)))
+
+-- Past the last whole row it hands out empty parts for ever.
+pub end-stays : (f : Format) (t : List ℕ) (n at : ℕ) → whole (rowBytes f) t ≤ at → handedOut f t n at ≡ replicate n []
+end-stays f t zero at le = refl
+end-stays f t (suc n) at le = ap₂ (λ (x : List ℕ) (xs : List (List ℕ)). x ∷ xs) (readerRow-end f t at le) (ap (handedOut f t n) (readerNext-end f t at le) ∙ end-stays f t n at le)
+
+-- In as many steps as the table has whole rows, a reader from place 0 hands out all of them in order.
+pub all-rows : (f : Format) (t : List ℕ) → handedOut f t (whole (rowBytes f) t) 0 ≡ records (rowBytes f) (whole (rowBytes f) t) t
+all-rows f t =
+    from-place f t (whole (rowBytes f) t) 0 (omega arith)
+    ∙ ap (λ k. records (rowBytes f) (whole (rowBytes f) t) (drop k t)) (mul-zero (rowBytes f))
+
+-- ---- any two results that a contract allows are equal
+-- parts: the same bytes at the same place
+pub handed-unique : (t : RefT (List ℕ)) (at : ℕ) (p o : RefT (List ℕ)) → Handed t at p → Handed t at o → (now p ≡ now o) × (p .ptr ≡ o .ptr)
+handed-unique t at p o a b = (a .0 ∙ sym (b .0), λ i. ((a .1 ∙ sym (b .1)) i, (a .2 ∙ sym (b .2)) i))
+
+-- readers, as `make` and `next` give them
+pub reader-unique : (t : RefT (List ℕ)) (at : ℕ) (r o : Reader) → (r .table ≡ t) × (r .at ≡ at) → (o .table ≡ t) × (o .at ≡ at) → r ≡ o
+reader-unique t at r o a b = λ i. record { table = (a .0 ∙ sym (b .0)) i; at = (a .1 ∙ sym (b .1)) i }

@@ -1,0 +1,289 @@
+"""Tables and shapes as text, for people who have no gateway: an indented list, a row or an entry on each line.
+
+A row is a label and a value (0 where none is said), `lease 200`. An entry is a type, `/portfolio/lessee/lease`. A level is two spaces
+or one tab; what follows a # is passed over, and so is a line that says nothing. Dewey numbers come from the position. Records are
+written by cases.py; limits are those of paper01.py.
+"""
+import re, sys
+
+import cases, paper01
+from paper01 import MOST_ENTRIES, MOST_LINES, MOST_ROWS, u16
+
+NAMES = ("portfolio lessee lease asset payment meter guarantor invoice site insurance deposit vendor schedule residual tax service "
+         "reading contact currency document").split()
+LEVELS, LABELS = 6, 999
+ROW, ENTRY, PLACE = 24, 16, 4
+LEAST_VALUE, GREATEST_VALUE = -2**63, 2**63 - 1
+
+
+class Wrong(Exception):
+    """What is wrong with a text, and the number of its line; 0 for the text as a whole."""
+
+    def __init__(self, line, what):
+        super().__init__(line, what)
+        self.line, self.what = line, what
+
+
+# ---- words
+def whole(word):
+    """The number that a word says, or None. Numbers of more than 20 digits are out of every range, and stay so when cut."""
+    if not re.fullmatch(r"[+-]?[0-9]+", word):
+        return None
+    digits = word.lstrip("+-").lstrip("0")[:20] or "0"
+    return -int(digits) if word[0] == "-" else int(digits)
+
+
+def name(label):
+    return NAMES[label - 1] if 1 <= label <= len(NAMES) else str(label)
+
+
+def path(kind):
+    """A type as its labels from the root."""
+    return "".join("/" + name(label) for label in kind)
+
+
+def read_label(line, word):
+    if word in NAMES:
+        return NAMES.index(word) + 1
+    number = whole(word)
+    if number is None:
+        raise Wrong(line, f'unknown label "{word}": a label is a number from 1 to {LABELS}, or one of {", ".join(NAMES)}')
+    if not 1 <= number <= LABELS:
+        raise Wrong(line, f"label {word} is out of range: labels are 1 to {LABELS}")
+    return number
+
+
+def read_value(line, word):
+    number = whole(word)
+    if number is None:
+        raise Wrong(line, f'"{word}" is no value: a value is a whole number')
+    if not LEAST_VALUE <= number <= GREATEST_VALUE:
+        raise Wrong(line, f"value {word} is out of range: values are {LEAST_VALUE} to {GREATEST_VALUE}")
+    return number
+
+
+def read_type(line, word, kinds):
+    """A type from its labels: all of them where there is a slash or no table, and otherwise the last."""
+    labels = tuple(read_label(line, part) for part in word[word.startswith("/"):].split("/"))
+    if len(labels) > LEVELS:
+        raise Wrong(line, f"{word} has {len(labels)} labels: a type has at most {LEVELS}")
+    if "/" in word or kinds is None:
+        return labels
+    ending = [k for k in kinds if k[-1] == labels[0]]
+    if not ending:
+        raise Wrong(line, f"no type of the table ends with {word}")
+    if len(ending) > 1:
+        raise Wrong(line, f"{len(ending)} types of the table end with {word}: write {' or '.join(map(path, ending))}")
+    return ending[0]
+
+
+# ---- from text
+def read_level(line, said):
+    indent = said[:len(said) - len(said.lstrip())]
+    if not re.fullmatch("(\t|  )*", indent):
+        raise Wrong(line, "the indent is no whole number of levels: a level is two spaces or one tab")
+    return len(indent.replace("  ", "\t")) + 1
+
+
+def items(text):
+    """The line number, level and words of each line that says something."""
+    before = 0
+    for line, words in enumerate(text.split("\n"), 1):
+        said = words.split("#")[0]
+        if not said.strip():
+            continue
+        level = read_level(line, said)
+        if level > before + 1:
+            raise Wrong(line, f"the indent is too deep: level {level}, where {before + 1} is the deepest that can follow")
+        if level > LEVELS:
+            raise Wrong(line, f"more than {LEVELS} levels")
+        yield line, level, said.split()
+        before = level
+
+
+def table_from(text):
+    """The bytes of a table."""
+    rows, dewey = [], ()
+    for line, level, words in items(text):
+        if len(rows) == MOST_ROWS:
+            raise Wrong(line, f"more than {MOST_ROWS:,} rows")
+        if len(words) > 2:
+            raise Wrong(line, f'a row is a label and a value, and "{words[2]}" is neither')
+        label, value = read_label(line, words[0]), read_value(line, (words + ["0"])[1])
+        dewey = dewey[:level - 1] + ((dewey + (0,) * level)[level - 1] + 1,)
+        rows.append(cases.row_bytes(dewey, label, value.to_bytes(8, "little", signed=True)))
+    return b"".join(rows)
+
+
+def shape_from(text, kinds=None):
+    """The bytes of a shape. Where the types of a table are given, a type may be named by its last label alone."""
+    entries = []
+    for line, level, words in items(text):
+        if len(entries) == MOST_ENTRIES:
+            raise Wrong(line, f"more than {MOST_ENTRIES} entries")
+        if entries and level == 1:
+            raise Wrong(line, "a shape is one tree: every entry but the first is indented")
+        if len(words) > 1:
+            raise Wrong(line, f'an entry is a type, and "{words[1]}" is one word too many')
+        entries.append(cases.entry_bytes(level, read_type(line, words[0], kinds)))
+    if not entries:
+        raise Wrong(0, f"no entry: a shape has 1 to {MOST_ENTRIES}")
+    return b"".join(entries)
+
+
+# ---- from bytes: what is sound, then what is wrong with the rest, or None
+def components(record):
+    return tuple(u16(record, 4 + 2 * k) for k in range(LEVELS))
+
+
+def dotted(dewey):
+    return ".".join(map(str, dewey))
+
+
+def follows(dewey, before):
+    return dewey == before + (1,) or any(dewey == before[:k] + (before[k] + 1,) for k in range(len(before)))
+
+
+def row_fault(record, before):
+    """The row rule that a record breaks after a row of the Dewey number `before`, () for none."""
+    level, label, numbers = record[0], u16(record, 2), components(record)
+    if not 1 <= level <= LEVELS:
+        return f"its level is {level}, and levels are 1 to {LEVELS}"
+    if record[1]:
+        return f"its byte 1 is {record[1]}, and must be zero"
+    if not 1 <= label <= LABELS:
+        return f"its label is {label}, and labels are 1 to {LABELS}"
+    if any(numbers[level:]):
+        return f"its Dewey number {dotted(numbers)} goes on past its level, {level}"
+    if not follows(numbers[:level], before):
+        return f"its Dewey number {dotted(numbers[:level])} does not follow {dotted(before)}" if before else \
+            f"its Dewey number is {dotted(numbers[:level])}, and the first row has 1"
+    return None
+
+
+def entry_fault(record, before):
+    """The rule that a shape's record breaks after an entry of the level `before`, 0 for none."""
+    level, size, names = record[0], record[1], components(record)
+    if not 1 <= level <= LEVELS:
+        return f"its level is {level}, and levels are 1 to {LEVELS}"
+    if not 1 <= size <= LEVELS:
+        return f"its type has the length {size}, and lengths are 1 to {LEVELS}"
+    if u16(record, 2):
+        return "its bytes 2 and 3 must be zero"
+    if not all(1 <= label <= LABELS for label in names[:size]):
+        return f"a label of its type is not 1 to {LABELS}"
+    if any(names[size:]):
+        return f"it has labels past the length of its type, {size}"
+    if not before:
+        return None if level == 1 else f"its level is {level}, and the first entry has level 1"
+    if not 2 <= level <= before + 1:
+        return f"its level is {level}, and 2 to {before + 1} can follow"
+    return None
+
+
+def cut_off(data, width, what):
+    """What is wrong with a length that is no whole number of records."""
+    return f"the last {len(data) % width} bytes are no whole {what} of {width} bytes" if len(data) % width else None
+
+
+def rows_of(data):
+    """(Dewey number, label, value) of each row before the first that breaks a rule."""
+    rows, before = [], ()
+    for i in range(len(data) // ROW):
+        record = data[ROW * i:ROW * (i + 1)]
+        fault = row_fault(record, before)
+        if fault:
+            return rows, f"row {i} breaks a rule: {fault}"
+        before = components(record)[:record[0]]
+        rows.append((before, u16(record, 2), int.from_bytes(record[16:], "little", signed=True)))
+    return rows, cut_off(data, ROW, "row")
+
+
+def entries_of(data):
+    """(level, type) of each entry before the first that breaks a rule."""
+    entries, before = [], 0
+    for i in range(len(data) // ENTRY):
+        record = data[ENTRY * i:ENTRY * (i + 1)]
+        fault = entry_fault(record, before)
+        if fault:
+            return entries, f"entry {i} breaks a rule: {fault}"
+        before = record[0]
+        entries.append((before, components(record)[:record[1]]))
+    return entries, cut_off(data, ENTRY, "entry")
+
+
+def kinds_of(data):
+    """The types of a table, for naming them in a shape."""
+    return cases.types([(dewey, label) for dewey, label, _ in rows_of(data)[0]])
+
+
+# ---- to text
+def item(level, said, remarks):
+    return "  " * (level - 1) + said + ("  # " + ", ".join(remarks) if remarks else "") + "\n"
+
+
+def show_table(data, numbers=False, sources=None):
+    """A table as text, and what is wrong with it. With a source list it is a new table, and each line says its entry and source row."""
+    rows, fault = rows_of(data)
+    most = MOST_ROWS if sources is None else MOST_LINES
+    marks = [int.from_bytes(sources[PLACE * i:PLACE * (i + 1)], "little") for i in range(len(sources) // PLACE)] if sources else []
+    lines = []
+    for i, (dewey, label, value) in enumerate(rows):
+        remarks = [f"row {i}", dotted(dewey)] if numbers else []
+        remarks += [f"entry {marks[i] >> 16}", f"source row {marks[i] & 65535}"] if i < len(marks) else []
+        lines.append(item(len(dewey), f"{name(label)} {value}", remarks))
+    if not fault and len(rows) > most:
+        fault = f"{len(rows):,} rows, and {most:,} is the most"
+    if not fault and sources is not None and len(sources) != PLACE * len(rows):
+        fault = f"a source list of {len(sources)} bytes for {len(rows)} lines: {PLACE} bytes a line are {PLACE * len(rows)}"
+    return "".join(lines), fault
+
+
+def show_shape(data, numbers=False):
+    """A shape as text, and what is wrong with it."""
+    entries, fault = entries_of(data)
+    if not data:
+        fault = f"no entry: a shape has 1 to {MOST_ENTRIES}"
+    if not fault and len(entries) > MOST_ENTRIES:
+        fault = f"{len(entries)} entries, and {MOST_ENTRIES} is the most"
+    return "".join(item(level, path(kind), [f"entry {i}"] if numbers else []) for i, (level, kind) in enumerate(entries)), fault
+
+
+# ---- files, for the commands; "-" is standard input or output
+def read_bytes(file):
+    if file == "-":
+        return sys.stdin.buffer.read()
+    with open(file, "rb") as f:
+        return f.read()
+
+
+def read_text(file):
+    data = read_bytes(file)
+    try:
+        return data.decode("utf-8-sig")
+    except UnicodeDecodeError as e:
+        raise Wrong(data.count(b"\n", 0, e.start) + 1, "this is no text in UTF-8")
+
+
+def write_bytes(file, data):
+    if file == "-":
+        sys.stdout.buffer.write(data)
+        return
+    with open(file, "wb") as f:
+        f.write(data)
+
+
+def stop(file, what, line=0):
+    """Ends the command with one plain line that names the file, and the line where there is one."""
+    sys.exit(f"{'standard input' if file == '-' else file}:{f'{line}:' if line else ''} {what}")
+
+
+def convert(text_file, data_file, make):
+    """Makes bytes from a text; nothing is written where the text is wrong."""
+    try:
+        data = make(read_text(text_file))
+        write_bytes(data_file, data)
+    except Wrong as e:
+        stop(text_file, e.what, e.line)
+    except OSError as e:
+        stop(e.filename or data_file, e.strerror)
