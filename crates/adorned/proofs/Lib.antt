@@ -4,4 +4,7 @@ pub mod Walks
 pub mod Summaries
 pub mod All
 pub mod Calls
+pub mod Fronts
+pub mod Item
+pub mod Answers
 pub mod Unique

@@ -48,6 +48,6 @@ pub record Says (a : Reply (List Summary)) (r : Adorned) : Type 0 where
   pub count-is : r .count ≡ length (a .rest)
   pub summaries-are : map told (r .summaries) ≡ placed (a .rest)
 
--- what adorning finds out where a place is lent for every type
-unfoldable pub adornFigures : List ℕ → Reply (List Summary)
-adornFigures t = reply [] (adorning base t mostTypes)
+-- what adorning finds out where so many places are lent
+unfoldable pub adornFigures : List ℕ → ℕ → Reply (List Summary)
+adornFigures t lent = reply [] (adorning base t lent)

@@ -1,5 +1,7 @@
 // The adorned shape's figures, computed by value: one summary a type. Children are counted along the rows' type numbers, since the
 // children of a row stand before the next row of its type.
+pub mod lent;
+
 use tables::table::examine;
 use types::list::Types;
 use types::list::list_types;
@@ -81,6 +83,7 @@ fn children_range(ks: &[u8], n: usize, p: usize, k: usize) -> Range
 
 // The summary of a type: its parent type (64 for none), last label, level, number of rows, and the least and the greatest number
 // of children of this type under a row of the parent type.
+#[repr(C)]
 pub struct TypeSummary {
     pub parent: usize,
     pub label: usize,
@@ -130,7 +133,7 @@ fn summary_of(
     }
 }
 
-// What adorning finds out of a table: refusals 1 to 4, or one summary a type; places past the count hold zeros.
+// What adorning finds out of a table: a refusal, or one summary a type; places past the count hold zeros.
 pub struct Adorned {
     pub number: usize,
     pub place: usize,
@@ -198,9 +201,9 @@ fn refused(number: usize, place: usize) -> Adorned
     }
 }
 
-// Refusals 1 to 4, or the summaries of the table's types.
-pub fn adorn_by_value(t: &[u8]) -> Adorned
-    ensures { λ r. ⌜ Says (adornFigures (now (t .entry))) r ⌝ }
+// Refusals 1 to 4, then 10 where fewer places are lent than the table has types, or the summaries of its types.
+pub fn adorn_by_value(t: &[u8], lent: usize) -> Adorned
+    ensures { λ r. ⌜ Says (adornFigures (now (t .entry)) lent) r ⌝ }
 {
     let e = examine(t);
     let number = e.number;
@@ -214,6 +217,9 @@ pub fn adorn_by_value(t: &[u8]) -> Adorned
     let count = types.count;
     if over < n {
         return refused(4, over);
+    }
+    if lent < count {
+        return refused(10, 0);
     }
     let all = summaries_of(t, 6, 999, n, types);
     Adorned {

@@ -67,7 +67,7 @@ fn print_summaries(all: [TypeSummary; 64], count: usize) {
 }
 
 fn print_adorned(t: &[u8]) {
-    let a = adorn_by_value(t);
+    let a = adorn_by_value(t, 64);
     let count = a.count;
     let all = a.summaries;
     number(a.number, b" ");

@@ -13,6 +13,7 @@ ghost use Rattle.paper.specs.Links.{LinksKept};
 ghost use Rattle.reshaping.specs.Reshaped.{reshaped};
 
 // What reshaping answers: a refusal, or the number of lines.
+#[repr(C)]
 pub struct Reshaped {
     pub number: usize,
     pub place: usize,

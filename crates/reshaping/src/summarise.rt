@@ -11,6 +11,7 @@ ghost use Rattle.reshaping.specs.Reshaped.{summarised};
 
 // For each of 16 entries its lines, the source rows of its type, and copies: lines less source rows, or 0 where lines are fewer. Unused
 // entries hold zeros, and so does a refusal.
+#[repr(C)]
 pub struct Summary {
     pub number: usize,
     pub place: usize,

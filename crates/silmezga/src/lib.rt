@@ -1,8 +1,11 @@
 // The six calls, each with its whole promise: document 01's order, its refusals, and what every lent byte, place and summary holds
 // afterwards. None asks anything of its caller: a call takes bytes of every kind and gives its answer, or a refusal with a number and a
 // place, and a refused call changes nothing that it was lent. The definitions that the promises name are those of `paper` (specs/Calls).
+pub mod marked;
 pub mod reader;
 
+pub use adorned::TypeSummary;
+pub use adorned::lent::AdornedTypes;
 pub use judging::judge::Judged;
 pub use judging::verdict::Verdict;
 pub use reshaping::reshape::Reshaped;
@@ -10,13 +13,16 @@ pub use reshaping::summarise::Summary;
 pub use tables::table::Examined;
 pub use tables::table::Refusal;
 ghost use mathlib.Core.Path.{_≡_};
+ghost use mathlib.Core.List.{map};
 ghost use Prim.Native.Nat.{_*_};
 ghost use lib.ListN.{take};
 ghost use Rattle.paper.specs.Format.{base, rowBytes};
 ghost use Rattle.paper.specs.Verdict.{kept};
-ghost use Rattle.paper.specs.Calls.{examine, lookUp, judge, reshape, summarise};
+ghost use Rattle.paper.specs.Calls.{examine, lookUp, adorn, judge, reshape, summarise};
 ghost use Rattle.paper.specs.Links.{LinksKept};
 ghost use Rattle.tables.specs.Reply.{examined};
+ghost use Rattle.adorned.specs.Told.{told};
+ghost use Rattle.adorned.specs.Lent.{adornedTypes};
 ghost use Rattle.judging.specs.Judged.{judged, inNumbers};
 ghost use Rattle.reshaping.specs.Reshaped.{reshaped, summarised};
 
@@ -39,6 +45,22 @@ pub fn look_up_refusal(table: &[u8], row: usize) -> Refusal
     ensures { λ r. ⌜ (r .number ≡ lookUp base (now (table .entry)) row .number) × (r .place ≡ lookUp base (now (table .entry)) row .place) ⌝ }
 {
     tables::table::look_up_refusal(table, row)
+}
+
+// Adorns a table: refusals 1 to 4, then 10, or the count of types, with one summary a type at the front of what was lent; what lies past
+// them stays as it was.
+pub fn adorn(table: &[u8], summaries: &mut [TypeSummary]) -> AdornedTypes
+    ensures { λ r. ⌜ adornedTypes r ≡ adorn base (now (table .entry)) (map told (now (summaries .entry))) .reply ⌝ }
+    ensures { λ _. ⌜ map told (now (summaries .exit)) ≡ adorn base (now (table .entry)) (map told (now (summaries .entry))) .summaries ⌝ }
+{
+    let lent = summaries.len();
+    let a = adorned::adorn_by_value(table, lent);
+    adorned::lent::store(summaries, a.summaries, a.count);
+    AdornedTypes {
+        number: a.number,
+        place: a.place,
+        types: a.count,
+    }
 }
 
 // Judges a table and a shape: refusals 1 to 7, or the verdict.

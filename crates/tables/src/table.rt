@@ -14,6 +14,7 @@ ghost use Rattle.tables.specs.Place.{placeOf};
 ghost use Rattle.tables.specs.Reply.{examined};
 
 // What examining answers.
+#[repr(C)]
 pub struct Examined {
     pub number: usize,
     pub place: usize,

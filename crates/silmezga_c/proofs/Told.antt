@@ -1,0 +1,71 @@
+-- Laws of the answers in numbers: where a looked-up row stands, and the verdict. Assumes nothing.
+use Prim.Native.Nat.{ℕ, zero, suc, _+_, _*_, _≤_, _<_}
+use native.Mathlib.Omega.{arith}
+use mathlib.Core.Path.{_≡_, refl, sym, _∙_, ap}
+use mathlib.Core.List.{List, [], _∷_}
+use lib.ListN.{length, take, drop}
+use Rattle.paper.specs.Lists.{padded}
+use Rattle.paper.specs.Format.{base, rowBytes, whole}
+use Rattle.paper.specs.Tables.{Row, rows}
+use Rattle.paper.specs.Verdict
+use Rattle.paper.specs.Calls.{Answer, refused, given, Reply, tests1-3, lookUp}
+use Rattle.judging.specs.Told.{numbersOf}
+use Rattle.judging.specs.Judged.{judged, inNumbers}
+use Rattle.judging.specs.declared.judge.Judged.{Judged}
+use Rattle.paper.proofs.Calls.{passed1-3}
+use Rattle.bytes.proofs.Laws.{record-length}
+use Rattle.tables.proofs.Examine.{lookUp-row}
+use Rattle.tables.proofs.Rows.{row-in}
+use Rattle.silmezga_c.specs.Told.{startOf, LooksUp, inThree, threeNumbers}
+use Rattle.silmezga_c.specs.declared.LookedUp.{LookedUp}
+use Rattle.silmezga_c.specs.declared.JudgedNumbers.{JudgedNumbers}
+
+-- ---- look-up
+refused-start : (k i : ℕ) → (k ≡ 0 → ⊥) → 0 ≡ startOf k i
+refused-start zero i ne = absurd (ne refl)
+refused-start (suc k) i ne = refl
+
+module _ (t : List ℕ) (i : ℕ) where
+  -- refused, the number and the place are told, and no part
+  pub told-refused : (k p : ℕ) (r : LookedUp) → (k ≡ 0 → ⊥) → lookUp base t i ≡ record { number = k; place = p; rest = [] }
+      → (r .number ≡ k) × (r .place ≡ p) × (r .start ≡ 0) × (r .length ≡ 0) → LooksUp t i r
+  told-refused k p r ne e h =
+      let number : lookUp base t i .number ≡ k = ap (λ (x : Reply (List ℕ)). x .number) e in
+      let rest : lookUp base t i .rest ≡ [] = ap (λ (x : Reply (List ℕ)). x .rest) e in
+      record {
+        number-is = h .0 ∙ sym number;
+        place-is = h .1 ∙ sym (ap (λ (x : Reply (List ℕ)). x .place) e);
+        start-is = h .2 ∙ refused-start k i ne ∙ ap (λ n. startOf n i) (sym number);
+        length-is = h .3 ∙ ap length (sym rest);
+        part-is = ap (λ n. take n (drop (r .start) t)) (h .3) ∙ sym rest;
+      }
+
+  module _ (g : tests1-3 base t ≡ given (rows base t)) (lt : i < whole 24 t) where
+    pub start-small : 24 * i ≤ 24576
+    unfolding base
+    start-small = omega (arith, passed1-3 base t (rows base t) g .2, row-in 24 i t lt)
+
+    -- a row that is there starts after those before it
+    pub told-row : LooksUp t i (record { number = 0; place = 0; start = 24 * i; length = 24 })
+    unfolding base
+    told-row =
+        let e = lookUp-row base t i g lt in
+        let number : lookUp base t i .number ≡ 0 = ap (λ (x : Reply (List ℕ)). x .number) e in
+        let rest : lookUp base t i .rest ≡ take 24 (drop (24 * i) t) = ap (λ (x : Reply (List ℕ)). x .rest) e in
+        record {
+          number-is = sym number;
+          place-is = sym (ap (λ (x : Reply (List ℕ)). x .place) e);
+          start-is = ap (λ n. startOf n i) (sym number);
+          length-is = sym (record-length t 24 i (row-in 24 i t lt)) ∙ ap length (sym rest);
+          part-is = sym rest;
+        }
+
+-- ---- judging
+-- a verdict's numbers, made up to three, are those of the reply that they were judged to be
+pub in-three : (j : Judged) (r : JudgedNumbers) (x : Reply Rattle.paper.specs.Verdict.Verdict) → judged j ≡ inNumbers x
+    → r .number ≡ j .number → r .place ≡ j .place → (r .verdict ∷ r .first ∷ r .second ∷ []) ≡ padded 3 (numbersOf (j .verdict))
+    → inThree r ≡ threeNumbers x
+in-three j r x e n p v =
+    let told : inThree r ≡ record { number = j .number; place = j .place; rest = padded 3 (numbersOf (j .verdict)) } =
+    λ i. record { number = n i; place = p i; rest = v i } in
+    told ∙ ap (λ (y : Reply (List ℕ)). record { number = y .number; place = y .place; rest = padded 3 (y .rest) }) e

@@ -1,0 +1,198 @@
+/*
+ * Silmezga: moves a seller's table of lease records into the tree that a buyer wants, says whether the move keeps the links between
+ * records, and writes the new table with the source row of every line.
+ *
+ * Six calls, each a function of its arguments alone: no call keeps anything, allocates, reads or writes a file, or stops the program.
+ * Each takes bytes of every kind. It gives its answer, or a refusal with a number and a place, and a refused call changes nothing that it
+ * was lent. What each call answers is proved for every input (docs/PROVED.md).
+ *
+ * The archive is target/staticlib/libsilmezga_c.a, made by `rt staticlib silmezga_c`. It is for x86-64 Linux, and all that it takes from other
+ * libraries is memcpy and memset. This header is C99 and C++. Calls from several threads do not disturb each other, as long as nothing
+ * that one of them writes to is lent to another. A call took at most 12 KB of stack when measured; the proofs say nothing of stack.
+ *
+ * What a caller owes
+ *   - A pointer and the length behind it tell of memory that is there: `table` has table_len bytes, and so on. No length passes the
+ *     object's own.
+ *   - No pointer is NULL, also where the length is 0: then pass the address of any object of the pointer's type.
+ *   - What a call writes to (`new_table`, `sources`, `summaries`) overlaps nothing else that is lent to the same call.
+ *   - `sources` and `summaries` are aligned as their types ask, which they are when declared or allocated as such.
+ *
+ * Tables
+ *   Numbers are little-endian. A table is records of 24 bytes, one a row, no header; it may be empty. Rows count from 0.
+ *
+ *     byte  0      level, 1 to 6
+ *     byte  1      zero
+ *     bytes 2-3    label, 1 to 999
+ *     bytes 4-15   Dewey number: six 16-bit components; those past the level are zero
+ *     bytes 16-23  value, signed 64-bit, any
+ *
+ *   Row 0 has Dewey number 1. Each later row is either the number before with a component 1 added at its end, or the number before cut
+ *   after some component, that component raised by one. A row's type is the list of labels from its tree's root down to it. Types are
+ *   numbered from 0 by first row.
+ *
+ * Shapes
+ *   A shape is the tree that is wanted: records of 16 bytes, one an entry, 1 to 16 of them. Entries count from 0.
+ *
+ *     byte  0      level, 1 to 6
+ *     byte  1      length of the entry's type, 1 to 6
+ *     bytes 2-3    zero
+ *     bytes 4-15   the type: six 16-bit labels, each 1 to 999 within the length, zero past it
+ *
+ *   Entry 0 has level 1; every later entry has level at least 2 and at most one more than the entry before it. An entry's parent is the
+ *   nearest earlier entry one level up. Two entries may name one type.
+ */
+#ifndef SILMEZGA_H
+#define SILMEZGA_H
+
+#include <stddef.h>
+#include <stdint.h>
+
+#ifdef __cplusplus
+extern "C" {
+#endif
+
+/* The archive's numbers have 64 bits: this line refuses a target whose size_t has not. */
+typedef char silmezga_size_t_has_64_bits[sizeof(size_t) == 8 ? 1 : -1];
+
+/* ---- Limits */
+#define SILMEZGA_ROW_BYTES 24          /* a row of a table, a line of a new table */
+#define SILMEZGA_ENTRY_BYTES 16        /* an entry of a shape */
+#define SILMEZGA_MOST_ROWS 1024        /* rows of a source table */
+#define SILMEZGA_MOST_TABLE_BYTES 24576
+#define SILMEZGA_MOST_LEVELS 6         /* levels of rows and entries; labels of a type */
+#define SILMEZGA_LEAST_LABEL 1
+#define SILMEZGA_MOST_LABEL 999
+#define SILMEZGA_MOST_TYPES 64         /* types of a table */
+#define SILMEZGA_MOST_ENTRIES 16       /* entries of a shape, of which there is at least 1 */
+#define SILMEZGA_MOST_SHAPE_BYTES 256
+#define SILMEZGA_MOST_LINES 4096       /* lines of a new table */
+
+/*
+ * ---- Refusals
+ * In the order in which they are tested. Each is given exactly then; 0 means that the call is accepted, and its place is 0.
+ *
+ *   examine    1 to 3            judge      1 to 7
+ *   look_up    1 to 3, 11        reshape    1 to 8
+ *   adorn      1 to 4, 10        summarise  1 to 8
+ */
+enum {
+    SILMEZGA_ACCEPTED = 0,
+    SILMEZGA_TABLE_TOO_LONG = 1,     /* table longer than 24,576 bytes; place 0 */
+    SILMEZGA_TABLE_RAGGED = 2,       /* table length no multiple of 24; place 0 */
+    SILMEZGA_BAD_ROW = 3,            /* a row breaks a rule above; place: the first bad row */
+    SILMEZGA_TOO_MANY_TYPES = 4,     /* more than 64 types; place: the first row of the 65th type */
+    SILMEZGA_BAD_SHAPE_LENGTH = 5,   /* shape empty, over 256 bytes, or no multiple of 16; place 0 */
+    SILMEZGA_BAD_ENTRY = 6,          /* a shape entry breaks a rule; place: the first bad entry */
+    SILMEZGA_NO_SUCH_TYPE = 7,       /* an entry's type has no row; place: the first such entry */
+    SILMEZGA_NO_ROOM = 8,            /* more lines than there is room for; place 0 */
+    SILMEZGA_BAD_LINE = 9,           /* a line would break a row rule; place: that line. Never given: it is proved that no line does */
+    SILMEZGA_FEW_SUMMARIES = 10,     /* fewer lent summaries than types; place 0 */
+    SILMEZGA_NO_SUCH_ROW = 11        /* no such row; place: the row asked for */
+};
+
+/*
+ * ---- Verdicts
+ * Two rows meet at the number of leading Dewey components that they share, two types at the largest level at which any of their rows
+ * meet, and two rows are closest when they meet where their types do and this is not 0. A partner of a row, for an entry, is a row of the
+ * parent entry's type closest to it. An edge of the shape, from an entry to its parent, has the level at which the two types meet; it is
+ * full when every row of the parent's type has a closest row of the child's. The path between two entries runs up to the deepest entry
+ * above or equal to both (the fork) and down again.
+ */
+enum {
+    SILMEZGA_KEPT = 0,       /* the move keeps every link and makes up none */
+    SILMEZGA_MISSING = 1,    /* entry `first`: row `second` of its type has no partner. First such entry, then first such row */
+    SILMEZGA_APART = 2,      /* entries `first` before `second`: their types do not meet at exactly the least level on their path */
+    SILMEZGA_UNSURE = 3      /* they do, but for no edge of that least level are all edges between it and the fork full */
+};
+
+/*
+ * ---- Answers
+ * Structs by value. `number` and `place` are the refusal's, 0 and 0 where there is none; in a refused answer every other field is 0.
+ */
+typedef struct {
+    size_t number;
+    size_t place;
+    size_t rows;                /* rows of the table */
+} silmezga_examined;
+
+typedef struct {
+    size_t number;
+    size_t place;
+    size_t start;               /* the row's own bytes are table[start] to table[start + length - 1] */
+    size_t length;              /* 24 */
+} silmezga_looked_up;
+
+typedef struct {
+    size_t parent;              /* the parent type, 64 for none */
+    size_t label;               /* the last label of the type */
+    size_t level;
+    size_t rows;                /* rows of this type */
+    size_t least;               /* the least and the greatest number of children of this type under a row of the parent type; */
+    size_t greatest;            /* both are the number of rows where there is no parent type */
+} silmezga_type_summary;
+
+typedef struct {
+    size_t number;
+    size_t place;
+    size_t types;               /* types of the table */
+} silmezga_adorned;
+
+typedef struct {
+    size_t number;
+    size_t place;
+    size_t verdict;             /* 0 to 3 */
+    size_t first;               /* verdict 1: the entry; 2 and 3: the earlier entry; 0: zero */
+    size_t second;              /* verdict 1: the row; 2 and 3: the later entry; 0: zero */
+} silmezga_judged;
+
+typedef struct {
+    size_t number;
+    size_t place;
+    size_t lines;               /* lines of the new table */
+} silmezga_reshaped;
+
+typedef struct {
+    size_t number;
+    size_t place;
+    size_t lines[SILMEZGA_MOST_ENTRIES];    /* for each entry its lines; zeros past the last entry */
+    size_t rows[SILMEZGA_MOST_ENTRIES];     /* the source rows of its type */
+    size_t copies[SILMEZGA_MOST_ENTRIES];   /* lines less source rows, or 0 where lines are fewer */
+} silmezga_summary;
+
+/* ---- The six calls */
+
+/* Examines a table: refusals 1 to 3, or the number of rows. */
+silmezga_examined silmezga_examine(const uint8_t *table, size_t table_len);
+
+/* Looks up a row: refusals 1 to 3 and 11, or where the row's own 24 bytes stand in the caller's table. */
+silmezga_looked_up silmezga_look_up(const uint8_t *table, size_t table_len, size_t row);
+
+/*
+ * Adorns a table: refusals 1 to 4 and 10, or one summary a type, in type order, at the front of the `lent` summaries; those past the last
+ * type stay as they were. 64 summaries are always enough.
+ */
+silmezga_adorned silmezga_adorn(const uint8_t *table, size_t table_len, silmezga_type_summary *summaries, size_t lent);
+
+/* Judges a table and a shape: refusals 1 to 7, or the verdict in numbers. */
+silmezga_judged silmezga_judge(const uint8_t *table, size_t table_len, const uint8_t *shape, size_t shape_len);
+
+/*
+ * Reshapes a table: refusals 1 to 8, or the lines of the new table, written to the front of `new_table`, and for each line its entry x
+ * 65,536 + its source row, to the front of `sources`. Bytes and places past the last line stay as they were.
+ *
+ * `new_len` is in bytes, `source_places` in numbers. There is room for the least of new_len / 24, source_places and 4,096 lines; the lines
+ * are counted before the first is written. Where the verdict on the same table and shape is 0, what the call leaves keeps the links
+ * between records: the pairs of source rows read off the closest pairs of new lines are exactly the closest pairs of source rows of those
+ * two types.
+ */
+silmezga_reshaped silmezga_reshape(const uint8_t *table, size_t table_len, const uint8_t *shape, size_t shape_len, uint8_t *new_table,
+                                   size_t new_len, uint32_t *sources, size_t source_places);
+
+/* Summarises a reshape with room for 4,096 lines, with nothing written: refusals 1 to 8, or the figures of each entry. */
+silmezga_summary silmezga_summarise(const uint8_t *table, size_t table_len, const uint8_t *shape, size_t shape_len);
+
+#ifdef __cplusplus
+}
+#endif
+
+#endif
