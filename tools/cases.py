@@ -158,6 +158,27 @@ def damaged(rng, data):
     return bytes(data)
 
 
+def ordinary(rng, grown, most_rows=14, most_entries=6, levels=6, labels=999):
+    """A table, grown row by row or a regular one, and a shape of its types; now and then with a label, a type or a level that is off."""
+    if grown:
+        names = [rng.sample(range(1, 9), rng.choice([1, 1, 2])) for _ in range(levels)]
+        rows = forest(rng, rng.randint(1, most_rows) if rng.random() > 0.05 else 0, names, levels)
+    else:
+        rows = regular(rng, most_rows, levels)
+    if rng.random() < 0.1:
+        # the largest label, or one past it, in place of some other
+        new = {rng.randint(1, 9): rng.choice([labels, labels, labels + 1, 256])}
+        rows = [(d, new.get(l, l)) for d, l in rows]
+    kinds = types(rows) or [(1,)]
+    if rng.random() < 0.08:
+        kinds = kinds + [(rng.choice([rng.randint(1, 9), labels, labels + 1]),)]
+    entries = shape(rng, kinds, rng.randint(3, most_entries) if rng.random() > 0.1 else 1, levels, scarce(rows))
+    if rng.random() < 0.08:
+        i = rng.randrange(len(entries))
+        entries[i] = (rng.randint(0, levels + 1), entries[i][1])
+    return rows, entries
+
+
 def case(rng, most_rows=14, most_entries=6, levels=6, labels=999, harm=0.35):
     """A table and a shape as bytes."""
     sort = rng.random()
@@ -166,22 +187,7 @@ def case(rng, most_rows=14, most_entries=6, levels=6, labels=999, harm=0.35):
     elif sort < 0.11:
         rows, entries = hostile(rng, levels)
     else:
-        if sort < 0.36:
-            names = [rng.sample(range(1, 9), rng.choice([1, 1, 2])) for _ in range(levels)]
-            rows = forest(rng, rng.randint(1, most_rows) if rng.random() > 0.05 else 0, names, levels)
-        else:
-            rows = regular(rng, most_rows, levels)
-        if rng.random() < 0.1:
-            # the largest label, or one past it, in place of some other
-            new = {rng.randint(1, 9): rng.choice([labels, labels, labels + 1, 256])}
-            rows = [(d, new.get(l, l)) for d, l in rows]
-        kinds = types(rows) or [(1,)]
-        if rng.random() < 0.08:
-            kinds = kinds + [(rng.choice([rng.randint(1, 9), labels, labels + 1]),)]
-        entries = shape(rng, kinds, rng.randint(3, most_entries) if rng.random() > 0.1 else 1, levels, scarce(rows))
-        if rng.random() < 0.08:
-            i = rng.randrange(len(entries))
-            entries[i] = (rng.randint(0, levels + 1), entries[i][1])
+        rows, entries = ordinary(rng, sort < 0.36, most_rows, most_entries, levels, labels)
     table = b"".join(row_bytes(d, l, rng.randbytes(8), levels) for d, l in rows)
     wanted = b"".join(entry_bytes(l, k, levels) for l, k in entries)
     if sort < 0.06:

@@ -1,2 +1,1 @@
 pub mod Handed
-pub mod Marked

@@ -1,7 +1,6 @@
 // The six calls, each with its whole promise: document 01's order, its refusals, and what every lent byte, place and summary holds
 // afterwards. None asks anything of its caller: a call takes bytes of every kind and gives its answer, or a refusal with a number and a
 // place, and a refused call changes nothing that it was lent. The definitions that the promises name are those of `paper` (specs/Calls).
-pub mod marked;
 pub mod reader;
 
 pub use adorned::TypeSummary;

@@ -1,0 +1,67 @@
+-- `cases::lent::print_lines` is safe and ends. The invariant: the lines shown have their records and places. The measure is what is left of them. Assumes nothing.
+use Prim.Native.Nat.{_*_, _-_, _≤_}
+use lib.ListN.{length}
+use borrow.Author.Needs.{needs}
+use Rattle.cases.proofs.lent.print_lines.Statement.{statement}
+use Rattle.cases.proofs.lent.print_lines.Tie as tie
+
+abbrev Inv-loop : tie.InvT-loop
+Inv-loop table sources shown i₀ t5 i = (i ≤ shown) × (24 * shown ≤ length table) × (shown ≤ length sources)
+
+abbrev μ-loop : tie.MeasureT-loop
+μ-loop table sources shown i₀ t5 i = shown - i
+
+loop-holds : tie.Need-loop-holds Inv-loop μ-loop
+loop-holds c = search needs
+
+record-requires : tie.Need-record-requires Inv-loop μ-loop
+record-requires c κs = search needs
+
+print-record-requires : tie.Need-print-record-requires Inv-loop μ-loop
+print-record-requires c κs = search needs
+
+slice-aggregate-number : tie.Need-slice-aggregate-number Inv-loop μ-loop
+slice-aggregate-number c = search needs
+
+mul-wide : tie.Need-mul-wide Inv-loop μ-loop
+mul-wide c = search needs
+
+shared-slice-read-wide : tie.Need-shared-slice-read-wide Inv-loop μ-loop
+shared-slice-read-wide c = search needs
+
+wide-requires : tie.Need-wide-requires Inv-loop μ-loop
+wide-requires c κs = search needs
+
+number-requires : tie.Need-number-requires Inv-loop μ-loop
+number-requires c κs = search needs
+
+add-i : tie.Need-add-i Inv-loop μ-loop
+add-i c = search needs
+
+loop-less : tie.Need-loop-less Inv-loop μ-loop
+loop-less c = search needs
+
+loop-again : tie.Need-loop-again Inv-loop μ-loop
+loop-again c = search needs
+
+returns : tie.Need-returns Inv-loop μ-loop
+returns c = search needs
+
+pub print-lines-spec : {M : Type 1} → statement M
+print-lines-spec =
+    tie.close
+    (tie.spec
+    Inv-loop
+    μ-loop
+    loop-holds
+    record-requires
+    print-record-requires
+    slice-aggregate-number
+    mul-wide
+    shared-slice-read-wide
+    wide-requires
+    number-requires
+    add-i
+    loop-less
+    loop-again
+    returns)

@@ -1,0 +1,25 @@
+use Prim.Native.Nat.{ℕ}
+use mathlib.Core.Path.{subst}
+use borrow.Author.Needs.{needs}
+use Rattle.cases.specs.Marked.{LeftOf}
+use Rattle.cases.proofs.marked.adorn_marked.Statement.{statement}
+use Rattle.cases.proofs.marked.adorn_marked.Tie as tie
+use Rattle.cases.proofs.marked.adorn_marked.Reads as reads
+use Rattle.cases.proofs.marked.adorn_marked.Lts as lts
+use Rattle.cases.proofs.marked.lend.Reads as lend-reads
+use Rattle.tables.proofs.row.smaller.Reads as smaller-reads
+
+-- src/marked.rt:50:17
+smaller-requires : tie.Need-smaller-requires
+smaller-requires c κs = search needs
+
+-- src/marked.rt:50:5
+lend-requires : tie.Need-lend-requires
+lend-requires c κs = search needs
+
+-- src/marked.rt:47:1
+returns : tie.Need-returns
+returns c = subst (λ (k : ℕ). LeftOf (c .before .before .before .args .table .now) k (c .lend .result)) (c .before .smaller .ensures) (c .lend .ensures)
+
+pub adorn-marked-spec : {M : Type 1} → statement M
+adorn-marked-spec = tie.close (tie.spec smaller-requires lend-requires returns)

@@ -1,0 +1,148 @@
+// The calls that answer by value, and the reader: what each prints of its part of a line.
+use crate::marked::adorn_marked;
+use crate::print::folded;
+use crate::print::folded_bytes;
+use crate::print::hexadecimal;
+use crate::print::number;
+use libc::STDOUT_FILENO;
+use silmezga::TypeSummary;
+use silmezga::Verdict;
+use silmezga::reader::handed;
+use silmezga::reader::handed_next;
+
+pub fn print_examined(t: &[u8]) {
+    let e = silmezga::examine(t);
+    number(b"", e.number);
+    number(b" ", e.place);
+    number(b" ", e.rows);
+}
+
+// Asks the reader at each row, and at two places past the last, for the row there and for the next.
+pub fn print_read(t: &[u8]) {
+    let end = t.len() / 24 + 2;
+    let mut rows = 0;
+    let mut sum = 1;
+    let mut at = 0;
+    while at < end {
+        let row = handed(t, at);
+        let after = handed_next(t, at);
+        sum = folded_bytes(folded(sum, row.len()), row);
+        sum = folded_bytes(folded(sum, after.len()), after);
+        if row.len() == 0 {
+            at += 1;
+        } else {
+            rows += 1;
+            at += 1;
+        }
+    }
+    number(b": ", rows);
+    number(b" ", sum);
+}
+
+pub fn print_looked_up(t: &[u8], row: usize) {
+    let r = silmezga::look_up_refusal(t, row);
+    number(b": ", r.number);
+    number(b" ", r.place);
+    io::write_all(STDOUT_FILENO, b" ");
+    hexadecimal(silmezga::look_up(t, row));
+}
+
+fn print_figures(s: TypeSummary) {
+    number(b" ", s.parent);
+    number(b" ", s.label);
+    number(b" ", s.level);
+    number(b" ", s.rows);
+    number(b" ", s.least);
+    number(b" ", s.greatest);
+}
+
+// Does a summary hold the mark in every figure?
+fn marked(s: TypeSummary, mark: usize) -> bool {
+    s.parent == mark
+        && s.label == mark
+        && s.level == mark
+        && s.rows == mark
+        && s.least == mark
+        && s.greatest == mark
+}
+
+fn print_changed(k: usize, s: TypeSummary, mark: usize) {
+    if !marked(s, mark) {
+        number(b"; summary ", k);
+        print_figures(s);
+    }
+}
+
+// Prints the first summaries, as many as were counted, and of the others those that lost their mark.
+fn print_summaries(all: [TypeSummary; 65], count: usize, mark: usize) {
+    let mut k = 0;
+    while k < 65 {
+        let s = all[k];
+        if k < count {
+            io::write_all(STDOUT_FILENO, b";");
+            print_figures(s);
+            k += 1;
+        } else {
+            print_changed(k, s, mark);
+            k += 1;
+        }
+    }
+}
+
+pub fn print_adorned(t: &[u8], lent: usize) {
+    let a = adorn_marked(t, lent);
+    let count = a.types;
+    let all = a.summaries;
+    number(b": ", a.number);
+    number(b" ", a.place);
+    number(b" ", count);
+    print_summaries(all, count, 7777);
+}
+
+// Prints a verdict's number and its two values.
+fn print_found(kind: usize, first: usize, second: usize) {
+    number(b" ", kind);
+    number(b" ", first);
+    number(b" ", second);
+}
+
+fn print_verdict(v: Verdict) {
+    match v {
+        Verdict::Kept => number(b" ", 0),
+        Verdict::Missing { entry, row } => print_found(1, entry, row),
+        Verdict::Apart { first, second } => print_found(2, first, second),
+        Verdict::Unsure { first, second } => print_found(3, first, second),
+    }
+}
+
+pub fn print_judged(t: &[u8], s: &[u8]) {
+    let j = silmezga::judge(t, s);
+    let v = j.verdict;
+    number(b": ", j.number);
+    number(b" ", j.place);
+    print_verdict(v);
+}
+
+// An entry's figures, unless all of them are 0.
+fn print_entry(entry: usize, lines: usize, rows: usize, copies: usize) {
+    if lines != 0 || rows != 0 || copies != 0 {
+        number(b"; ", entry);
+        number(b" ", lines);
+        number(b" ", rows);
+        number(b" ", copies);
+    }
+}
+
+pub fn print_summarised(t: &[u8], s: &[u8]) {
+    let r = silmezga::summarise(t, s);
+    let lines = r.lines;
+    let rows = r.rows;
+    let copies = r.copies;
+    number(b": ", r.number);
+    number(b" ", r.place);
+    let mut e = 0;
+    while e < 16 {
+        print_entry(e, lines[e], rows[e], copies[e]);
+        e += 1;
+    }
+}

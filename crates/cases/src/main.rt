@@ -1,0 +1,139 @@
+// Runs the six calls and the reader on the cases of standard input, and prints a line for each, so that all that they answer and all
+// that they leave in what they are lent can be compared.
+//
+// A case is a table, a shape, a row to look up, the room lent for a reshape and the number of summaries lent. It is written as what
+// differs from the case before, since most cases change little. The table's bytes are held from place 0 and the shape's from 32,768, and
+// both begin as zeros. A head of 20 bytes, least byte first: the number of changes (2 bytes), the length of the table (2) and of the
+// shape (2), the row (8), the whole records lent (2), the bytes lent past them (1), the summaries lent (1) and the places lent for the
+// source list (2). Then each change: its place (2 bytes), its length (1) and its bytes. Records are counted because the bytes of 4,096
+// do not fit two bytes.
+//
+// The line has a part for each call, with ": " between them, and pieces of a part have "; " between them:
+// - examining's number, place and rows;
+// - the rows that the reader hands out, and the sum over the lengths and the bytes of all parts that it hands out, at each row and at two
+//   places past the last: the row there, and the next;
+// - look-up's number and place, and the bytes handed back, in hexadecimal digits;
+// - adorning's number, place and types; the six figures of each summary counted; and each other summary that is not as it was before
+//   the call, with its number;
+// - judging's number and place, and document 01's number of the verdict with its values;
+// - reshaping's number, place and lines; up to forty lines, each as twelve 16-bit numbers and its place of the source list, or,
+//   where there are more, the sum over every byte and every place of the lines; then each lent byte and each place past the last
+//   line that is not as it was before the call, with its index;
+// - summarising's number and place, and for each entry with a figure other than 0 its lines, source rows and copies.
+// A sum is that of `print::folded`.
+pub mod calls;
+pub mod lent;
+pub mod marked;
+pub mod print;
+
+use libc::STDIN_FILENO;
+use libc::STDOUT_FILENO;
+ghost use mathlib.Core.Path.{_≡_};
+ghost use Prim.Native.Nat.{_+_, _<_};
+ghost use lib.ListN.{length};
+
+// What a case asks for beside its table and its shape: the bytes lent are those of the whole records and the bytes past them.
+struct Ask {
+    row: usize,
+    bytes: usize,
+    places: usize,
+    summaries: usize,
+}
+
+// The 64-bit number at byte i.
+fn long(b: &[u8], i: usize) -> usize
+    requires { ⌜ i + 7 < length (now b) ⌝ }
+{
+    let low = bytes::word(b, i) + 65536 * bytes::word(b, i + 2);
+    let high = bytes::word(b, i + 4) + 65536 * bytes::word(b, i + 6);
+    low + 4294967296 * high
+}
+
+fn asked(head: &[u8]) -> Ask
+    requires { ⌜ length (now head) ≡ 20 ⌝ }
+{
+    Ask {
+        row: long(head, 6),
+        bytes: 24 * bytes::word(head, 14) + bytes::wide(head[16]),
+        places: bytes::word(head, 18),
+        summaries: bytes::wide(head[17]),
+    }
+}
+
+// A case's line.
+fn print_case(t: &[u8], s: &[u8], ask: Ask) {
+    calls::print_examined(t);
+    calls::print_read(t);
+    calls::print_looked_up(t, ask.row);
+    calls::print_adorned(t, ask.summaries);
+    calls::print_judged(t, s);
+    lent::print_reshaped(t, s, ask.bytes, ask.places);
+    calls::print_summarised(t, s);
+    io::write_all(STDOUT_FILENO, b"\n");
+}
+
+// Puts bytes into what is held, from a place on, as far as it reaches.
+fn put(held: &mut [u8], at: usize, part: &[u8])
+    requires { ⌜ (at < 65536) × (length (now part) < 256) ⌝ }
+{
+    let mut i = 0;
+    while i < part.len() && at + i < held.len() {
+        held[at + i] = part[i];
+        i += 1;
+    }
+}
+
+// Reads a change and makes it, or answers false where the input has none left.
+fn read_change(held: &mut [u8]) -> bool {
+    let mut head = [0u8; 3];
+    if io::read_full(STDIN_FILENO, &mut head) < 3 {
+        return false;
+    }
+    let at = bytes::word(&head, 0);
+    let n = bytes::wide(head[2]);
+    let mut part = [0u8; 255];
+    if io::read_full(STDIN_FILENO, &mut part[..n]) < n {
+        return false;
+    }
+    put(held, at, &part[..n]);
+    true
+}
+
+fn read_changes(held: &mut [u8], count: usize) -> bool {
+    let mut i = 0;
+    while i < count {
+        if !read_change(held) {
+            return false;
+        }
+        i += 1;
+    }
+    true
+}
+
+// Reads a case and prints its line, or answers false where the input has no whole case left that fits what is held.
+fn run_case(held: &mut [u8]) -> bool {
+    let mut head = [0u8; 20];
+    if io::read_full(STDIN_FILENO, &mut head) < 20 {
+        return false;
+    }
+    if !read_changes(held, bytes::word(&head, 0)) {
+        return false;
+    }
+    let n = bytes::word(&head, 2);
+    let end = 32768 + bytes::word(&head, 4);
+    if held.len() < n || held.len() < end {
+        return false;
+    }
+    let ask = asked(&head);
+    print_case(&held[0..n], &held[32768..end], ask);
+    true
+}
+
+// A proved loop has to end, and nothing says that the input does: the loop counts down from a number that no run uses up.
+fn main() {
+    let mut held = io::large_buffer();
+    let mut cases = u64::MAX;
+    while cases > 0 && run_case(&mut held) {
+        cases -= 1;
+    }
+}

@@ -1,0 +1,5 @@
+pub mod Digits
+pub mod Putting
+pub mod Values
+pub mod Naming
+pub mod Dewey

@@ -1,0 +1,39 @@
+-- `answers::put_kept`: the word, the number, and the end of the line. Assumes nothing.
+use native.Mathlib.Omega.{arith}
+use Rattle.io.proofs.Counting.{counts}
+use Rattle.listing.specs.Text.{followed, parted}
+use Rattle.listing.specs.Listing.{verdictText}
+use Rattle.listing.proofs.Putting.{as-long, put-then, put-last}
+use borrow.Author.Needs.{needs}
+use Rattle.listing.proofs.answers.put_kept.Statement.{statement}
+use Rattle.listing.proofs.answers.put_kept.Tie as tie
+
+slice-aggregate-put-bytes : tie.Need-slice-aggregate-put-bytes
+slice-aggregate-put-bytes c = search needs
+
+put-bytes-requires : tie.Need-put-bytes-requires
+put-bytes-requires c κs = search needs
+
+put-after-requires : tie.Need-put-after-requires
+put-after-requires c κs = search needs
+
+put-byte-requires : tie.Need-put-byte-requires
+put-byte-requires c κs = search needs
+
+returns : tie.Need-returns
+unfolding followed parted verdictText
+returns c =
+    let a = c .before .before in
+    let w = a .before .before in
+    let whole = put-then (put-then (w .put-bytes .ensures) (put-last (a .put-after .ensures .0))) (c .put-byte .ensures) in
+    (whole, counts (c .put-byte .result) (c .put-byte .last .0) (omega (arith, as-long whole, c .put-byte .ensures .ends, a .put-after .ensures .1)))
+
+pub put-kept-spec : {M : Type 1} → statement M
+put-kept-spec =
+    tie.close
+    (tie.spec
+    slice-aggregate-put-bytes
+    put-bytes-requires
+    put-after-requires
+    put-byte-requires
+    returns)

@@ -1,0 +1,74 @@
+-- `line::put_further`: the components so far are put, and each takes at most 21 bytes. Assumes nothing.
+use Prim.Native.Nat.{_+_, _*_, _-_, _≤_}
+use mathlib.Core.Path.{_≡_, refl, ap}
+use lib.ListN.{length}
+use Rattle.listing.specs.Text.{followed}
+use Rattle.listing.specs.Put.{Put}
+use Rattle.listing.proofs.Putting.{as-long, put-none, put-as}
+use Rattle.listing.proofs.Dewey.{further, further-put}
+use native.Mathlib.Omega.{arith}
+use borrow.Author.Needs.{needs}
+use Rattle.listing.proofs.line.put_further.Statement.{statement}
+use Rattle.listing.proofs.line.put_further.Tie as tie
+
+abbrev Inv-loop : tie.InvT-loop
+Inv-loop out₀ at row n p₀ k₀ out p k = (k ≤ n) × (p ≤ at + 21 * k) × (length out ≡ length out₀) × Put out₀ at (further k row) out p
+
+abbrev μ-loop : tie.MeasureT-loop
+μ-loop out₀ at row n p₀ k₀ out p k = n - k
+
+loop-holds : tie.Need-loop-holds Inv-loop μ-loop
+unfolding followed
+loop-holds c = (omega arith, omega arith, refl, put-none (c .before .before .args .out .now) (c .before .before .args .at))
+
+mul-word : tie.Need-mul-word Inv-loop μ-loop
+mul-word c = search needs
+
+add-word : tie.Need-add-word Inv-loop μ-loop
+add-word c = search needs
+
+word-requires : tie.Need-word-requires Inv-loop μ-loop
+word-requires c κs = search needs
+
+put-after-requires : tie.Need-put-after-requires Inv-loop μ-loop
+put-after-requires c κs = search needs
+
+add-k : tie.Need-add-k Inv-loop μ-loop
+add-k c = search needs
+
+loop-less : tie.Need-loop-less Inv-loop μ-loop
+loop-less c = search needs
+
+loop-again : tie.Need-loop-again Inv-loop μ-loop
+loop-again c =
+    let a = c .before .before in
+    let w = a .before in
+    let l = w .before .before .before in
+    let put = further-put (l .before .before .before .args .row .now) (l .loop .k) (w .word .result) (omega arith) (w .word .ensures .0) (l .loop .inv .3) (a .put-after .ensures .0) in
+    (omega arith, omega (arith, a .put-after .ensures .1), as-long put, put)
+
+same-length : tie.Need-same-length Inv-loop μ-loop
+same-length c = search needs
+
+returns : tie.Need-returns Inv-loop μ-loop
+returns c =
+    let l = c .before in
+    let all : l .loop .k ≡ l .before .before .before .args .n = omega arith in
+    (put-as (l .loop .inv .3) (ap (λ k. further k (l .before .before .before .args .row .now)) all), omega arith)
+
+pub put-further-spec : {M : Type 1} → statement M
+put-further-spec =
+    tie.close
+    (tie.spec
+    Inv-loop
+    μ-loop
+    loop-holds
+    mul-word
+    add-word
+    word-requires
+    put-after-requires
+    add-k
+    loop-less
+    loop-again
+    same-length
+    returns)

@@ -1,0 +1,68 @@
+-- `put::put_bytes`: what is still to be written is the rest of the text. Assumes nothing.
+use Prim.Native.Nat.{_+_, _-_, _≤_}
+use lib.ListN.{length, drop, drop-of-length-le}
+use Rattle.lines.proofs.Writing.{Writing, all-left, all-written, byte-written}
+use native.Mathlib.Omega.{arith}
+use borrow.Author.Needs.{needs}
+use Rattle.listing.proofs.put.put_bytes.Statement.{statement}
+use Rattle.listing.proofs.put.put_bytes.Tie as tie
+
+abbrev Inv-loop : tie.InvT-loop
+Inv-loop out₀ at text k₀ out k = (k ≤ length text) × Writing out₀ at text out (at + k) (drop k text)
+
+abbrev μ-loop : tie.MeasureT-loop
+μ-loop out₀ at text k₀ out k = length text - k
+
+loop-holds : tie.Need-loop-holds Inv-loop μ-loop
+loop-holds c = (omega arith, all-left (c .args .out .now) (c .args .at) (c .args .text .now) _ (omega arith))
+
+shared-slice-read-out : tie.Need-shared-slice-read-out Inv-loop μ-loop
+shared-slice-read-out c = search needs
+
+add-out : tie.Need-add-out Inv-loop μ-loop
+add-out c = search needs
+
+slice-write-out : tie.Need-slice-write-out Inv-loop μ-loop
+slice-write-out c = search needs
+
+add-k : tie.Need-add-k Inv-loop μ-loop
+add-k c = search needs
+
+loop-less : tie.Need-loop-less Inv-loop μ-loop
+loop-less c = search needs
+
+loop-again : tie.Need-loop-again Inv-loop μ-loop
+loop-again c =
+    let l = c .before .before in
+    (omega arith, byte-written (l .loop .k) (l .before .args .text .now) (l .loop .inv .1) (c .before .loop-test .taken))
+
+add-result : tie.Need-add-result Inv-loop μ-loop
+add-result c = search needs
+
+same-length : tie.Need-same-length Inv-loop μ-loop
+same-length c = search needs
+
+returns : tie.Need-returns Inv-loop μ-loop
+returns c =
+    let l = c .before in
+    record {
+      written = all-written (l .loop .inv .1) (drop-of-length-le (l .before .args .text .now) {i = l .loop .k} (c .loop-test .left));
+      ends = omega arith;
+    }
+
+pub put-bytes-spec : {M : Type 1} → statement M
+put-bytes-spec =
+    tie.close
+    (tie.spec
+    Inv-loop
+    μ-loop
+    loop-holds
+    shared-slice-read-out
+    add-out
+    slice-write-out
+    add-k
+    loop-less
+    loop-again
+    add-result
+    same-length
+    returns)

@@ -1,0 +1,5 @@
+pub mod Text
+pub mod Names
+pub mod Listing
+pub mod Samples
+pub mod Put

@@ -1,0 +1,56 @@
+-- What the program prints. Assumes nothing.
+use Prim.Native.Nat.{ℕ, _/_, _%_}
+use mathlib.Core.Bool.{true, false}
+use mathlib.Core.List.{List, [], _∷_, _++_, map}
+use lib.Dec.{eqb}
+use lib.ListN.{take, drop}
+use Rattle.paper.specs.Format.{base, rowBytes, signed}
+use Rattle.paper.specs.Tables.{rowOf, dewey}
+use Rattle.paper.specs.NewTable.{entryUnit}
+use Rattle.paper.specs.Verdict.{Verdict, verdictNumbers}
+use Rattle.paper.specs.Calls.{Reply, Reshaping}
+use Rattle.listing.specs.Text.{ascii, newline, space, dot, decimal, signedText, parted}
+use Rattle.listing.specs.Names.{nameText}
+
+-- a text and the end of its line
+abbrev pub lined : List ℕ → List ℕ
+lined text = text ++ (newline ∷ [])
+
+-- `refused N P`
+unfoldable pub refusedText : ℕ → ℕ → List ℕ
+refusedText number place = lined (parted space (ascii "refused" ∷ decimal number ∷ decimal place ∷ []))
+
+-- `verdict` with its numbers
+unfoldable pub verdictText : List ℕ → List ℕ
+verdictText numbers = lined (parted space (ascii "verdict" ∷ map decimal numbers))
+
+-- a Dewey number: its components with dots between them
+unfoldable pub deweyText : List ℕ → List ℕ
+deweyText d = parted dot (map decimal d)
+
+-- a line: Dewey number, entry, label name, source row, value; the source is entry × 65,536 + source row
+unfoldable pub lineText : List ℕ → ℕ → List ℕ
+lineText row source =
+    let r = rowOf base row in
+    lined
+    (parted space
+    (deweyText (dewey r)
+    ∷ decimal (source / entryUnit)
+    ∷ nameText (r .label)
+    ∷ decimal (source % entryUnit)
+    ∷ signedText (signed (r .value))
+    ∷ []))
+
+-- a line each, of a table's first records and their sources
+unfoldable pub linesText : List ℕ → List ℕ → List ℕ
+linesText table [] = []
+linesText table (source ∷ sources) = lineText (take (rowBytes base) table) source ++ linesText (drop (rowBytes base) table) sources
+
+-- `refused N P`, or `verdict` with its numbers and then a line each
+unfoldable pub listingText : Reply Verdict → Reshaping → List ℕ
+listingText judged reshaped =
+    let r = reshaped .reply in
+    elim (eqb (r .number) 0) [
+      | true ↦ verdictText (verdictNumbers (judged .rest)) ++ linesText (reshaped .table) (take (r .rest) (reshaped .sources))
+      | false ↦ refusedText (r .number) (r .place)
+    ]

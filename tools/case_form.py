@@ -1,0 +1,168 @@
+"""A case of the program cases: what it holds, how it is written, and the line that it must give by tools/paper01.py.
+
+crates/cases/src/main.rt says what the bytes and the line are.
+"""
+import functools, typing
+
+import paper01
+
+# the program's rooms: some records and places more than a reshape uses, and a summary more than there are types
+MOST_RECORDS, MOST_SUMMARIES = 4100, 65
+
+# what a lent summary holds before the call
+MARK = (7777,) * 6
+
+# so many lines are printed whole; of more, their sum
+LINES_SHOWN = 40
+
+
+class Case(typing.NamedTuple):
+    """What a case leaves open, `filled` chooses. The room is of whole records, of bytes past them, and of places."""
+    table: bytes
+    shape: bytes = b""
+    row: typing.Optional[int] = None
+    room: typing.Optional[typing.Tuple[int, int, int]] = None
+    summaries: typing.Optional[int] = None
+
+
+# ---- what paper01.py says, once for each table and shape
+@functools.lru_cache(None)
+def judging(table, shape):
+    return paper01.judge(table, shape)
+
+
+@functools.lru_cache(None)
+def summary(table, shape):
+    return paper01.summarise(table, shape)
+
+
+@functools.lru_cache(None)
+def adorning(table, lent):
+    return paper01.adorn(table, [MARK] * lent)
+
+
+def total(case):
+    """The number of lines; 0 where the summary is refused."""
+    return sum(summary(case.table, case.shape)[2][0])
+
+
+def type_count(case):
+    return adorning(case.table, MOST_SUMMARIES)[0][2]
+
+
+# ---- what a case leaves open
+def within(low, x, high):
+    return min(max(low, x), high)
+
+
+def filled(case, at):
+    """The case with a row, a room and summaries that change from case to case: enough, just enough, and one short."""
+    row, room, summaries = case[2:]
+    if row is None:
+        row = at % (len(case.table) // 24 + 2)
+    if room is None:
+        n = total(case) or 4
+        records, past, places = ((1, 5, 2), (0, 0, 0), (-1, 23, 0), (0, 23, 0), (0, 0, -1), (2, 1, 30))[at % 6]
+        room = within(0, n + records, MOST_RECORDS - 1), past, within(0, n + places, MOST_RECORDS)
+    if summaries is None:
+        n = type_count(case) or 3
+        summaries = within(0, (n, n - 1, n + 1, MOST_SUMMARIES, 0, n + 2, 64)[at % 7], MOST_SUMMARIES)
+    return Case(case.table, case.shape, row, room, summaries)
+
+
+# ---- how cases are written
+def changes(held, start, data):
+    """Makes what is held from `start` on the data's, and gives the changes: runs of up to 255 bytes, of which at most three are as before."""
+    out, at = [], 0
+    while at < len(data):
+        if held[start + at] == data[at]:
+            at += 1
+            continue
+        end = last = at
+        while end < len(data) and end - at < 255 and end - last <= 3:
+            end += 1
+            last = end if held[start + end - 1] != data[end - 1] else last
+        out.append((start + at).to_bytes(2, "little") + bytes([last - at]) + data[at:last])
+        held[start + at:start + last] = data[at:last]
+        at = last
+    return out
+
+
+def packed(all_cases):
+    """The bytes of all cases, each as what differs from those before."""
+    held = bytearray(65536)
+    for case in all_cases:
+        records, past, places = case.room
+        assert 24 * records + past <= 24 * MOST_RECORDS and places <= MOST_RECORDS and case.summaries <= MOST_SUMMARIES, "more lent than there is"
+        assert max(len(case.table), len(case.shape)) <= 32768, "more bytes than the program holds"
+        made = changes(held, 0, case.table) + changes(held, 32768, case.shape)
+        fields = ((len(made), 2), (len(case.table), 2), (len(case.shape), 2), (case.row, 8), (records, 2), (past, 1), (case.summaries, 1), (places, 2))
+        yield b"".join(x.to_bytes(size, "little") for x, size in fields) + b"".join(made)
+
+
+# ---- the line that a case must give
+def folded(total, numbers):
+    """The program's sum, gone on by some numbers."""
+    for x in numbers:
+        total = (1000003 * total + x) % 2147483647
+    return total
+
+
+@functools.lru_cache(None)
+def read(table):
+    """The rows that the reader hands out, and the sum over all parts: at each place, two past the last row, the row there and the next."""
+    places = range(len(table) // 24 + 2)
+    parts = [paper01.hand_out(table, x) for at in places for x in (at, paper01.read_on(table, at))]
+    return sum(1 for x in parts[::2] if x), functools.reduce(lambda total, x: folded(total, [len(x), *x]), parts, 1)
+
+
+def adorned(case):
+    reply, summaries = adorning(case.table, case.summaries)
+    count = reply[2]
+    return [reply, *summaries[:count], *(("summary", k, *x) for k, x in enumerate(summaries) if k >= count and x != MARK)]
+
+
+def byte_before(i):
+    return (7 * i + 13) % 251
+
+
+def place_before(i):
+    return 1000003 + i
+
+
+def reshaping(case):
+    """The reply, the bytes and the places that reshaping leaves."""
+    records, past, places = case.room
+    new = bytes(map(byte_before, range(24 * records + past)))
+    return paper01.reshape(case.table, case.shape, new, list(map(place_before, range(places))))
+
+
+def reshaped(case):
+    reply, new, sources = reshaping(case)
+    count = reply[2]
+    lines = [(new[24 * i:24 * i + 24], sources[i]) for i in range(count)]
+    if count <= LINES_SHOWN:
+        pieces = [(*(paper01.u16(b, i) for i in range(0, 24, 2)), source) for b, source in lines]
+    else:
+        pieces = [("sum", folded(1, (x for b, source in lines for x in (*b, source))))]
+    pieces += [("byte", i, b) for i, b in enumerate(new) if 24 * count <= i and b != byte_before(i)]
+    pieces += [("place", i, x) for i, x in enumerate(sources) if count <= i and x != place_before(i)]
+    return [reply, *pieces]
+
+
+def summarised(case):
+    number, place, entries = summary(case.table, case.shape)
+    return [(number, place)] + [(e, *three) for e, three in enumerate(zip(*entries)) if any(three)]
+
+
+def told(case):
+    """The parts of a case's line, each a list of pieces."""
+    number, place, part = paper01.look_up(case.table, case.row)
+    refused, at, verdict = judging(case.table, case.shape)
+    return {
+        "examining": [paper01.examine(case.table)], "reading": [read(case.table)], "look-up": [(number, place, part.hex())],
+        "adorning": adorned(case), "judging": [(refused, at, *verdict)], "reshaping": reshaped(case), "summarising": summarised(case)}
+
+
+def line(parts):
+    return ": ".join("; ".join(" ".join(map(str, piece)) for piece in part) for part in parts.values()) + "\n"

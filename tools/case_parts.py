@@ -1,0 +1,83 @@
+"""What the lists of cases are written with: tables and shapes in brackets, answers by hand, and the room lent.
+
+An answer by hand is document 01's or worked out by hand: what judging says (`verdict 2 1 2`, `refused 7 0`) or the lines of each entry
+(`3 3 3`, or the summary's refusal), or both with a comma between. The tools stop if paper01.py says something else.
+"""
+import itertools, sys
+
+import brackets, cases
+from case_form import MOST_RECORDS, Case, judging, summary, total
+
+FAR = 65535
+
+
+# ---- tables
+def table(rows, values=None):
+    """Rows given as (Dewey number, label). Each value has eight bytes of its own, or the values come in turn."""
+    own = (bytes((37 * i + 11 * k + 200) % 256 for k in range(8)) for i in itertools.count())
+    given = (v.to_bytes(8, "little", signed=True) for v in itertools.cycle(values or [0]))
+    return b"".join(cases.row_bytes(d, l, v) for (d, l), v in zip(rows, given if values else own))
+
+
+def nested_table(text):
+    return table(brackets.nested(text))
+
+
+def many(label, count):
+    return f"{label} " * count
+
+
+# ---- answers by hand
+def said(case):
+    """What judging says in the words of document 01's program, and the lines of each entry."""
+    number, place, verdict = judging(case.table, case.shape)
+    judged = f"refused {number} {place}" if number else " ".join(map(str, ("verdict", *verdict)))
+    number, place, (lines, _, _) = summary(case.table, case.shape)
+    return judged, f"refused {number} {place}" if number else " ".join(map(str, lines[:len(case.shape) // 16]))
+
+
+def by_hand(case, hand):
+    """The case, if paper01.py gives it the answers that it has by hand."""
+    if not set(hand.split(", ")) <= set(said(case)):
+        sys.exit(f"table {case.table.hex()}, shape {case.shape.hex()}: {hand} by hand, {said(case)} by paper01.py")
+    return case
+
+
+def bracketed(table_text, shape_text, hand=None, values=None):
+    """A case from a table and a shape in brackets."""
+    rows = brackets.nested(table_text)
+    case = Case(table(rows, values), brackets.wanted(shape_text, rows))
+    return by_hand(case, hand) if hand else case
+
+
+def each_shape(table_text, answers, values=None):
+    """One table with several shapes, and the answers of each."""
+    return [bracketed(table_text, shape_text, hand, values) for shape_text, hand in answers.items()]
+
+
+def each_table(shape_text, answers):
+    """One shape with several tables, and the answers of each."""
+    return [bracketed(table_text, shape_text, hand) for table_text, hand in answers.items()]
+
+
+# ---- what is lent
+def room(case, records, past, places):
+    return case._replace(room=(records, past, places))
+
+
+def lent(case, records=1, past=5, places=2):
+    """The case with room for so many more lines than there are, and some bytes past the last whole record."""
+    n = total(case)
+    return room(case, min(max(n + records, 0), MOST_RECORDS), past, min(max(n + places, 0), MOST_RECORDS))
+
+
+def far_more(case):
+    return room(case, MOST_RECORDS, 0, MOST_RECORDS)
+
+
+def around(case, past=(0,)):
+    """Exactly enough room; a record short, whatever bytes lie past the last; a place short; one of either more; nothing of either."""
+    n = total(case)
+    near = sorted({0, max(n - 1, 0), n, n + 1})
+    for records, more, places in itertools.product(near, past, near):
+        yield room(case, records, more, places)
