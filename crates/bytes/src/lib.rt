@@ -1,9 +1,10 @@
-// Numbers and records read from lent bytes. Every reader here asks its caller for bytes that are there, and its contract is
-// the definition of the same name in the paper; what the numbers mean is left to the layers above.
+// Numbers and records read from lent bytes, and bytes put into them. Every function here asks its caller for bytes that are there, and
+// a reader's contract is a definition of the paper; what the numbers mean is left to the layers above.
 ghost use mathlib.Core.Path.{_≡_};
 ghost use Prim.Native.Nat.{_+_, _*_, _≤_, _<_};
 ghost use lib.ListN.{length, take, drop};
-ghost use Rattle.paper.specs.Format.{byte, word};
+ghost use lib.Seq.{sets};
+ghost use Rattle.paper.specs.Format.{byte, word, number, span};
 
 // A byte as a number.
 pub fn wide(b: u8) -> usize
@@ -20,6 +21,16 @@ pub fn word(b: &[u8], i: usize) -> usize
     wide(b[i]) + 256 * wide(b[i + 1])
 }
 
+// The 64-bit number at byte i.
+pub fn long(b: &[u8], i: usize) -> usize
+    requires { ⌜ i + 7 < length (now b) ⌝ }
+    ensures { λ r. ⌜ r ≡ number (span 8 (now (b .entry)) i) ⌝ }
+{
+    let low = word(b, i) + 65536 * word(b, i + 2);
+    let high = word(b, i + 4) + 65536 * word(b, i + 6);
+    low + 4294967296 * high
+}
+
 // Record i of w bytes: its own bytes of the caller's table.
 pub fn record(t: &[u8], w: usize, i: usize) -> &[u8]
     requires { ⌜ w * i + w ≤ length (now t) ⌝ }
@@ -27,4 +38,16 @@ pub fn record(t: &[u8], w: usize, i: usize) -> &[u8]
 {
     let at = w * i;
     &t[at..at + w]
+}
+
+// Some bytes, put at a place.
+pub fn put(out: &mut [u8], at: usize, text: &[u8])
+    requires { ⌜ at + length (now text) ≤ length (now out) ⌝ }
+    ensures { λ _. ⌜ now (out .exit) ≡ sets (now (out .entry)) at (now (text .entry)) ⌝ }
+{
+    let mut k = 0;
+    while k < text.len() {
+        out[at + k] = text[k];
+        k += 1;
+    }
 }

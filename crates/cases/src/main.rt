@@ -40,20 +40,11 @@ struct Ask {
     summaries: usize,
 }
 
-// The 64-bit number at byte i.
-fn long(b: &[u8], i: usize) -> usize
-    requires { ⌜ i + 7 < length (now b) ⌝ }
-{
-    let low = bytes::word(b, i) + 65536 * bytes::word(b, i + 2);
-    let high = bytes::word(b, i + 4) + 65536 * bytes::word(b, i + 6);
-    low + 4294967296 * high
-}
-
 fn asked(head: &[u8]) -> Ask
     requires { ⌜ length (now head) ≡ 20 ⌝ }
 {
     Ask {
-        row: long(head, 6),
+        row: bytes::long(head, 6),
         bytes: 24 * bytes::word(head, 14) + bytes::wide(head[16]),
         places: bytes::word(head, 18),
         summaries: bytes::wide(head[17]),

@@ -1,4 +1,3 @@
-pub mod Writing
 pub mod Line
 pub mod Trees
 pub mod Beneath

@@ -29,18 +29,6 @@ fn put_number(out: &mut [u8], at: usize, number: [u16; 8], levels: usize)
     }
 }
 
-// The eight bytes of a value.
-fn put_value(out: &mut [u8], at: usize, value: &[u8])
-    requires { ⌜ (at + length (now value) ≤ length (now out)) ⌝ }
-    ensures { λ _. ⌜ now (out .exit) ≡ sets (now (out .entry)) at (now (value .entry)) ⌝ }
-{
-    let mut k = 0;
-    while k < value.len() {
-        out[at + k] = value[k];
-        k += 1;
-    }
-}
-
 // The record of a line at place p: level, label, Dewey number, and the value of source row r.
 pub fn put_line(
     t: &[u8],
@@ -64,5 +52,5 @@ pub fn put_line(
     out[at + 1] = 0;
     put_word(out, at + 2, label);
     put_number(out, at + 4, number, levels);
-    put_value(out, at + v, &row[v..v + 8]);
+    bytes::put(out, at + v, &row[v..v + 8]);
 }

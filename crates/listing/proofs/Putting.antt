@@ -5,7 +5,7 @@ use mathlib.Core.Path.{_≡_, refl, sym, _∙_, ap}
 use mathlib.Core.List.{List, [], _∷_, _++_, append-nil}
 use lib.ListN.{length, length-append}
 use lib.Seq.{length-sets}
-use Rattle.lines.proofs.Writing.{all-left, part-written, all-written}
+use Rattle.bytes.proofs.Writing.{all-left, part-written, all-written}
 use Rattle.listing.specs.Text.{decimal}
 use Rattle.listing.specs.Put.{Put}
 -- A wrong definition is refused first by the sample that it breaks, so the samples stand before the laws.

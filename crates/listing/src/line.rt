@@ -9,7 +9,7 @@ ghost use Prim.Native.Nat.{_+_, _≤_};
 ghost use mathlib.Core.List.{map};
 ghost use lib.ListN.{length, take};
 ghost use Rattle.io.specs.Counts.{Counts};
-ghost use Rattle.paper.specs.Format.{base, words, number, signed};
+ghost use Rattle.paper.specs.Format.{base, words, signed};
 ghost use Rattle.paper.specs.Tables.{rowOf, dewey};
 ghost use Rattle.listing.specs.Text.{dot, decimal, signedText, followed};
 ghost use Rattle.listing.specs.Listing.{deweyText, lineText};
@@ -42,22 +42,12 @@ fn put_dewey(out: &mut [u8], at: usize, row: &[u8]) -> usize
     put_further(out, first, row, n - 1)
 }
 
-// The 64 bits of a row's value, as a number.
-fn value_bits(row: &[u8]) -> usize
-    requires { ⌜ length (now row) ≡ 24 ⌝ }
-    ensures { λ r. ⌜ r ≡ number (rowOf base (now (row .entry)) .value) ⌝ }
-{
-    let low = bytes::word(row, 16) + 65536 * bytes::word(row, 18);
-    let high = bytes::word(row, 20) + 65536 * bytes::word(row, 22);
-    low + 4294967296 * high
-}
-
 // A row's value, signed. Below 0 its size is what the bits lack of 2^64, which holds of the least value too.
 fn put_value(out: &mut [u8], at: usize, row: &[u8]) -> usize
     requires { ⌜ (at + 21 ≤ length (now out)) × (length (now row) ≡ 24) ⌝ }
     ensures { λ r. ⌜ Put (now (out .entry)) at (signedText (signed (rowOf base (now (row .entry)) .value))) (now (out .exit)) r × (r ≤ at + 21) ⌝ }
 {
-    let bits = value_bits(row);
+    let bits = bytes::long(row, 16);
     if bits < 9223372036854775808 {
         put_number(out, at, bits)
     } else {

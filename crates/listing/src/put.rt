@@ -19,12 +19,8 @@ pub fn put_bytes(out: &mut [u8], at: usize, text: &[u8]) -> usize
     requires { ⌜ at + length (now text) ≤ length (now out) ⌝ }
     ensures { λ r. ⌜ Put (now (out .entry)) at (now (text .entry)) (now (out .exit)) r ⌝ }
 {
-    let mut k = 0;
-    while k < text.len() {
-        out[at + k] = text[k];
-        k += 1;
-    }
-    at + k
+    bytes::put(out, at, text);
+    at + text.len()
 }
 
 // A number's decimal digits, of which there are at most 20.

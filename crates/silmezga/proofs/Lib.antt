@@ -1,3 +1,4 @@
+pub mod Clauses
 pub mod Held
 pub mod Reading
 pub mod ReaderHeld

@@ -1,6 +1,6 @@
 use lib.ListN.{length-set, length-take, length-drop}
 use Rattle.paper.specs.Format.{format}
-use Rattle.lines.proofs.Writing.{two-written}
+use Rattle.bytes.proofs.Writing.{two-written}
 use Rattle.lines.proofs.Line.{row-within, line-written}
 use native.Mathlib.Omega.{arith}
 use borrow.Author.Needs.{needs}
@@ -10,7 +10,6 @@ use Rattle.lines.proofs.put.put_line.Reads as reads
 use Rattle.lines.proofs.put.put_line.Lts as lts
 use Rattle.bytes.proofs.record.Reads as record-reads
 use Rattle.lines.proofs.put.put_number.Reads as put-number-reads
-use Rattle.lines.proofs.put.put_value.Reads as put-value-reads
 use Rattle.lines.proofs.put.put_word.Reads as put-word-reads
 
 -- src/put.rt:60:17
@@ -72,28 +71,28 @@ put-number-requires : tie.Need-put-number-requires
 put-number-requires c κs = omega (arith, simp length-set at (c .before .before .out .given))
 
 -- src/put.rt:68:20
-add-put-value : tie.Need-add-put-value
-add-put-value c = search needs
+add-put : tie.Need-add-put
+add-put c = search needs
 
 -- src/put.rt:68:36
-add-put-value-2 : tie.Need-add-put-value-2
-add-put-value-2 c = search needs
+add-put-2 : tie.Need-add-put-2
+add-put-2 c = search needs
 
 -- src/put.rt:68:28
-sub-put-value : tie.Need-sub-put-value
-sub-put-value c = search needs
+sub-put : tie.Need-sub-put
+sub-put c = search needs
 
 -- src/put.rt:68:28
-part-put-value-start : tie.Need-part-put-value-start
-part-put-value-start c = search needs
+part-put-start : tie.Need-part-put-start
+part-put-start c = search needs
 
 -- src/put.rt:68:28
-part-put-value-end : tie.Need-part-put-value-end
-part-put-value-end c = search needs
+part-put-end : tie.Need-part-put-end
+part-put-end c = search needs
 
 -- src/put.rt:68:5
-put-value-requires : tie.Need-put-value-requires
-put-value-requires c κs =
+put-requires : tie.Need-put-requires
+put-requires c κs =
     let n = c .before .before .before in
     simp (length-take, length-drop) (omega (arith, n .out2 .given, simp length-set at (n .before .before .before .before .out .given)))
 
@@ -113,9 +112,9 @@ returns c =
     let s = row .before .before .before in
     let a = s .args in
     line-written (format (a .levels) (a .largest)) (a .t .now) (a .r) (s .pre .1) (a .level) (a .label) (a .number) (omega (arith, s .good, s .pre))
-    (a .out .now) _ (w .put-word .last .0) (n .put-number .last .0) (v .put-value .last .0) (row .«record» .result .now)
+    (a .out .now) _ (w .put-word .last .0) (n .put-number .last .0) (v .put .last .0) (row .«record» .result .now)
     _ _ _ _ _ (omega arith) (omega arith) (omega arith) (omega arith) (row .«record» .ensures .0)
-    (two-written (a .out .now) _ _ _ _ _ _ (omega arith) (omega arith) (omega arith)) (w .put-word .ensures) (n .put-number .ensures) (v .put-value .ensures)
+    (two-written (a .out .now) _ _ _ _ _ _ (omega arith) (omega arith) (omega arith)) (w .put-word .ensures) (n .put-number .ensures) (v .put .ensures)
 
 pub put-line-spec : {M : Type 1} → statement M
 put-line-spec =
@@ -135,11 +134,11 @@ put-line-spec =
     put-word-requires
     add-put-number
     put-number-requires
-    add-put-value
-    add-put-value-2
-    sub-put-value
-    part-put-value-start
-    part-put-value-end
-    put-value-requires
+    add-put
+    add-put-2
+    sub-put
+    part-put-start
+    part-put-end
+    put-requires
     same-length
     returns)

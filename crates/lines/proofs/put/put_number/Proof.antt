@@ -2,7 +2,7 @@ use Prim.Native.Nat.{_+_, _*_, _-_, _≤_}
 use lib.ListN.{take, drop}
 use Rattle.paper.specs.Lists.{joinMap}
 use Rattle.paper.specs.Format.{bytes}
-use Rattle.lines.proofs.Writing.{Writing, all-left, all-written, number-written, numbers-end}
+use Rattle.bytes.proofs.Writing.{Writing, all-left, all-written, number-written, numbers-end}
 use native.Mathlib.Omega.{arith}
 use borrow.Author.Needs.{needs}
 use Rattle.lines.proofs.put.put_number.Statement.{statement}

@@ -1,5 +1,5 @@
 use lib.ListN.{length-set}
-use Rattle.lines.proofs.Writing.{two-written}
+use Rattle.bytes.proofs.Writing.{two-written}
 use native.Mathlib.Omega.{arith}
 use borrow.Author.Needs.{needs}
 use Rattle.lines.proofs.put.put_word.Statement.{statement}

@@ -8,8 +8,8 @@ use borrow.Author.Needs.{needs}
 use Rattle.listing.proofs.line.put_value.Statement.{statement}
 use Rattle.listing.proofs.line.put_value.Tie as tie
 
-value-bits-requires : tie.Need-value-bits-requires
-value-bits-requires c κs = search needs
+long-requires : tie.Need-long-requires
+long-requires c κs = search needs
 
 put-number-requires : tie.Need-put-number-requires
 put-number-requires c κs = search needs
@@ -27,11 +27,12 @@ same-length : tie.Need-same-length
 same-length c = search needs
 
 returns : tie.Need-returns
+unfolding base rowOf
 returns c =
     let n = c .before .before in
     let v = n .before .before .before in
     let row = v .before .before .before .args .row .now in (
-      put-as (n .put-number .ensures .0) (not-below (rowOf base row .value) (v .value-bits .result) (v .value-bits .ensures) (omega arith)),
+      put-as (n .put-number .ensures .0) (not-below (rowOf base row .value) (v .long .result) (v .long .ensures) (omega arith)),
       omega (arith, n .put-number .ensures .1),
     )
 
@@ -39,11 +40,12 @@ same-length-2 : tie.Need-same-length-2
 same-length-2 c = search needs
 
 returns-2 : tie.Need-returns-2
+unfolding base rowOf
 returns-2 c =
     let n = c .before .before in
     let v = n .before .before .before in
     let row = v .before .before .before .args .row .now in (
-      put-as (n .put-after .ensures .0) (below (rowOf base row .value) (v .value-bits .result) (v .value-bits .ensures) (omega arith) _ (omega arith) (omega arith)),
+      put-as (n .put-after .ensures .0) (below (rowOf base row .value) (v .long .result) (v .long .ensures) (omega arith) _ (omega arith) (omega arith)),
       n .put-after .ensures .1,
     )
 
@@ -51,7 +53,7 @@ pub put-value-spec : {M : Type 1} → statement M
 put-value-spec =
     tie.close
     (tie.spec
-    value-bits-requires
+    long-requires
     put-number-requires
     sub-put-after
     add-put-after

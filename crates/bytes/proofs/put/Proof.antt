@@ -1,11 +1,11 @@
--- `put::put_bytes`: what is still to be written is the rest of the text. Assumes nothing.
+-- `put`: what is still to be written is the rest of the text. Assumes nothing.
 use Prim.Native.Nat.{_+_, _-_, _≤_}
 use lib.ListN.{length, drop, drop-of-length-le}
-use Rattle.lines.proofs.Writing.{Writing, all-left, all-written, byte-written}
+use Rattle.bytes.proofs.Writing.{Writing, all-left, all-written, byte-written}
 use native.Mathlib.Omega.{arith}
 use borrow.Author.Needs.{needs}
-use Rattle.listing.proofs.put.put_bytes.Statement.{statement}
-use Rattle.listing.proofs.put.put_bytes.Tie as tie
+use Rattle.bytes.proofs.put.Statement.{statement}
+use Rattle.bytes.proofs.put.Tie as tie
 
 abbrev Inv-loop : tie.InvT-loop
 Inv-loop out₀ at text k₀ out k = (k ≤ length text) × Writing out₀ at text out (at + k) (drop k text)
@@ -36,22 +36,14 @@ loop-again c =
     let l = c .before .before in
     (omega arith, byte-written (l .loop .k) (l .before .args .text .now) (l .loop .inv .1) (c .before .loop-test .taken))
 
-add-result : tie.Need-add-result Inv-loop μ-loop
-add-result c = search needs
-
 same-length : tie.Need-same-length Inv-loop μ-loop
 same-length c = search needs
 
 returns : tie.Need-returns Inv-loop μ-loop
-returns c =
-    let l = c .before in
-    record {
-      written = all-written (l .loop .inv .1) (drop-of-length-le (l .before .args .text .now) {i = l .loop .k} (c .loop-test .left));
-      ends = omega arith;
-    }
+returns c = all-written (c .before .loop .inv .1) (drop-of-length-le (c .before .before .args .text .now) {i = c .before .loop .k} (c .loop-test .left))
 
-pub put-bytes-spec : {M : Type 1} → statement M
-put-bytes-spec =
+pub put-spec : {M : Type 1} → statement M
+put-spec =
     tie.close
     (tie.spec
     Inv-loop
@@ -63,6 +55,5 @@ put-bytes-spec =
     add-k
     loop-less
     loop-again
-    add-result
     same-length
     returns)
