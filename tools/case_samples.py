@@ -72,6 +72,9 @@ def samples():
     nothing = bracketed("", "3[2 4]", "refused 7 0")
     yield from around(nothing)
     yield far_more(nothing)
+    # P2 with a summary for each type, with one too few, and with more than enough
+    for summaries in (4, 3, 65):
+        yield lent(bracketed(A, "3[2 4]", "verdict 0", VALUES))._replace(summaries=summaries)
     marked = [leases(), *each_shape(A, {"4[3[2]]": "verdict 1 1 8, 3 3 3", "1[2 4]": "verdict 2 1 2, 1 2 3"}, VALUES),
               bracketed("1[3[4] 3 5]", "3[4[5]]", "verdict 3 0 2, 2 1 1", VALUES),
               *each_shape(A, {"3[3]": "verdict 0, 3 3", "1[3 3]": "verdict 2 1 2, 1 3 3"}, VALUES),
