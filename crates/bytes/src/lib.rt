@@ -5,6 +5,7 @@ ghost use Prim.Native.Nat.{_+_, _*_, _≤_, _<_};
 ghost use lib.ListN.{length, take, drop};
 ghost use lib.Seq.{sets};
 ghost use Rattle.paper.specs.Format.{byte, word, number, span};
+ghost use Rattle.bytes.specs.Part.{OwnFrom};
 
 // A byte as a number.
 pub fn wide(b: u8) -> usize
@@ -34,7 +35,7 @@ pub fn long(b: &[u8], i: usize) -> usize
 // Record i of w bytes: its own bytes of the caller's table.
 pub fn record(t: &[u8], w: usize, i: usize) -> &[u8]
     requires { ⌜ w * i + w ≤ length (now t) ⌝ }
-    ensures { λ r. ⌜ (now r ≡ take w (drop (w * i) (now (t .entry)))) × (length (now r) ≡ w) ⌝ }
+    ensures { λ r. ⌜ (now r ≡ take w (drop (w * i) (now (t .entry)))) × (length (now r) ≡ w) × OwnFrom (t .entry) (w * i) r ⌝ }
 {
     let at = w * i;
     &t[at..at + w]

@@ -11,7 +11,8 @@ use borrow.Author.Tests.{lt-ltb, le-ltb}
 use Rattle.paper.specs.Format.{Format, base, rowBytes, records, whole}
 use Rattle.paper.specs.Tables.{rowPart}
 use Rattle.paper.specs.Calls.{readerRow, readerNext}
-use Rattle.bytes.proofs.Laws.{over, record-length}
+use Rattle.bytes.specs.Part.{OwnFrom}
+use Rattle.bytes.proofs.Laws.{record-length}
 use Rattle.tables.proofs.Rows.{row-in}
 use Rattle.silmezga.specs.Handed.{readerStart, Handed}
 use Rattle.silmezga.specs.declared.reader.Reader.{Reader}
@@ -52,17 +53,16 @@ readerRow-length f t at lt = ap length (readerRow-row f t at lt) ∙ record-leng
 abbrev part : RefT (List ℕ) → ℕ → ℕ → RefT (List ℕ)
 part t i j = record { ptr = (t .ptr .0, i + t .ptr .1); name = t .name; now = take (j - i) (drop i (now t)) }
 
-pub row-handed : (t : RefT (List ℕ)) (at : ℕ) → at < whole (rowBytes base) (now t) → Handed t at (part t (24 * at) (24 * at + 24))
-unfolding base
-row-handed t at lt = (
-  ap (λ n. take n (drop (24 * at) (now t))) (over (24 * at) 24) ∙ sym (readerRow-row base (now t) at lt),
-  refl,
-  omega (arith, readerStart-row base (now t) at lt),
+pub row-handed : (t : RefT (List ℕ)) (at : ℕ) → at < whole (rowBytes base) (now t) → (p : RefT (List ℕ))
+    → now p ≡ take (rowBytes base) (drop (rowBytes base * at) (now t)) → OwnFrom t (rowBytes base * at) p → Handed t at p
+row-handed t at lt p is own = (
+  is ∙ sym (readerRow-row base (now t) at lt),
+  (own .0, omega (arith, own .1, readerStart-row base (now t) at lt)),
 )
 
 pub end-handed : (t : RefT (List ℕ)) (at : ℕ) → whole (rowBytes base) (now t) ≤ at → Handed t at (part t 0 0)
 unfolding base
-end-handed t at le = (sym (readerRow-end base (now t) at le), refl, omega (arith, readerStart-end base (now t) at le))
+end-handed t at le = (sym (readerRow-end base (now t) at le), (refl, omega (arith, readerStart-end base (now t) at le)))
 
 -- ---- the rows in order
 -- What a reader hands out in n steps, from a place on.
@@ -93,7 +93,7 @@ all-rows f t =
 -- ---- any two results that a contract allows are equal
 -- parts: the same bytes at the same place
 pub handed-unique : (t : RefT (List ℕ)) (at : ℕ) (p o : RefT (List ℕ)) → Handed t at p → Handed t at o → (now p ≡ now o) × (p .ptr ≡ o .ptr)
-handed-unique t at p o a b = (a .0 ∙ sym (b .0), λ i. ((a .1 ∙ sym (b .1)) i, (a .2 ∙ sym (b .2)) i))
+handed-unique t at p o a b = (a .0 ∙ sym (b .0), λ i. ((a .1 .0 ∙ sym (b .1 .0)) i, (a .1 .1 ∙ sym (b .1 .1)) i))
 
 -- readers, as `make` and `next` give them
 pub reader-unique : (t : RefT (List ℕ)) (at : ℕ) (r o : Reader) → (r .table ≡ t) × (r .at ≡ at) → (o .table ≡ t) × (o .at ≡ at) → r ≡ o

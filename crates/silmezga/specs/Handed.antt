@@ -1,5 +1,5 @@
 -- Which part of which table a reader hands out. Assumes nothing.
-use Prim.Native.Nat.{ℕ, _+_, _*_}
+use Prim.Native.Nat.{ℕ, _*_}
 use mathlib.Core.Path.{_≡_}
 use mathlib.Core.Bool.{true, false}
 use mathlib.Core.List.{List}
@@ -7,6 +7,7 @@ use lib.Dec.{ltb}
 use denote.Ref.{RefT, now}
 use Rattle.paper.specs.Format.{Format, base, rowBytes, whole}
 use Rattle.paper.specs.Calls.{readerRow}
+use Rattle.bytes.specs.Part.{OwnFrom}
 
 -- The byte of the table at which the part begins: at a whole row, a row's bytes times the row number; past the last, the table's first.
 unfoldable pub readerStart : Format → List ℕ → ℕ → ℕ
@@ -14,4 +15,4 @@ readerStart f b at = elim (ltb at (whole (rowBytes f) b)) [ true ↦ rowBytes f 
 
 -- What a reader at a place of the lent table t hands out: the row's bytes, in t's own memory, from that byte of t on.
 abbrev pub Handed : RefT (List ℕ) → ℕ → RefT (List ℕ) → Type 0
-Handed t at p = (now p ≡ readerRow base (now t) at) × (p .ptr .0 ≡ t .ptr .0) × (p .ptr .1 ≡ t .ptr .1 + readerStart base (now t) at)
+Handed t at p = (now p ≡ readerRow base (now t) at) × OwnFrom t (readerStart base (now t) at) p

@@ -1,6 +1,7 @@
 // The six calls, each with its whole promise: document 01's order, its refusals, and what every lent byte, place and summary holds
 // afterwards. None asks anything of its caller: a call takes bytes of every kind and gives its answer, or a refusal with a number and a
 // place, and a refused call changes nothing that it was lent. The definitions that the promises name are those of `paper` (specs/Calls).
+// `reader` is the small reader over a table, under the same rule.
 pub mod reader;
 
 pub use adorned::TypeSummary;
@@ -19,7 +20,7 @@ ghost use Rattle.paper.specs.Format.{base, rowBytes};
 ghost use Rattle.paper.specs.Verdict.{kept};
 ghost use Rattle.paper.specs.Calls.{examine, lookUp, adorn, judge, reshape, summarise};
 ghost use Rattle.paper.specs.Links.{LinksKept};
-ghost use Rattle.tables.specs.Reply.{examined};
+ghost use Rattle.tables.specs.Reply.{examined, HandsBack};
 ghost use Rattle.adorned.specs.Told.{told};
 ghost use Rattle.adorned.specs.Lent.{adornedTypes};
 ghost use Rattle.judging.specs.Judged.{judged, inNumbers};
@@ -34,7 +35,7 @@ pub fn examine(table: &[u8]) -> Examined
 
 // Looks up a row: its own 24 bytes of the caller's table; refused, an empty part.
 pub fn look_up(table: &[u8], row: usize) -> &[u8]
-    ensures { λ r. ⌜ now r ≡ lookUp base (now (table .entry)) row .rest ⌝ }
+    ensures { λ r. ⌜ HandsBack (table .entry) row r ⌝ }
 {
     tables::table::look_up(table, row)
 }

@@ -12,8 +12,7 @@ pub fn row_at(table: &[u8], at: usize) -> &[u8]
     let none = 0;
     let rows = table.len() / 24;
     if at < rows {
-        let start = 24 * at;
-        return &table[start..start + 24];
+        return bytes::record(table, 24, at);
     }
     &table[none..none]
 }

@@ -14,17 +14,15 @@ use Rattle.judging.specs.Judged.{judged, inNumbers}
 use Rattle.judging.specs.declared.judge.Judged.{Judged}
 use Rattle.paper.proofs.Calls.{passed1-3}
 use Rattle.bytes.proofs.Laws.{record-length}
+use Rattle.tables.specs.Reply.{startOf}
+use Rattle.tables.proofs.Back.{refused-start}
 use Rattle.tables.proofs.Examine.{lookUp-row}
 use Rattle.tables.proofs.Rows.{row-in}
-use Rattle.silmezga_c.specs.Told.{startOf, LooksUp, inThree, threeNumbers}
+use Rattle.silmezga_c.specs.Told.{LooksUp, inThree, threeNumbers}
 use Rattle.silmezga_c.specs.declared.LookedUp.{LookedUp}
 use Rattle.silmezga_c.specs.declared.JudgedNumbers.{JudgedNumbers}
 
 -- ---- look-up
-refused-start : (k i : ℕ) → (k ≡ 0 → ⊥) → 0 ≡ startOf k i
-refused-start zero i ne = absurd (ne refl)
-refused-start (suc k) i ne = refl
-
 module _ (t : List ℕ) (i : ℕ) where
   -- refused, the number and the place are told, and no part
   pub told-refused : (k p : ℕ) (r : LookedUp) → (k ≡ 0 → ⊥) → lookUp base t i ≡ record { number = k; place = p; rest = [] }
@@ -35,7 +33,7 @@ module _ (t : List ℕ) (i : ℕ) where
       record {
         number-is = h .0 ∙ sym number;
         place-is = h .1 ∙ sym (ap (λ (x : Reply (List ℕ)). x .place) e);
-        start-is = h .2 ∙ refused-start k i ne ∙ ap (λ n. startOf n i) (sym number);
+        start-is = h .2 ∙ sym (refused-start k i ne) ∙ ap (λ n. startOf n i) (sym number);
         length-is = h .3 ∙ ap length (sym rest);
         part-is = ap (λ n. take n (drop (r .start) t)) (h .3) ∙ sym rest;
       }

@@ -1,19 +1,15 @@
 -- What the answers in numbers say, in the paper's terms. Assumes nothing.
-use Prim.Native.Nat.{ℕ, zero, suc, _*_}
+use Prim.Native.Nat.{ℕ}
 use mathlib.Core.Path.{_≡_}
 use mathlib.Core.List.{List, [], _∷_}
 use lib.ListN.{length, take, drop}
 use Rattle.paper.specs.Lists.{padded}
-use Rattle.paper.specs.Format.{base, rowBytes}
+use Rattle.paper.specs.Format.{base}
 use Rattle.paper.specs.Verdict.{Verdict, verdictNumbers}
 use Rattle.paper.specs.Calls.{Reply, lookUp}
+use Rattle.tables.specs.Reply.{startOf}
 use Rattle.silmezga_c.specs.declared.LookedUp.{LookedUp}
 use Rattle.silmezga_c.specs.declared.JudgedNumbers.{JudgedNumbers}
-
--- where row i starts in the table that it was looked up in; refused, with a number above 0: 0
-abbrev pub startOf : ℕ → ℕ → ℕ
-startOf zero i = rowBytes base * i
-startOf (suc k) i = 0
 
 -- the answer to the look-up of row i: its number, its place, and where the row's own bytes stand in the caller's table
 pub record LooksUp (t : List ℕ) (i : ℕ) (r : LookedUp) : Type 0 where

@@ -1,3 +1,4 @@
+pub mod Back
 pub mod Laws
 pub mod Follows
 pub mod Rows

@@ -2,9 +2,10 @@
 use Prim.Native.Nat.{ℕ}
 use mathlib.Core.Path.{_≡_, sym, _∙_, ap}
 use mathlib.Core.List.{List}
+use denote.Ref.{RefT, now}
 use Rattle.paper.specs.Format.{base}
 use Rattle.paper.specs.Calls.{Reply, examine, lookUp}
-use Rattle.tables.specs.Reply.{examined}
+use Rattle.tables.specs.Reply.{examined, HandsBack}
 use Rattle.tables.specs.declared.table.Examined.{Examined}
 use Rattle.tables.specs.declared.table.Refusal.{Refusal}
 
@@ -13,8 +14,9 @@ examine-unique t r s a b =
     let e : examined r ≡ examined s = a ∙ sym b in
     λ i. record { number = ap (λ (x : Reply ℕ). x .number) e i; place = ap (λ (x : Reply ℕ). x .place) e i; rows = ap (λ (x : Reply ℕ). x .rest) e i }
 
-pub look-up-unique : (t : List ℕ) (i : ℕ) (r s : List ℕ) → r ≡ lookUp base t i .rest → s ≡ lookUp base t i .rest → r ≡ s
-look-up-unique t i r s a b = a ∙ sym b
+-- parts: the same bytes at the same place
+pub look-up-unique : (t : RefT (List ℕ)) (i : ℕ) (p o : RefT (List ℕ)) → HandsBack t i p → HandsBack t i o → (now p ≡ now o) × (p .ptr ≡ o .ptr)
+look-up-unique t i p o a b = (a .0 ∙ sym (b .0), λ j. ((a .1 .0 ∙ sym (b .1 .0)) j, (a .1 .1 ∙ sym (b .1 .1)) j))
 
 pub look-up-refusal-unique : (t : List ℕ) (i : ℕ) (r s : Refusal)
     → (r .number ≡ lookUp base t i .number) × (r .place ≡ lookUp base t i .place)

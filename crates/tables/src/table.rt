@@ -11,7 +11,7 @@ ghost use Rattle.paper.specs.Format.{format, base, rowBytes, whole, byte};
 ghost use Rattle.paper.specs.Tables.{rowOf, rows, dewey, rowKept, badRow};
 ghost use Rattle.paper.specs.Calls.{examine, lookUp};
 ghost use Rattle.tables.specs.Place.{placeOf};
-ghost use Rattle.tables.specs.Reply.{examined};
+ghost use Rattle.tables.specs.Reply.{examined, HandsBack};
 
 // What examining answers.
 #[repr(C)]
@@ -140,7 +140,7 @@ pub fn look_up_refusal(t: &[u8], i: usize) -> Refusal
 
 // Row i's own bytes of the caller's table, or an empty part.
 pub fn look_up(t: &[u8], i: usize) -> &[u8]
-    ensures { λ r. ⌜ now r ≡ lookUp base (now (t .entry)) i .rest ⌝ }
+    ensures { λ r. ⌜ HandsBack (t .entry) i r ⌝ }
 {
     let none = 0;
     let e = examine(t);

@@ -1,3 +1,4 @@
+use native.Mathlib.Omega.{arith}
 use mathlib.Core.Path.{refl}
 use Rattle.bytes.proofs.Laws.{over, record-length}
 use borrow.Author.Needs.{needs}
@@ -28,7 +29,7 @@ part-result-end c = search needs
 
 -- src/lib.rt:24:1
 returns : tie.Need-returns
-returns c = simp over (refl, record-length (c .before .args .t .now) (c .before .args .w) (c .before .args .i) (c .before .pre))
+returns c = simp over (refl, record-length (c .before .args .t .now) (c .before .args .w) (c .before .args .i) (c .before .pre), (refl, omega arith))
 
 pub record-spec : {M : Type 1} → statement M
 record-spec =

@@ -1,11 +1,8 @@
-use Prim.Native.Nat.{ℕ}
 use native.Mathlib.Omega.{arith}
-use mathlib.Core.Path.{sym, _∙_, ap}
-use mathlib.Core.List.{List}
 use Rattle.paper.specs.Format.{base}
-use Rattle.paper.specs.Calls.{Reply}
 use Rattle.tables.proofs.Examine.{examined-refused, examined-given, lookUp-refused, lookUp-past, lookUp-row}
 use Rattle.tables.proofs.Rows.{row-in}
+use Rattle.tables.proofs.Back.{nothing-back, row-back}
 use borrow.Author.Needs.{needs}
 use Rattle.tables.proofs.table.look_up.Statement.{statement}
 use Rattle.tables.proofs.table.look_up.Tie as tie
@@ -37,7 +34,8 @@ returns c =
     let x = c .before .before in
     let a = x .before .before .args in
     let r = x .examine .result in
-    sym (ap (λ (r : Reply (List ℕ)). r .rest) (lookUp-refused base (a .t .now) (a .i) (r .number) (r .place) (examined-refused base (a .t .now) (r .number) (r .place) (r .rows) (x .examine .ensures) (c .before .if1 .taken))))
+    nothing-back (a .t) (a .i) (r .number) (r .place) (c .before .if1 .taken)
+    (lookUp-refused base (a .t .now) (a .i) (r .number) (r .place) (examined-refused base (a .t .now) (r .number) (r .place) (r .rows) (x .examine .ensures) (c .before .if1 .taken)))
 
 -- src/table.rt:143:9
 record-requires : tie.Need-record-requires
@@ -57,7 +55,7 @@ returns-2 c =
     let a = x .before .before .args in
     let r = x .examine .result in
     let (g, n) = examined-given base (a .t .now) (r .number) (r .place) (r .rows) (x .examine .ensures) (c .before .before .if1 .left) in
-    c .record .ensures .0 ∙ sym (ap (λ (r : Reply (List ℕ)). r .rest) (lookUp-row base (a .t .now) (a .i) g (omega (arith, n))))
+    row-back (a .t) (a .i) (c .record .result) (c .record .ensures .0) (c .record .ensures .2) (lookUp-row base (a .t .now) (a .i) g (omega (arith, n)))
 
 -- src/table.rt:145:5
 sub-result-2 : tie.Need-sub-result-2
@@ -79,7 +77,7 @@ returns-3 c =
     let a = x .before .before .args in
     let r = x .examine .result in
     let (g, n) = examined-given base (a .t .now) (r .number) (r .place) (r .rows) (x .examine .ensures) (c .before .before .if1 .left) in
-    sym (ap (λ (r : Reply (List ℕ)). r .rest) (lookUp-past base (a .t .now) (a .i) g (omega (arith, n))))
+    nothing-back (a .t) (a .i) 11 (a .i) (λ e. omega (arith, e)) (lookUp-past base (a .t .now) (a .i) g (omega (arith, n)))
 
 pub look-up-spec : {M : Type 1} → statement M
 look-up-spec =
