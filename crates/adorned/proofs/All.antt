@@ -3,19 +3,18 @@ use Prim.Native.Nat.{ℕ, zero, suc, _+_, _-_, _≤_, _<_}
 use native.Mathlib.Nat.{not-suc-le-zero, le-of-suc-le-suc, zero-add}
 use native.Mathlib.Numerals.{add-one}
 use native.Mathlib.Omega.{arith}
-use mathlib.Core.Path.{_≡_, refl, sym, _∙_, ap, ap₂, subst}
+use mathlib.Core.Path.{_≡_, refl, sym, _∙_, ap, ap₂}
 use mathlib.Core.List.{List, [], _∷_, _++_, map}
-use lib.ListN.{length, getD, take, drop, set, length-set, replicate, length-replicate, length-map, take-append-drop}
+use lib.ListN.{length, getD, take, drop, set, replicate, length-replicate, length-map, take-append-drop}
 use lib.Seq.{take-all, take-suc-set, drop-set-lt, drop-drop}
 use Rattle.paper.specs.Format.{format, mostTypes}
-use Rattle.paper.specs.Tables.{Row, rows, rowTypes, types}
+use Rattle.paper.specs.Tables.{Row, rows, types}
 use Rattle.paper.specs.Closeness.{Node, nodes}
 use Rattle.paper.specs.Adorned.{Summary, summary, summariesFrom, adorned}
 use Rattle.paper.proofs.Lists.{map-append}
-use Rattle.types.specs.Types.{Lists}
 use Rattle.types.specs.declared.list.Types.{Types}
 use Rattle.types.proofs.Few.{few-from}
-use Rattle.closest.specs.Node.{Sound, Typed}
+use Rattle.closest.specs.Node.{Typed}
 use Rattle.adorned.specs.Told.{told, noSummary, placed, Listed, Counted}
 use Rattle.adorned.specs.declared.TypeSummary.{TypeSummary}
 

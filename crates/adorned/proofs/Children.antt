@@ -1,22 +1,21 @@
 -- The children of a row of type p, of type k, are the rows of type k before the next of type p. Assumes nothing.
-use Prim.Native.Nat.{ℕ, zero, suc, _+_, _≤_, _<_, pred}
+use Prim.Native.Nat.{ℕ, suc, _+_, _≤_, _<_}
 use native.Mathlib.Nat.{not-suc-le-zero, zero-add}
 use native.Mathlib.Omega.{arith}
 use mathlib.Core.Path.{_≡_, refl, sym, _∙_, ap, ap₂, subst}
 use mathlib.Core.Logic.{_⊎_, inl, inr, ⊎-elim}
-use mathlib.Core.Bool.{Bool, true, false, true≢false, false≢true}
+use mathlib.Core.Bool.{Bool, true, false}
 use mathlib.Core.List.{List, [], _∷_, _++_, map, append-assoc}
 use lib.Dec.{eqb, leb}
-use lib.ListN.{length, take, length-append, length-take}
-use lib.Seq.{take-all}
+use lib.ListN.{length, length-append}
 use borrow.Author.Tests.{eqb-true, eqb-false, eq-eqb, ne-eqb, leb-true, leb-false}
 use Rattle.paper.specs.Lists.{Has, keep, same, up, lastOr}
 use Rattle.paper.specs.Closeness.{Node, ofKind}
 use Rattle.paper.specs.Adorned.{childrenOf}
-use Rattle.paper.proofs.Lists.{same-eq, eq-same, has-left, has-right, has-append, up-last}
-use Rattle.paper.proofs.Agree.{Agree, agree-take, agree-front, shared-eq, agree-self}
+use Rattle.paper.proofs.Lists.{eq-same, has-left, has-right, has-append, up-last}
+use Rattle.paper.proofs.Agree.{Agree, agree-front, shared-eq}
 use Rattle.paper.proofs.Forest.{Lt, lt-trans, lt-self, Forest, Numbered, place-bounds, one-place, in-order, run}
-use Rattle.paper.proofs.Closeness.{Of, kind-of, of-kind}
+use Rattle.paper.proofs.Closeness.{Of}
 use Rattle.paper.proofs.Adorned.{children-none}
 use Rattle.closest.proofs.Counts.{kindsOf}
 use Rattle.adorned.specs.Runs.{lead, runs}

@@ -1,31 +1,30 @@
 -- The summary of a type, figure by figure. Assumes nothing.
-use Prim.Native.Nat.{ℕ, zero, _+_, _≤_, _<_, pred, max}
+use Prim.Native.Nat.{ℕ, _+_, _<_, pred}
 use native.Mathlib.Nat.{not-suc-le-zero, lt-irrefl}
 use native.Mathlib.Omega.{arith}
-use mathlib.Core.Path.{_≡_, refl, sym, _∙_, ap, ap₂, subst}
-use mathlib.Core.Logic.{_⊎_, inl, inr}
+use mathlib.Core.Path.{_≡_, refl, sym, _∙_, ap, ap₂}
 use mathlib.Core.Bool.{Bool, true, false, false≢true}
 use mathlib.Core.List.{List, [], _∷_, _++_, map}
 use lib.Dec.{eqb, leb}
 use lib.ListN.{length, getD, take, length-map, length-take}
 use borrow.Author.Tests.{eq-eqb, leb-true, leb-false}
 use Rattle.paper.specs.Lists
-use Rattle.paper.specs.Lists.{Has, keep, place, same, up, lastOr, distinct, ways}
+use Rattle.paper.specs.Lists.{Has, keep, same, up}
 use Rattle.paper.specs.Format.{Format, format, mostTypes, rowBytes, byte, whole}
-use Rattle.paper.specs.Tables.{Row, rows, dewey, badRow, rowTypes, types, typeNumber}
+use Rattle.paper.specs.Tables.{Row, rows, dewey, rowTypes, types, typeNumber}
 use Rattle.paper.specs.Closeness.{Node, nodes, ofKind}
-use Rattle.paper.specs.Adorned.{Summary, childrenOf, counts, summary}
-use Rattle.paper.proofs.Lists.{getD-has, up-snoc}
+use Rattle.paper.specs.Adorned.{Summary, childrenOf, summary}
+use Rattle.paper.proofs.Lists.{getD-has}
 use Rattle.paper.proofs.Closeness.{Of}
-use Rattle.paper.proofs.Tables.{rows-laid, sound-numbered, sound-forest, sound-pos, one-level, type-of, type-listed, listed-type, type-length, ancestor, number-at, number-same, distinct-has, length-ways, step, HasType}
+use Rattle.paper.proofs.Tables.{rows-laid, sound-numbered, sound-forest, sound-pos, one-level, type-of, type-listed, listed-type, type-length, ancestor, number-at, number-same, distinct-has, length-ways, step}
 use Rattle.paper.proofs.Adorned.{distinct-once, figures, root-figures}
 use Rattle.paper.proofs.Calls.{count-rows}
 use Rattle.tables.proofs.Rows.{rec}
 use Rattle.types.specs.Types.{parentOf}
-use Rattle.types.proofs.Ways.{before, way-whole}
+use Rattle.types.proofs.Ways.{way-whole}
 use Rattle.types.proofs.Pass.{once-number, long}
 use Rattle.types.proofs.Listed.{in-ways, l-is, a-is, l-pos, l-next}
-use Rattle.closest.specs.Node.{Sound, Typed}
+use Rattle.closest.specs.Node.{Typed}
 use Rattle.closest.proofs.Counts.{kinds-of, kinds-count}
 use Rattle.adorned.specs.Runs.{runs}
 use Rattle.adorned.specs.Told.{Listed}

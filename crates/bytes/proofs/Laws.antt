@@ -3,10 +3,10 @@ use Prim.Native.Nat.{ℕ, suc, _+_, _*_, _-_, _≤_, _<_}
 use native.Mathlib.Nat.{mul-le-mul-left, mul-add, mul-one}
 use native.Mathlib.Numerals.{add-one}
 use native.Mathlib.Omega.{arith}
-use mathlib.Core.Path.{_≡_, refl, sym, _∙_, ap}
+use mathlib.Core.Path.{_≡_, ap}
 use mathlib.Core.List.{List}
 use lib.ListN.{length, getD, take, drop, length-take, length-drop}
-use Rattle.paper.specs.Format.{byte, word, number, span}
+use Rattle.paper.specs.Format.{word, number, span}
 
 -- two bytes, the low one first
 pub word-bytes : (b : List ℕ) (i lo hi : ℕ) → lo ≡ getD b i 0 → hi ≡ getD b (i + 1) 0 → lo + 256 * hi ≡ word b i

@@ -4,7 +4,7 @@ ghost use mathlib.Core.Path.{_≡_};
 ghost use Prim.Native.Nat.{_+_, _*_, _≤_, _<_};
 ghost use lib.ListN.{length, take, drop};
 ghost use lib.Seq.{sets};
-ghost use Rattle.paper.specs.Format.{byte, word, number, span};
+ghost use Rattle.paper.specs.Format.{word, number, span};
 ghost use Rattle.bytes.specs.Part.{OwnFrom};
 
 // A byte as a number.

@@ -4,7 +4,7 @@ use mathlib.Core.Path.{_≡_}
 use mathlib.Core.List.{List, _++_, map}
 use lib.ListN.{replicate}
 use Rattle.paper.specs.Format.{base}
-use Rattle.paper.specs.Calls.{Reply, adorn}
+use Rattle.paper.specs.Calls.{adorn}
 use Rattle.adorned.specs.Told.{told}
 use Rattle.adorned.specs.declared.TypeSummary.{TypeSummary}
 use Rattle.cases.specs.declared.marked.Left.{Left}

@@ -1,11 +1,11 @@
 -- Where rows meet, told by their levels: a row meets the next row just above the next row's level. Assumes nothing.
 use Prim.Native.Nat.{ℕ, zero, suc, _+_, _≤_, _<_, pred, min}
-use native.Mathlib.Nat.{le-antisymm, le-trans, not-suc-le-zero}
+use native.Mathlib.Nat.{le-antisymm}
 use native.Mathlib.Omega.{arith}
-use mathlib.Core.Path.{_≡_, refl, sym, _∙_, ap, subst}
-use mathlib.Core.Logic.{_⊎_, inl, inr, ⊎-elim}
+use mathlib.Core.Path.{_≡_, sym, ap, subst}
+use mathlib.Core.Logic.{_⊎_, ⊎-elim}
 use mathlib.Core.List.{List}
-use lib.ListN.{length, length-take}
+use lib.ListN.{length-take}
 use Rattle.paper.specs.Lists.{Has}
 use Rattle.paper.specs.Format.{format, byte, words}
 use Rattle.paper.specs.Tables.{rows, rowOf, rowPart}

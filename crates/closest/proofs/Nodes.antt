@@ -2,15 +2,13 @@
 use Prim.Native.Nat.{ℕ, zero, suc, _+_, _-_, _≤_, _<_}
 use native.Mathlib.Nat.{not-suc-le-zero, le-of-suc-le-suc, zero-add}
 use native.Mathlib.Omega.{arith}
-use mathlib.Core.Path.{_≡_, refl, sym, _∙_, ap, ap₂, subst}
-use mathlib.Core.Logic.{_⊎_, inl, inr}
-use mathlib.Core.List.{List, [], _∷_, _++_, map}
+use mathlib.Core.Path.{_≡_, refl, _∙_, ap, ap₂}
+use mathlib.Core.List.{List, [], _∷_, map}
 use mathlib.Core.Option.{none}
-use lib.ListN.{length, getD, take, drop, length-map}
-use lib.Seq.{getD-take}
-use Rattle.paper.specs.Lists.{Has, ways}
+use lib.ListN.{length, getD, drop, length-map}
+use Rattle.paper.specs.Lists.{Has}
 use Rattle.paper.specs.Format.{Format, rowBytes, byte, word, whole}
-use Rattle.paper.specs.Tables.{Row, rowOf, rows, dewey, badRow, rowTypes, types, typeNumber}
+use Rattle.paper.specs.Tables.{rowOf, rows, dewey, badRow, rowTypes, types, typeNumber}
 use Rattle.paper.specs.Closeness.{Node, nodesFrom, nodes}
 use Rattle.paper.proofs.Forest.{Numbered, nodesFrom-length, one-place}
 use Rattle.paper.proofs.Tables.{step, length-ways}
@@ -18,7 +16,7 @@ use Rattle.paper.proofs.Calls.{count-rows}
 use Rattle.tables.proofs.Rows.{rec, rows-from}
 use Rattle.types.specs.Types.{kinds}
 use Rattle.types.proofs.Listed.{at-drop, drop-has, l-fits, l-pos}
-use Rattle.closest.specs.Node.{node, Sound}
+use Rattle.closest.specs.Node.{node}
 
 nodesFrom-drop : (i : ℕ) (ks : List ℕ) (ds : List (List ℕ)) (j : ℕ) → j < length ks → j < length ds
     → drop j (nodesFrom i ks ds) ≡ record { place = i + j; kind = getD ks j 0; dewey = getD ds j [] } ∷ drop (suc j) (nodesFrom i ks ds)

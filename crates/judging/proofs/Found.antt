@@ -2,11 +2,11 @@
 use Prim.Native.Nat.{ℕ, _+_, _-_}
 use native.Mathlib.Omega.{arith}
 use mathlib.Core.Path.{_≡_, refl, sym, _∙_, ap}
-use mathlib.Core.Logic.{inl, inr, ⊎-elim}
-use mathlib.Core.Bool.{Bool, true, false}
-use mathlib.Core.List.{List, [], _∷_, _++_, map}
+use mathlib.Core.Logic.{inl, ⊎-elim}
+use mathlib.Core.Bool.{true, false}
+use mathlib.Core.List.{List, [], _∷_, _++_}
 use lib.ListN.{getD}
-use Rattle.paper.specs.Lists.{Has, firstOr, joinMap, count}
+use Rattle.paper.specs.Lists.{Has, firstOr, count}
 use Rattle.paper.specs.Closeness.{Node}
 use Rattle.paper.specs.Verdict
 use Rattle.paper.specs.Verdict.{kept, missing, verdictNumbers, isEmpty}

@@ -1,25 +1,23 @@
 -- From a prepared table and shape to the verdict. Assumes nothing.
-use Prim.Native.Nat.{ℕ, zero, suc, _+_, _*_, _-_, _≤_, _<_}
+use Prim.Native.Nat.{ℕ, zero, suc, _+_, _-_, _≤_, _<_}
 use native.Mathlib.Omega.{arith}
-use mathlib.Core.Path.{_≡_, refl, sym, _∙_, ap, ap₂, subst}
+use mathlib.Core.Path.{_≡_, refl, sym, _∙_, ap, ap₂}
 use mathlib.Core.Bool.{Bool, true, false, _&&_, not}
-use mathlib.Core.List.{List, [], _∷_, _++_, map}
+use mathlib.Core.List.{List, [], _∷_, _++_}
 use lib.ListN.{length, getD, drop}
 use Rattle.paper.specs.Lists.{Has, keep, all, firstOr, joinMap, count}
-use Rattle.paper.specs.Format.{Format, format, base, mostTypes}
+use Rattle.paper.specs.Format.{base}
 use Rattle.paper.specs.Tables.{rows, types}
-use Rattle.paper.specs.Closeness.{Node, nodes, meet, ofKind, kindsMeet, closestOf}
-use Rattle.paper.specs.Shapes.{Shape, Entry, entries, entryKept, badEntry, shapeOver, numbers, kind, way, parent, path}
+use Rattle.paper.specs.Closeness.{Node, nodes, ofKind, kindsMeet, closestOf}
+use Rattle.paper.specs.Shapes.{Shape, entries, numbers, kind, parent, path}
 use Rattle.paper.specs.Verdict
 use Rattle.paper.specs.Verdict.{kept, verdictNumbers, isEmpty, overPairs, meeting, partners, alone, full, edgeLevel, lone, pairFault, verdict}
-use Rattle.paper.specs.Calls.{judge, reply, given, refused, tests1-7, _>>=_, Reply}
+use Rattle.paper.specs.Calls.{judge, reply, given, _>>=_, Reply}
 use Rattle.paper.proofs.Agree.{shared-length}
 use Rattle.paper.proofs.Closeness.{kindsMeet-sym, kindsMeet-le}
-use Rattle.closest.specs.Node.{node, Typed}
 use Rattle.closest.specs.Deepest.{Meetings}
 use Rattle.closest.proofs.Levels.{level-most}
-use Rattle.shapes.specs.Ways.{wayPlaces, wayAt}
-use Rattle.shapes.specs.Work.{Holds, Prepared, shapeIn}
+use Rattle.shapes.specs.Work.{Prepared, shapeIn}
 use Rattle.shapes.specs.declared.work.Work.{Work}
 use Rattle.shapes.proofs.Places.{way-place}
 use Rattle.judging.specs.Told.{told, numbersOf}

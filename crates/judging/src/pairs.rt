@@ -4,7 +4,7 @@ use crate::verdict::Verdict;
 use shapes::edges::meeting;
 ghost use mathlib.Core.Path.{_≡_};
 ghost use Prim.Native.Nat.{_≤_, _<_};
-ghost use lib.ListN.{length, getD, drop};
+ghost use lib.ListN.{length, drop};
 ghost use Rattle.paper.specs.Closeness.{shared};
 ghost use Rattle.judging.specs.Told.{told};
 ghost use Rattle.judging.specs.Pairs.{Room, Numbered, wayOf, lowest, levelsOn, sureOn, earned, firstFault};

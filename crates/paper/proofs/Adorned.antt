@@ -1,10 +1,9 @@
 -- The adorned shape's figures: every parent's count lies between the two, and both are reached. Assumes nothing.
-use Prim.Native.Nat.{ℕ, zero, suc, _+_, _≤_, _<_, pred}
-use native.Mathlib.Nat.{not-suc-le-zero}
+use Prim.Native.Nat.{ℕ, suc, _+_, _≤_, _<_, pred}
 use native.Mathlib.Omega.{arith}
 use mathlib.Core.Path.{_≡_, refl, sym, _∙_, ap, subst}
 use mathlib.Core.Logic.{_⊎_, inl, inr}
-use mathlib.Core.Bool.{Bool, true, false, not, true≢false, false≢true}
+use mathlib.Core.Bool.{Bool, true, false, not, true≢false}
 use mathlib.Core.List.{List, [], _∷_, _++_, map, append-assoc}
 use mathlib.Core.Option.{none}
 use lib.Dec.{eqb}
@@ -16,9 +15,9 @@ use Rattle.paper.specs.Format.{Format, mostTypes}
 use Rattle.paper.specs.Tables.{Row, badRow, types, rowTypes, typeNumber}
 use Rattle.paper.specs.Closeness.{Node, nodes, ofKind}
 use Rattle.paper.specs.Adorned.{Summary, childrenOf, counts, summary, summariesFrom, adorned}
-use Rattle.paper.proofs.Lists.{same-eq, eq-same, keep-has, has-keep, has-map, map-has, most-has, most-reached, least-le, least-reached}
+use Rattle.paper.proofs.Lists.{same-eq, eq-same, keep-has, has-map, map-has, most-has, most-reached, least-le, least-reached}
 use Rattle.paper.proofs.Closeness.{Of, kind-of, of-kind}
-use Rattle.paper.proofs.Tables.{Laid, type-of, type-listed, listed-type, type-length, ancestor}
+use Rattle.paper.proofs.Tables.{Laid, listed-type, type-length, ancestor}
 
 -- ---- types are numbered without gaps: the i-th listed type has number i
 abbrev pub Once : List (List ℕ) → Type 0

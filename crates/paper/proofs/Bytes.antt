@@ -1,15 +1,15 @@
 -- Records that are written are read back as they were. Assumes nothing.
-use Prim.Native.Nat.{ℕ, zero, suc, _+_, _*_, _/_, _%_, _≤_, _<_, pred}
+use Prim.Native.Nat.{ℕ, suc, _+_, _*_, _/_, _%_, _<_}
 use native.Mathlib.Nat.{zero-div, add-div-left}
 use native.Mathlib.Omega.{arith}
-use mathlib.Core.Path.{_≡_, refl, sym, _∙_, ap, ap₂, subst}
-use mathlib.Core.Logic.{_⊎_, inl, inr}
-use mathlib.Core.List.{List, [], _∷_, _++_, map, append-assoc, append-nil}
-use lib.ListN.{length, getD, take, drop, length-append}
+use mathlib.Core.Path.{_≡_, refl, sym, _∙_, ap, ap₂}
+use mathlib.Core.Logic.{inl, inr}
+use mathlib.Core.List.{List, [], _∷_, _++_, map, append-assoc}
+use lib.ListN.{length, getD, take, length-append}
 use lib.Seq.{getD-at, take-at, drop-at}
 use Rattle.paper.specs.Lists.{Has, joinMap}
-use Rattle.paper.specs.Format.{Format, headBytes, listBytes, valueBytes, rowBytes, byte, word, words, span, records, whole, number, bytes}
-use Rattle.paper.specs.Tables.{Row, rowOf, rowBack, rows, dewey}
+use Rattle.paper.specs.Format.{Format, headBytes, listBytes, valueBytes, rowBytes, word, words, span, records, whole, bytes}
+use Rattle.paper.specs.Tables.{Row, rowOf, rowBack, dewey}
 
 -- a number of 16 bits
 abbrev pub Small : ℕ → Type 0

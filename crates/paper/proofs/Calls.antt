@@ -1,21 +1,20 @@
 -- What a call has found out when it refuses nothing. Assumes nothing.
 use Prim.Native.Nat.{ℕ, zero, suc, _+_, _*_, _/_, _%_, _≤_, _<_}
-use native.Mathlib.Nat.{div-add-mod', div-lt-iff-lt-mul, zero-mul, zero-add}
+use native.Mathlib.Nat.{div-add-mod', div-lt-iff-lt-mul, zero-mul}
 use native.Mathlib.Omega.{arith}
 use mathlib.Core.Path.{_≡_, refl, sym, _∙_, ap, subst}
-use mathlib.Core.Logic.{_⊎_, inl, inr}
 use mathlib.Core.Bool.{Bool, true, false, not, _||_, true≢false}
-use mathlib.Core.List.{List, [], _∷_, map}
+use mathlib.Core.List.{List, map}
 use mathlib.Core.Option.{Option, none, some}
 use lib.Dec.{eqb, ltb}
 use lib.ListN.{length, length-map}
-use borrow.Author.Tests.{ltb-false, eqb-false, eqb-true, not-false, lt-ltb}
+use borrow.Author.Tests.{ltb-false, eqb-false, eqb-true}
 use Rattle.paper.specs.Format.{Format, mostRows, mostEntries, rowBytes, entryBytes, whole, records}
 use Rattle.paper.specs.Tables.{Row, rows, rowOf, badRow, types}
 use Rattle.paper.specs.Closeness.{nodes}
 use Rattle.paper.specs.Shapes.{Entry, entries, entryOf, badEntry, shapeOver}
 use Rattle.paper.specs.NewTable.{Line, lines, lineRow, newTable, sourceList}
-use Rattle.paper.specs.Calls.{Answer, refused, given, _>>=_, refuse, refuseAt, Reply, reply, Work, typeTooMany, typeMissing, tests1-3, tests1-4, tests5-6, tests1-7, test8, reshaping}
+use Rattle.paper.specs.Calls.{Answer, refused, given, _>>=_, refuse, refuseAt, reply, Work, typeTooMany, typeMissing, tests1-3, tests1-4, tests5-6, tests1-7, test8, reshaping}
 
 -- ---- answers
 module _ {A B : Type 0} where

@@ -1,18 +1,17 @@
 -- Closeness as agreement to the level at which two kinds meet. Assumes nothing.
-use Prim.Native.Nat.{ℕ, zero, suc, _≤_, _<_}
-use native.Mathlib.Nat.{le-antisymm, le-refl, le-trans}
+use Prim.Native.Nat.{ℕ, _≤_, _<_}
+use native.Mathlib.Nat.{le-antisymm, le-trans}
 use native.Mathlib.Omega.{arith}
-use mathlib.Core.Path.{_≡_, refl, sym, _∙_, ap, ap₂, subst, subst₂}
-use mathlib.Core.Logic.{_⊎_, inl, inr}
-use mathlib.Core.Bool.{Bool, true, false, _&&_}
-use mathlib.Core.List.{List, [], _∷_, map}
+use mathlib.Core.Path.{_≡_, refl, sym, _∙_, subst, subst₂}
+use mathlib.Core.Bool.{true}
+use mathlib.Core.List.{List, map}
 use lib.Dec.{eqb, ltb}
 use lib.ListN.{length}
 use borrow.Author.Tests.{eqb-true, eq-eqb, ltb-true, lt-ltb}
-use Rattle.paper.specs.Lists.{Has, keep, most, joinMap}
+use Rattle.paper.specs.Lists.{Has, most}
 use Rattle.paper.specs.Closeness.{Node, meet, ofKind, kindsMeet, meetAt, closest, closestOf, closestPairs}
 use Rattle.paper.proofs.Lists.{both, and, keep-has, has-keep, most-has, most-le, most-from, has-map, map-has, has-join, join-has}
-use Rattle.paper.proofs.Agree.{Agree, agree-sym, agree-self, agree-length, shared→agree, agree→shared, shared-sym, shared-length, shared-eq}
+use Rattle.paper.proofs.Agree.{Agree, agree-sym, agree-self, shared→agree, agree→shared, shared-sym, shared-length, shared-eq}
 
 module _ (t : List Node) where
   -- r is a node of kind k

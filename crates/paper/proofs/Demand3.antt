@@ -1,27 +1,26 @@
 -- Demand 3 for any faithful table: nothing made up, nothing missing, and the two together. Assumes nothing.
-use Prim.Native.Nat.{ℕ, zero, suc, _+_, _-_, _≤_, _<_}
-use native.Mathlib.Nat.{le-refl, le-antisymm, le-trans}
+use Prim.Native.Nat.{ℕ, _+_, _-_, _≤_, _<_}
+use native.Mathlib.Nat.{le-antisymm, le-trans}
 use native.Mathlib.Omega.{arith}
 use mathlib.Core.Path.{_≡_, refl, sym, _∙_, ap, ap₂, subst, subst₂}
-use mathlib.Core.Logic.{_⊎_, inl, inr, ⊎-elim, _↔_}
-use mathlib.Core.Bool.{Bool, true, false, _&&_, _||_}
+use mathlib.Core.Logic.{_⊎_, inl, inr, ⊎-elim}
+use mathlib.Core.Bool.{Bool, true}
 use mathlib.Core.List.{List, [], _∷_, _++_, map}
 use lib.Dec.{leb, eqb}
 use lib.ListN.{length, take, drop, take-append-drop, length-take}
-use borrow.Author.Tests.{eqb-true, leb-true, leb-false}
+use borrow.Author.Tests.{eqb-true}
 use Rattle.paper.specs.Lists.{Has, all, any, lastOr}
-use Rattle.paper.specs.Closeness.{Node, meet, shared, kindsMeet, closestPairs}
+use Rattle.paper.specs.Closeness.{Node, meet, shared, kindsMeet}
 use Rattle.paper.specs.Shapes.{Shape, kind, way, fork, side, path}
-use Rattle.paper.specs.Verdict.{Verdict, kept, isLeast, meeting, edgeLevel, sureDown, meetsLeast, sure, verdict}
+use Rattle.paper.specs.Verdict.{meeting, edgeLevel, sureDown, meetsLeast, sure}
 use Rattle.paper.specs.Faithful.{Faithful}
 use Rattle.paper.proofs.Lists.{both, either, all-has, has-all, any-has, has-left, has-right, has-append, map-has, map-append, last-append}
-use Rattle.paper.proofs.Agree.{Agree, agree-sym, agree-trans, agree-le, agree-length, agree-take, take-agree, shared→agree, agree→shared, shared-agree, shared-sym, shared-length, drops-differ}
-use Rattle.paper.proofs.Closeness.{Of, Near, near-sym, near-from, meet-le, kindsMeet-le, pairs-near, near-pairs, own-near, own-only, own-meet}
-use Rattle.paper.proofs.Chains.{Down, AtLeast, Sure, nothing-made-up, nothing-missing}
-use Rattle.paper.proofs.Forest.{one-node}
+use Rattle.paper.proofs.Agree.{Agree, agree-sym, agree-trans, agree-le, agree-take, take-agree, agree→shared, shared-agree, shared-sym, shared-length, drops-differ}
+use Rattle.paper.proofs.Closeness.{Of, Near, near-from, meet-le, kindsMeet-le}
+use Rattle.paper.proofs.Chains.{Down, AtLeast, nothing-made-up, nothing-missing}
 use Rattle.paper.proofs.Shapes.{Ways}
-use Rattle.paper.proofs.Verdict.{Inside, inside, In, L, ag, NoneAlone, at-least, sure-down, partnered, last-way, way-one, edge-level, kept-alone, kept-pairs}
-use Rattle.paper.proofs.Lines.{D, Shows, row-of, one-source, line-entry, line-level, line-above, line-below, every-row, share, meet-ways}
+use Rattle.paper.proofs.Verdict.{Inside, inside, In, L, ag, NoneAlone, at-least, sure-down, partnered, last-way, way-one, edge-level}
+use Rattle.paper.proofs.Lines.{Shows, row-of, line-entry, line-level, line-above, line-below, every-row, share, meet-ways}
 
 -- ---- agreement of rows
 ag-sym : (k : ℕ) (r s : Node) → Agree k (r .dewey) (s .dewey) → Agree k (s .dewey) (r .dewey)

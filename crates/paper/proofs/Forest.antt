@@ -1,13 +1,13 @@
 -- A sound forest: Dewey numbers each of which follows the one before. Assumes nothing.
-use Prim.Native.Nat.{ℕ, zero, suc, _+_, _≤_, _<_, pred, min}
-use native.Mathlib.Nat.{le-refl, le-antisymm, not-suc-le-zero, le-of-suc-le-suc, lt-irrefl}
+use Prim.Native.Nat.{ℕ, zero, suc, _+_, _≤_, _<_, pred}
+use native.Mathlib.Nat.{le-antisymm, not-suc-le-zero, le-of-suc-le-suc, lt-irrefl}
 use native.Mathlib.Omega.{arith}
-use mathlib.Core.Path.{_≡_, refl, sym, _∙_, ap, ap₂, subst, subst₂}
+use mathlib.Core.Path.{_≡_, refl, sym, _∙_, ap, subst, subst₂}
 use mathlib.Core.Logic.{_⊎_, inl, inr, ⊎-elim}
-use mathlib.Core.Bool.{Bool, true, false, _&&_, _||_}
+use mathlib.Core.Bool.{Bool, true, false}
 use mathlib.Core.List.{List, [], _∷_, _++_, map}
 use lib.Dec.{leb}
-use lib.ListN.{length, length-append, length-take, take, drop}
+use lib.ListN.{length, length-append, length-take, take}
 use lib.Seq.{take-all, take-take, take-append-le}
 use borrow.Author.Tests.{leb-true, leb-false}
 use Rattle.paper.specs.Lists.{Has, same, lastOr}

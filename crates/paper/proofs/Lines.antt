@@ -1,25 +1,23 @@
 -- The lines of a faithful table as chains of closest source rows. Assumes nothing.
-use Prim.Native.Nat.{ℕ, zero, suc, _+_, _-_, _≤_, _<_, pred, min}
-use native.Mathlib.Nat.{le-refl, not-suc-le-zero}
+use Prim.Native.Nat.{ℕ, zero, suc, _+_, _-_, _≤_, _<_, pred}
 use native.Mathlib.Omega.{arith}
-use mathlib.Core.Path.{_≡_, refl, sym, _∙_, ap, ap₂, subst, subst₂}
-use mathlib.Core.Logic.{_⊎_, inl, inr, ⊎-elim}
-use mathlib.Core.Bool.{Bool, true, false, false≢true}
-use mathlib.Core.List.{List, [], _∷_, _++_, map}
-use lib.ListN.{length, getD, take, drop, length-take, length-append, drop-of-length-le}
+use mathlib.Core.Path.{_≡_, refl, sym, _∙_, ap, subst, subst₂}
+use mathlib.Core.Bool.{false≢true}
+use mathlib.Core.List.{List, [], _∷_, _++_}
+use lib.ListN.{length, getD, take, drop, length-take, drop-of-length-le}
 use lib.Seq.{take-all, take-take, take-length, take-suc, drop-cons}
 use Rattle.paper.specs.Lists.{Has, lastOr, up}
-use Rattle.paper.specs.Closeness.{Node, ofKind, closest, closestOf, shared, meet}
+use Rattle.paper.specs.Closeness.{Node, ofKind, closestOf, shared, meet}
 use Rattle.paper.specs.Shapes.{Shape, kind, way, parent}
 use Rattle.paper.specs.Verdict.{alone, partners, isEmpty}
 use Rattle.paper.specs.Faithful.{Faithful}
-use Rattle.paper.proofs.Lists.{up-snoc, snoc-inj, keep-has, in-some}
-use Rattle.paper.proofs.Agree.{Agree, agree-take, agree-length, agree-sym, shared→agree, agree→shared, shared-agree, take-agree, shared-length}
+use Rattle.paper.proofs.Lists.{snoc-inj, keep-has, in-some}
+use Rattle.paper.proofs.Agree.{Agree, agree-take, agree-length, agree-sym, shared→agree, agree→shared, take-agree}
 use Rattle.paper.proofs.Forest.{prefix, one-node}
-use Rattle.paper.proofs.Closeness.{Of, Near, kind-of, of-kind, closest-near, near-sym, near-closestOf}
+use Rattle.paper.proofs.Closeness.{Near, kind-of, of-kind, closest-near, near-sym, near-closestOf}
 use Rattle.paper.proofs.Chains.{Down, climb}
 use Rattle.paper.proofs.Shapes.{Ways}
-use Rattle.paper.proofs.Verdict.{Inside, inside, In, L, ag, NoneAlone, partnered, last-way, way-one, way-zero, child-parent, child-listed, listed-child}
+use Rattle.paper.proofs.Verdict.{Inside, inside, In, L, ag, NoneAlone, partnered, last-way, way-zero, child-parent, child-listed, listed-child}
 
 module _ (t : List Node) (place : (x y : Node) → Has x t → Has y t → x .place ≡ y .place → x ≡ y)
     (s : Shape) (w : Ways s) (new : List Node) (source : Node → ℕ) (fa : Faithful t s new source) where

@@ -3,16 +3,16 @@
 use Prim.Native.Nat.{ℕ, _*_, _<_}
 use native.Mathlib.Omega.{arith}
 use mathlib.Core.Path.{_≡_, refl, sym, _∙_, ap₂, subst}
-use mathlib.Core.Logic.{_⊎_, inl, inr, ⊎-elim}
-use mathlib.Core.Bool.{Bool, true, false, _&&_, false≢true}
+use mathlib.Core.Logic.{_⊎_, inl, inr}
+use mathlib.Core.Bool.{true, false, _&&_, false≢true}
 use mathlib.Core.List.{List, [], _∷_, _++_}
 use lib.Dec.{eqb}
 use lib.ListN.{length, take}
 use borrow.Author.Tests.{eqb-true, eq-eqb}
-use Rattle.paper.specs.Lists.{Has, any}
+use Rattle.paper.specs.Lists.{Has}
 use Rattle.paper.specs.Format.{base, rowBytes}
 use Rattle.paper.specs.Shapes.{entries}
-use Rattle.paper.specs.Verdict.{Verdict, missing, apart, unsure}
+use Rattle.paper.specs.Verdict.{missing, apart, unsure}
 use Rattle.paper.specs.Calls.{judge}
 use Rattle.paper.specs.Links.{LinksKept, shownPairs, sourcePairs}
 use Rattle.paper.specs.Samples.{row, table, entry, A, table7, reshaped, portfolio, lessee, lease, asset}

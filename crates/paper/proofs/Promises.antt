@@ -1,12 +1,10 @@
 -- The theorems over bytes: what is kept, what is never made up, and what a reshape writes. Assumes nothing.
 use Prim.Native.Nat.{ℕ, _+_, _*_, _-_, _≤_, _<_}
-use native.Mathlib.Nat.{le-trans}
 use native.Mathlib.Omega.{arith}
-use mathlib.Core.Path.{_≡_, refl, sym, _∙_, ap, ap₂, subst, subst₂}
-use mathlib.Core.Logic.{_⊎_, inl, inr, _↔_}
-use mathlib.Core.Bool.{Bool, true, false}
-use mathlib.Core.List.{List, [], _∷_, _++_, map}
-use mathlib.Core.Option.{Option, none}
+use mathlib.Core.Path.{_≡_, sym, _∙_, ap, ap₂, subst, subst₂}
+use mathlib.Core.Bool.{true}
+use mathlib.Core.List.{List, _++_, map}
+use mathlib.Core.Option.{none}
 use lib.ListN.{length, getD, take, drop, length-take, length-map}
 use lib.Seq.{take-at}
 use Rattle.paper.specs.Lists.{Has, between, lastOr}
@@ -16,7 +14,7 @@ use Rattle.paper.specs.Closeness.{Node, nodes, shared, closest}
 use Rattle.paper.specs.Shapes.{Entry, Shape, entries, entryOf, named, entryKept, badEntry, shapeOver, kind, way, fork}
 use Rattle.paper.specs.NewTable.{Line, lines, lineRow, newTable, sourceList, entryUnit}
 use Rattle.paper.specs.Verdict.{Verdict, kept, missing, verdict, meetsLeast, sure, alone}
-use Rattle.paper.specs.Calls.{Answer, given, _>>=_, Reply, reply, Work, Reshaping, tests1-3, tests5-6, tests1-7, test8, judge, reshape, reshaping, roomIn, after}
+use Rattle.paper.specs.Calls.{Answer, given, _>>=_, reply, Work, Reshaping, tests1-7, judge, reshape, reshaping, roomIn, after}
 use Rattle.paper.specs.Links.{newNodes, sourceRow, shownPairs, sourcePairs, LinksKept}
 use Rattle.paper.specs.Faithful.{Faithful, Under}
 use Rattle.paper.proofs.Lists.{getD-has, map-has}

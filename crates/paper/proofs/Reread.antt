@@ -1,29 +1,27 @@
 -- The new table's bytes and source list, read again, are its lines; and each line keeps the row rules. Assumes nothing.
-use Prim.Native.Nat.{ℕ, zero, suc, _+_, _*_, _/_, _%_, _≤_, _<_, min}
-use native.Mathlib.Nat.{le-trans}
+use Prim.Native.Nat.{ℕ, zero, suc, _+_, _*_, _/_, _%_, _≤_, _<_}
 use native.Mathlib.Omega.{arith}
-use mathlib.Core.Path.{_≡_, refl, sym, _∙_, ap, ap₂, subst, subst₂}
+use mathlib.Core.Path.{_≡_, refl, sym, _∙_, ap, ap₂, subst}
 use mathlib.Core.Logic.{_⊎_, inl, inr, ⊎-elim}
-use mathlib.Core.Bool.{Bool, true, false, _&&_}
+use mathlib.Core.Bool.{true}
 use mathlib.Core.List.{List, [], _∷_, _++_, map, map-map}
 use mathlib.Core.Option.{none}
 use lib.Dec.{eqb, leb}
 use lib.ListN.{length, getD, take, drop, replicate, length-append, length-take, length-map, length-replicate}
-use lib.Seq.{take-take, take-at, drop-nil}
+use lib.Seq.{take-take, take-at}
 use borrow.Author.Tests.{le-leb, eq-eqb}
-use Rattle.paper.specs.Lists.{Has, all, between, joinMap, padded, lastOr}
-use Rattle.paper.specs.Format.{Format, rowBytes, valueBytes, words, span, records, whole, headBytes, listBytes}
-use Rattle.paper.specs.Tables.{Row, rowOf, rowBack, rows, dewey, fieldsKept, follows, rowKept, badRow, types}
+use Rattle.paper.specs.Lists.{Has, between, joinMap, padded}
+use Rattle.paper.specs.Format.{Format, rowBytes, valueBytes, span, records, whole, headBytes, listBytes}
+use Rattle.paper.specs.Tables.{Row, rowOf, rowBack, rows, dewey, fieldsKept, follows, rowKept, badRow}
 use Rattle.paper.specs.Closeness.{Node, nodesFrom, nodes}
 use Rattle.paper.specs.Shapes.{Shape, way}
 use Rattle.paper.specs.NewTable.{Line, lines, lineRow, newTable, sourceList, entryUnit}
 use Rattle.paper.specs.Faithful.{Chain, Faithful}
 use Rattle.paper.specs.Links.{newNodes, sourceRow}
-use Rattle.paper.proofs.Lists.{and, has-all, getD-has, has-append, has-map, map-has}
+use Rattle.paper.proofs.Lists.{and, has-all, getD-has, has-append, map-has}
 use Rattle.paper.proofs.Bytes.{Small, Shaped, length-row, dewey-back, row-back, whole-back, records-back}
 use Rattle.paper.proofs.Tables.{Rules, rules-none}
 use Rattle.paper.proofs.Shapes.{Ways}
-use Rattle.paper.proofs.Forest.{Numbered, place-bounds}
 use Rattle.paper.proofs.Verdict.{In, way-pos}
 use Rattle.paper.proofs.Written.{lineNodes, lines-chain, line-within, line-fits, lines-faithful}
 

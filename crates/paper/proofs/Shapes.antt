@@ -1,20 +1,20 @@
 -- The ways of a shape that keeps the entry rules: each ends at its own entry, starts at entry 0, and is as long as the entry's
 -- level; what stands on a way has its own way cut there. Assumes nothing.
-use Prim.Native.Nat.{ℕ, zero, suc, _+_, _≤_, _<_, pred, min}
+use Prim.Native.Nat.{ℕ, zero, suc, _+_, _≤_, _<_, pred}
 use native.Mathlib.Nat.{not-suc-le-zero, le-of-suc-le-suc, zero-add}
 use native.Mathlib.Omega.{arith}
-use mathlib.Core.Path.{_≡_, refl, sym, _∙_, ap, ap₂, subst, subst₂}
+use mathlib.Core.Path.{_≡_, refl, sym, _∙_, ap, subst}
 use mathlib.Core.Logic.{_⊎_, inl, inr, ⊎-elim}
-use mathlib.Core.Bool.{Bool, true, false, _&&_}
-use mathlib.Core.List.{List, [], _∷_, _++_, map, append-assoc}
+use mathlib.Core.Bool.{true, _&&_}
+use mathlib.Core.List.{List, [], _∷_, _++_, map}
 use lib.Dec.{leb, eqb}
-use lib.ListN.{length, getD, length-append, length-take, length-map, take, drop}
+use lib.ListN.{length, getD, length-append, length-take, take, drop}
 use lib.Seq.{take-append-seam, take-nil}
 use borrow.Author.Tests.{leb-true, eqb-true}
-use Rattle.paper.specs.Lists.{Has, all, lastOr, between, same, up, ways, count}
+use Rattle.paper.specs.Lists.{Has, all, lastOr, between, ways}
 use Rattle.paper.specs.Format.{Format}
-use Rattle.paper.specs.Shapes.{Entry, Shape, named, levelKept, entryKept, steps, shapeOver, way, parent, children, numbers}
-use Rattle.paper.proofs.Lists.{both, all-has, last-has, same-eq, eq-same, getD-has, has-getD, last-snoc, up-snoc, snoc-inj, keep-has, has-keep, has-count, count-has}
+use Rattle.paper.specs.Shapes.{Entry, Shape, named, levelKept, entryKept, steps, shapeOver, way}
+use Rattle.paper.proofs.Lists.{both, all-has, last-has, getD-has, has-getD}
 use Rattle.paper.proofs.Forest.{Kin, above}
 use Rattle.paper.proofs.Tables.{Rules}
 

@@ -1,25 +1,24 @@
 -- A table that keeps the row rules is a forest in document order, and its types are those of its ancestors. Assumes nothing.
-use Prim.Native.Nat.{ℕ, zero, suc, _+_, _≤_, _<_, pred, min}
-use native.Mathlib.Nat.{le-refl, not-suc-le-zero, le-of-suc-le-suc}
+use Prim.Native.Nat.{ℕ, zero, suc, _+_, _≤_, _<_, pred}
 use native.Mathlib.Omega.{arith}
-use mathlib.Core.Path.{_≡_, refl, sym, _∙_, ap, ap₂, subst, subst₂}
+use mathlib.Core.Path.{_≡_, refl, sym, _∙_, ap, subst, subst₂}
 use mathlib.Core.Logic.{_⊎_, inl, inr, ⊎-elim}
-use mathlib.Core.Bool.{Bool, true, false, _&&_, not, true≢false, false≢true}
+use mathlib.Core.Bool.{Bool, true, false, _&&_, not, false≢true}
 use mathlib.Core.List.{List, [], _∷_, _++_, map}
-use mathlib.Core.Option.{Option, none, some}
+use mathlib.Core.Option.{none, some}
 use lib.Dec.{leb, eqb}
 use lib.ListN.{length, length-append, length-take, length-map, take, drop, getD}
 use lib.Seq.{take-at}
 use borrow.Author.Tests.{leb-true}
-use Rattle.paper.specs.Lists.{Has, keep, all, place, firstBreak, between, same, distinct, ways}
+use Rattle.paper.specs.Lists.{Has, all, place, firstBreak, between, same, distinct, ways}
 use Rattle.paper.specs.Format.{Format, headBytes, rowBytes, words, records, whole}
 use Rattle.paper.specs.Tables.{Row, rowOf, rows, dewey, fieldsKept, follows, rowKept, badRow, rowTypes, types, typeNumber}
-use Rattle.paper.specs.Closeness.{Node, nodesFrom, nodes, closest, ofKind, kindsMeet}
+use Rattle.paper.specs.Closeness.{Node, nodesFrom, nodes, closest}
 use Rattle.paper.specs.Faithful.{Chain}
-use Rattle.paper.proofs.Lists.{both, and, same-eq, same-self, eq-same, has-keep, keep-has, has-map, map-has}
+use Rattle.paper.proofs.Lists.{both, same-eq, eq-same, has-keep, keep-has, has-map}
 use Rattle.paper.proofs.Agree.{Agree}
-use Rattle.paper.proofs.Forest.{Follows, Forest, Numbered, Kin, Above, deweys, follows-lt, chain-pos, above, prefix, run, one-node, nodesFrom-numbered}
-use Rattle.paper.proofs.Closeness.{Of, Near, closest-near, near-closest, own-near, own-only}
+use Rattle.paper.proofs.Forest.{Forest, Numbered, Kin, Above, deweys, follows-lt, chain-pos, above, prefix, run, one-node, nodesFrom-numbered}
+use Rattle.paper.proofs.Closeness.{closest-near, near-closest, own-near, own-only}
 
 -- ---- a rule that no element breaks
 module _ {A B : Type 0} (rule : B → A → Bool) (leaves : A → B) where

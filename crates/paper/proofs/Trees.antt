@@ -1,15 +1,14 @@
 -- What is written in order and numbered by position: its numbers follow one another, and beneath each thing stands just what
 -- should. Assumes nothing.
-use Prim.Native.Nat.{ℕ, zero, suc, _+_, _≤_, _<_, pred, min}
-use native.Mathlib.Nat.{le-refl, le-trans, not-suc-le-zero, le-of-suc-le-suc}
+use Prim.Native.Nat.{ℕ, zero, suc, _+_, _≤_, _<_}
+use native.Mathlib.Nat.{le-refl, not-suc-le-zero, le-of-suc-le-suc}
 use native.Mathlib.Omega.{arith}
 use mathlib.Core.Path.{_≡_, refl, sym, _∙_, ap, ap₂, subst, subst₂}
 use mathlib.Core.Logic.{_⊎_, inl, inr, ⊎-elim}
-use mathlib.Core.Bool.{Bool, true, false, _||_}
 use mathlib.Core.List.{List, [], _∷_, _++_, map, append-nil, append-assoc}
 use lib.ListN.{length, length-append, take}
 use lib.Seq.{take-at}
-use Rattle.paper.specs.Lists.{Has, lastOr, joined, up, same}
+use Rattle.paper.specs.Lists.{Has, lastOr, joined, same}
 use Rattle.paper.specs.Tables.{raised, follows}
 use Rattle.paper.specs.NewTable.{forest, tree}
 use Rattle.paper.specs.Faithful.{Chain}

@@ -1,23 +1,23 @@
 -- What the verdict's tests say, as chains along the entries of a shape. Assumes nothing.
-use Prim.Native.Nat.{ℕ, zero, suc, _+_, _≤_, _<_, pred}
-use native.Mathlib.Nat.{le-refl, not-suc-le-zero}
+use Prim.Native.Nat.{ℕ, zero, suc, _+_, _≤_, _<_}
+use native.Mathlib.Nat.{not-suc-le-zero}
 use native.Mathlib.Omega.{arith}
-use mathlib.Core.Path.{_≡_, refl, sym, _∙_, ap, ap₂, subst, subst₂}
+use mathlib.Core.Path.{_≡_, refl, sym, _∙_, ap, subst}
 use mathlib.Core.Logic.{_⊎_, inl, inr, ⊎-elim}
-use mathlib.Core.Bool.{Bool, true, false, true≢false, false≢true, not, _||_, _&&_}
+use mathlib.Core.Bool.{Bool, true, false, false≢true, not, _&&_}
 use mathlib.Core.List.{List, [], _∷_, _++_, map, append-assoc}
 use lib.Dec.{eqb, leb}
 use lib.ListN.{length, take, drop, length-append}
 use lib.Seq.{take-append-add}
 use borrow.Author.Tests.{eqb-true, leb-true, not-true}
-use Rattle.paper.specs.Lists.{Has, keep, all, any, firstOr, lastOr, joinMap, same, up, count}
+use Rattle.paper.specs.Lists.{Has, all, firstOr, lastOr, joinMap, same, up, count}
 use Rattle.paper.specs.Closeness.{Node, ofKind, kindsMeet, closestOf}
-use Rattle.paper.specs.Shapes.{Shape, numbers, kind, way, parent, children, side, path}
-use Rattle.paper.specs.Verdict.{Verdict, kept, missing, apart, unsure, isLeast, isEmpty, overPairs, meeting, partners, alone, full, edgeLevel, sureDown, meetsLeast, sure, lone, pairFault, verdict}
-use Rattle.paper.proofs.Lists.{both, either, same-eq, eq-same, keep-has, has-keep, all-has, has-left, has-right, has-append, has-map, map-has, has-join, join-has, none-in, some-in, in-some, last-snoc, up-snoc, snoc-inj, has-count, count-has}
+use Rattle.paper.specs.Shapes.{Shape, numbers, kind, way, parent, children}
+use Rattle.paper.specs.Verdict.{Verdict, kept, missing, apart, unsure, isEmpty, overPairs, meeting, partners, alone, full, edgeLevel, sureDown, meetsLeast, sure, lone, pairFault, verdict}
+use Rattle.paper.proofs.Lists.{both, either, same-eq, eq-same, keep-has, has-keep, all-has, has-left, has-right, has-append, has-map, map-has, has-join, join-has, some-in, last-snoc, up-snoc, snoc-inj, has-count, count-has}
 use Rattle.paper.proofs.Agree.{Agree}
-use Rattle.paper.proofs.Closeness.{Of, Near, near-sym, kind-of, of-kind, closestOf-near, near-closestOf}
-use Rattle.paper.proofs.Chains.{Down, AtLeast, Partnered, Full, Sure}
+use Rattle.paper.proofs.Closeness.{Of, Near, near-sym, of-kind, closestOf-near}
+use Rattle.paper.proofs.Chains.{AtLeast, Partnered, Full, Sure}
 use Rattle.paper.proofs.Shapes.{Ways}
 
 -- ---- along the entries of a shape

@@ -1,20 +1,19 @@
 -- The new table that the reshape's definition writes is faithful. Assumes nothing.
-use Prim.Native.Nat.{ℕ, zero, suc, _+_, _≤_, _<_, pred}
+use Prim.Native.Nat.{ℕ, suc, _+_, _≤_, _<_, pred}
 use native.Mathlib.Nat.{not-suc-le-zero}
 use native.Mathlib.Omega.{arith}
-use mathlib.Core.Path.{_≡_, refl, sym, _∙_, ap, ap₂, subst, subst₂}
-use mathlib.Core.Logic.{_⊎_, inl, inr, ⊎-elim}
+use mathlib.Core.Path.{_≡_, refl, sym, _∙_, ap, subst, subst₂}
+use mathlib.Core.Logic.{inl, inr}
 use mathlib.Core.Bool.{true}
 use mathlib.Core.List.{List, [], _∷_, _++_, map}
 use lib.ListN.{length, getD, length-append, length-map}
-use Rattle.paper.specs.Lists.{Has, joined, joinMap, lastOr, up}
+use Rattle.paper.specs.Lists.{Has, joined, lastOr, up}
 use Rattle.paper.specs.Closeness.{Node, nodesFrom, ofKind, closest, closestOf}
 use Rattle.paper.specs.Shapes.{Shape, kind, way, children}
 use Rattle.paper.specs.NewTable.{Line, forest, tree, beneath, tops, lines}
 use Rattle.paper.specs.Faithful.{Chain, Faithful}
 use Rattle.paper.proofs.Lists.{has-map, map-has, has-join, join-has, joined-map, up-last, up-snoc}
-use Rattle.paper.proofs.Closeness.{Of, kind-of, of-kind, closestOf-near, closestOf-closest}
-use Rattle.paper.proofs.Forest.{deweys}
+use Rattle.paper.proofs.Closeness.{kind-of, closestOf-near, closestOf-closest}
 use Rattle.paper.proofs.Tables.{nodesFrom-deweys}
 use Rattle.paper.proofs.Shapes.{Ways}
 use Rattle.paper.proofs.Verdict.{In, listed-child, way-zero, way-pos}

@@ -1,9 +1,9 @@
 -- The adorned shape. Assumes nothing.
-use Prim.Native.Nat.{ℕ, zero, suc}
+use Prim.Native.Nat.{ℕ, suc}
 use mathlib.Core.Bool.{Bool, true, false}
 use mathlib.Core.List.{List, [], _∷_, map}
 use lib.Dec.{eqb}
-use lib.ListN.{length, getD}
+use lib.ListN.{length}
 use Rattle.paper.specs.Lists
 use Rattle.paper.specs.Lists.{keep, lastOr, same, up}
 use Rattle.paper.specs.Format.{mostTypes}

@@ -1,9 +1,9 @@
 -- The six calls: the refusals in the order they are tested, and the whole answer of each call for every input. Assumes nothing.
-use Prim.Native.Nat.{ℕ, zero, suc, _+_, _*_, _/_, _%_, _-_, min}
+use Prim.Native.Nat.{ℕ, suc, _+_, _*_, _%_, _-_, min}
 use mathlib.Core.Bool.{Bool, true, false, not, _||_}
-use mathlib.Core.List.{List, [], _∷_, _++_, map}
+use mathlib.Core.List.{List, [], _++_, map}
 use mathlib.Core.Option.{Option, none, some}
-use lib.Dec.{eqb, leb, ltb}
+use lib.Dec.{eqb, ltb}
 use lib.ListN.{length, getD, drop, replicate}
 use Rattle.paper.specs.Lists.{keep, any, place, same, padded}
 use Rattle.paper.specs.Format.{Format, mostRows, mostTypes, mostEntries, mostLines, rowBytes, entryBytes, whole}

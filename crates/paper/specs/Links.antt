@@ -1,7 +1,7 @@
 -- Demand 3, over bytes: the links between records are kept. Assumes nothing.
-use Prim.Native.Nat.{ℕ, _+_, _*_, _/_, _%_, _<_}
+use Prim.Native.Nat.{ℕ, _/_, _%_, _<_}
 use mathlib.Core.Logic.{_↔_}
-use mathlib.Core.List.{List, [], _∷_, map}
+use mathlib.Core.List.{List, map}
 use lib.ListN.{length, getD}
 use Rattle.paper.specs.Lists.{Has}
 use Rattle.paper.specs.Format.{Format}

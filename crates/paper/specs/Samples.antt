@@ -1,16 +1,15 @@
 -- The marked samples of document 01, one list under one statement, proved by computation. Assumes nothing.
-use Prim.Native.Nat.{ℕ, zero, suc, _+_, _*_, _/_, _%_}
+use Prim.Native.Nat.{ℕ, suc, _+_, _*_, _/_, _%_}
 use mathlib.Core.Path.{_≡_, refl}
-use mathlib.Core.Bool.{Bool, _&&_}
 use mathlib.Core.List.{List, [], _∷_, _++_, map}
 use lib.ListN.{length, getD, take, replicate}
-use Rattle.paper.specs.Lists.{all, joinMap, padded}
+use Rattle.paper.specs.Lists.{joinMap, padded}
 use Rattle.paper.specs.Format.{base, valueBytes, rowBytes, bytes, number}
 use Rattle.paper.specs.Tables.{Row, rows, dewey, rowBack}
 use Rattle.paper.specs.Closeness.{Node, nodes, meet, kindsMeet, kindsDistance}
 use Rattle.paper.specs.Adorned.{Summary}
-use Rattle.paper.specs.Verdict.{Verdict, verdictNumbers}
-use Rattle.paper.specs.Calls.{Reply, adorn, judge, reshape, Reshaping}
+use Rattle.paper.specs.Verdict.{verdictNumbers}
+use Rattle.paper.specs.Calls.{adorn, judge, reshape, Reshaping}
 use Rattle.paper.specs.NewTable.{entryUnit}
 use Rattle.paper.specs.Opened.{opened}
 

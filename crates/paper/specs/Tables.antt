@@ -1,10 +1,10 @@
 -- Tables: rows, the row rules, types. Assumes nothing.
-use Prim.Native.Nat.{ℕ, zero, suc, _+_, _*_}
-use mathlib.Core.Bool.{Bool, true, false, _&&_, _||_}
+use Prim.Native.Nat.{ℕ, suc, _+_, _*_}
+use mathlib.Core.Bool.{Bool, _&&_, _||_}
 use mathlib.Core.List.{List, [], _∷_, _++_, map}
 use mathlib.Core.Option.{Option}
 use lib.Dec.{eqb}
-use lib.ListN.{length, getD, take, drop}
+use lib.ListN.{length, take, drop}
 use Rattle.paper.specs.Lists.{all, place, joinMap, firstBreak, between, same, distinct, ways}
 use Rattle.paper.specs.Format.{Format, headBytes, listBytes, valueBytes, rowBytes, byte, word, words, span, records, whole, bytes}
 

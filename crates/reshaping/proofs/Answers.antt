@@ -1,10 +1,7 @@
 -- What reshaping and summarising answer, refusal by refusal. Assumes nothing.
 use Prim.Native.Nat.{ℕ, _+_, _*_, _≤_, _<_}
-use mathlib.Core.Path.{_≡_, refl, sym, _∙_, ap, ap₂}
-use mathlib.Core.Bool.{Bool, true, false}
-use mathlib.Core.List.{List, [], _∷_, _++_, map}
-use mathlib.Core.Option.{Option, none}
-use lib.Dec.{ltb}
+use mathlib.Core.Path.{_≡_, _∙_, ap}
+use mathlib.Core.List.{List, _++_, map}
 use lib.ListN.{length, drop, length-map}
 use borrow.Author.Tests.{lt-ltb, le-ltb}
 use Rattle.paper.specs.Format.{base, mostLines}
@@ -12,7 +9,7 @@ use Rattle.paper.specs.Tables.{rows, badRow}
 use Rattle.paper.specs.Closeness.{Node, nodes}
 use Rattle.paper.specs.Shapes.{Shape}
 use Rattle.paper.specs.NewTable.{Line, lines, lineRow, newTable, sourceList, entryUnit}
-use Rattle.paper.specs.Calls.{Answer, Work, refused, given, _>>=_, refuse, refuseAt, reply, after, Reply, tests1-7, test8, roomIn, reshaping, Reshaping, reshape, Figures, figures, noFigures, summarise}
+use Rattle.paper.specs.Calls.{Answer, Work, given, _>>=_, refuse, refuseAt, reply, after, test8, roomIn, reshaping, Reshaping, reshape, Figures, figures, noFigures, summarise}
 use Rattle.paper.proofs.Promises.{written-kept}
 use Rattle.shapes.specs.Work.{Prepared, shapeIn}
 use Rattle.shapes.specs.declared.work.Work

@@ -1,8 +1,7 @@
 -- The children of an entry, by their parents. Assumes nothing.
 use Prim.Native.Nat.{ℕ, zero, suc, _+_, _-_, _≤_, _<_}
-use native.Mathlib.Nat.{not-suc-le-zero}
 use native.Mathlib.Omega.{arith}
-use mathlib.Core.Path.{_≡_, refl, sym, _∙_, ap, ap₂, subst}
+use mathlib.Core.Path.{_≡_, refl, sym, _∙_, ap, ap₂}
 use mathlib.Core.Logic.{inl, inr}
 use mathlib.Core.Bool.{Bool, true, false, true≢false}
 use mathlib.Core.List.{List, [], _∷_, _++_}
@@ -14,15 +13,14 @@ use Rattle.paper.specs.Lists.{Has, keep, count, same, up, lastOr}
 use Rattle.paper.specs.Format.{base}
 use Rattle.paper.specs.Tables.{rows, types}
 use Rattle.paper.specs.Closeness.{nodes}
-use Rattle.paper.specs.Shapes.{Shape, entries, way, parent, children, numbers}
-use Rattle.paper.proofs.Lists.{same-eq, eq-same, up-snoc, last-snoc, count-has}
+use Rattle.paper.specs.Shapes.{Shape, entries, way, parent, children}
+use Rattle.paper.proofs.Lists.{same-eq, eq-same, up-snoc, count-has}
 use Rattle.paper.proofs.Papers.{same-test}
-use Rattle.paper.proofs.Shapes.{Ways}
 use Rattle.paper.proofs.Nearest.{parent-nearest}
-use Rattle.paper.proofs.Verdict.{last-way, way-pos, child-parent, child-pos}
+use Rattle.paper.proofs.Verdict.{last-way, child-parent, child-pos}
 use Rattle.shapes.specs.Work.{Prepared, shapeIn}
 use Rattle.shapes.specs.declared.work.Work.{Work}
-use Rattle.shapes.proofs.Levelled.{held, rules, ways-are, count-is, entry-in, parent-in}
+use Rattle.shapes.proofs.Levelled.{held, rules, ways-are, count-is, entry-in}
 use Rattle.lines.specs.Lines.{childrenOf}
 
 -- ---- numbers kept

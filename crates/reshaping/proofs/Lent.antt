@@ -1,15 +1,14 @@
 -- What a reshape leaves in the bytes and places that were lent. Assumes nothing.
-use Prim.Native.Nat.{ℕ, zero, suc, _+_, _*_, _/_, _-_, _≤_, _<_, min}
+use Prim.Native.Nat.{ℕ, zero, suc, _+_, _*_, _-_, _≤_}
 use native.Mathlib.Nat.{mul-zero, mul-suc, mul-comm}
 use native.Mathlib.Omega.{arith}
-use mathlib.Core.Path.{_≡_, refl, sym, _∙_, ap, ap₂, subst, subst₂}
-use mathlib.Core.List.{List, [], _++_, map}
+use mathlib.Core.Path.{_≡_, sym, _∙_, ap, ap₂, subst₂}
+use mathlib.Core.List.{List, [], _++_}
 use lib.ListN.{length, take, drop, length-map}
 use lib.Seq.{sets, sets-eq}
-use Rattle.paper.specs.Format.{base, rowBytes, whole, mostLines}
+use Rattle.paper.specs.Format.{base, rowBytes, whole}
 use Rattle.paper.specs.Tables.{rows}
 use Rattle.paper.specs.Closeness.{Node, nodes}
-use Rattle.paper.specs.Shapes.{Shape}
 use Rattle.paper.specs.NewTable.{Line, lines, newTable, sourceList, entryUnit}
 use Rattle.paper.specs.Verdict.{kept}
 use Rattle.paper.specs.Calls.{Reply, Reshaping, reshape, roomIn, judge}

@@ -1,19 +1,18 @@
 -- The lines that are read off the arrays are the paper's. Assumes nothing.
-use Prim.Native.Nat.{ℕ, zero, suc, _+_, _*_, _-_, _≤_, _<_, pred}
+use Prim.Native.Nat.{ℕ, zero, suc, _+_, _*_, _-_, _≤_, _<_}
 use native.Mathlib.Nat.{not-suc-le-zero, le-of-suc-le-suc}
 use native.Mathlib.Omega.{arith}
 use mathlib.Core.Path.{_≡_, refl, sym, _∙_, ap, ap₂, subst}
 use mathlib.Core.Logic.{inl, inr}
-use mathlib.Core.Bool.{Bool, true, false}
 use mathlib.Core.List.{List, [], _∷_, _++_, map, map-map}
 use lib.Dec.{eqb}
-use lib.ListN.{length, getD, take, drop, replicate, length-append, length-map}
+use lib.ListN.{length, getD, take, replicate, length-map}
 use lib.Seq.{take-take}
-use Rattle.paper.specs.Lists.{Has, keep, joined, joinMap, count, padded}
-use Rattle.paper.specs.Format.{Format, base, bytes}
+use Rattle.paper.specs.Lists.{Has, joined, joinMap, count, padded}
+use Rattle.paper.specs.Format.{base}
 use Rattle.paper.specs.Tables.{Row, rows, rowBack}
 use Rattle.paper.specs.Closeness.{Node, nodes, ofKind, closestOf}
-use Rattle.paper.specs.Shapes.{Shape, kind, children}
+use Rattle.paper.specs.Shapes.{Shape, children}
 use Rattle.paper.specs.NewTable.{Line, forest, tree, beneath, tops, lines, lineRow, newTable, sourceList, entryUnit}
 use Rattle.paper.proofs.Lists.{join-has, map-has, keep-has, count-has, joined-map}
 use Rattle.paper.proofs.Verdict.{listed-child}

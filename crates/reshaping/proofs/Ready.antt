@@ -1,21 +1,21 @@
 -- From a prepared table and shape to what the walks ask for, and to the figures of a summary. Assumes nothing.
-use Prim.Native.Nat.{ℕ, zero, suc, _+_, _-_, _≤_, _<_}
+use Prim.Native.Nat.{ℕ, suc, _+_, _-_, _≤_, _<_}
 use native.Mathlib.Omega.{arith}
 use mathlib.Core.Path.{_≡_, refl, sym, _∙_, ap, ap₂, subst}
 use mathlib.Core.Logic.{inl, inr}
 use mathlib.Core.Bool.{Bool, true, false}
 use mathlib.Core.List.{List, [], _∷_, map, map-map}
 use lib.Dec.{eqb, leb}
-use lib.ListN.{length, getD, take, replicate, length-map}
+use lib.ListN.{length, getD, length-map}
 use borrow.Author.Tests.{ne-eqb, leb-true, leb-false}
 use Rattle.paper.specs.Lists.{Has, keep, count, padded}
-use Rattle.paper.specs.Format.{base, mostEntries, mostLines}
+use Rattle.paper.specs.Format.{base, mostLines}
 use Rattle.paper.specs.Tables.{rows}
 use Rattle.paper.specs.Closeness.{Node, nodes, ofKind, kindsMeet}
 use Rattle.paper.specs.Shapes.{Shape, kind, numbers}
 use Rattle.paper.specs.NewTable.{Line, lines}
 use Rattle.paper.specs.Verdict.{meeting}
-use Rattle.paper.specs.Calls.{Figures, figures, Reply}
+use Rattle.paper.specs.Calls.{Figures, figures}
 use Rattle.paper.proofs.Lists.{map-has}
 use Rattle.closest.specs.Deepest.{Meetings}
 use Rattle.closest.proofs.Deepest.{zeros-at}

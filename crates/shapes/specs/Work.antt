@@ -3,11 +3,11 @@ use Prim.Native.Nat.{ℕ, _≤_, _<_}
 use mathlib.Core.Path.{_≡_}
 use mathlib.Core.List.{List}
 use lib.ListN.{length, getD}
-use Rattle.paper.specs.Format.{Format, format, base, mostEntries, mostTypes}
+use Rattle.paper.specs.Format.{Format, base, mostEntries, mostTypes}
 use Rattle.paper.specs.Tables.{rows, types}
 use Rattle.paper.specs.Closeness.{nodes}
 use Rattle.paper.specs.Shapes.{Shape, entries, shapeOver, kind, parent, way}
-use Rattle.paper.specs.Calls.{Reply, Answer, refused, given, reply, _>>=_, tests5-6, tests1-7}
+use Rattle.paper.specs.Calls.{_>>=_, Reply, refused, given, reply, tests5-6, tests1-7}
 use Rattle.closest.specs.Node.{Typed}
 use Rattle.shapes.specs.Ways.{wayAt}
 use Rattle.shapes.specs.declared.work.ShapeExamined.{ShapeExamined}

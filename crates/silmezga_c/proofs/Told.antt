@@ -1,14 +1,14 @@
 -- Laws of the answers in numbers: where a looked-up row stands, and the verdict. Assumes nothing.
-use Prim.Native.Nat.{ℕ, zero, suc, _+_, _*_, _≤_, _<_}
+use Prim.Native.Nat.{ℕ, _*_, _≤_, _<_}
 use native.Mathlib.Omega.{arith}
-use mathlib.Core.Path.{_≡_, refl, sym, _∙_, ap}
+use mathlib.Core.Path.{_≡_, sym, _∙_, ap}
 use mathlib.Core.List.{List, [], _∷_}
 use lib.ListN.{length, take, drop}
 use Rattle.paper.specs.Lists.{padded}
-use Rattle.paper.specs.Format.{base, rowBytes, whole}
-use Rattle.paper.specs.Tables.{Row, rows}
+use Rattle.paper.specs.Format.{base, whole}
+use Rattle.paper.specs.Tables.{rows}
 use Rattle.paper.specs.Verdict
-use Rattle.paper.specs.Calls.{Answer, refused, given, Reply, tests1-3, lookUp}
+use Rattle.paper.specs.Calls.{given, Reply, tests1-3, lookUp}
 use Rattle.judging.specs.Told.{numbersOf}
 use Rattle.judging.specs.Judged.{judged, inNumbers}
 use Rattle.judging.specs.declared.judge.Judged.{Judged}

@@ -1,5 +1,5 @@
 -- Refusals 1 to 3 one by one, as the calls meet them. Assumes nothing.
-use Prim.Native.Nat.{ℕ, _+_, _*_, _/_, _%_, _≤_, _<_}
+use Prim.Native.Nat.{ℕ, _*_, _%_, _≤_, _<_}
 use native.Mathlib.Omega.{arith}
 use mathlib.Core.Path.{_≡_, refl, sym, _∙_, ap, ap₂}
 use mathlib.Core.Bool.{Bool, true, false, not}
@@ -8,7 +8,7 @@ use mathlib.Core.Option.{Option, none, some}
 use lib.Dec.{ltb, eqb}
 use lib.ListN.{length, take, drop}
 use borrow.Author.Tests.{lt-ltb, le-ltb, eq-eqb, ne-eqb}
-use Rattle.paper.specs.Format.{Format, base, mostRows, rowBytes, whole}
+use Rattle.paper.specs.Format.{Format, mostRows, rowBytes, whole}
 use Rattle.paper.specs.Tables.{Row, rows, badRow}
 use Rattle.paper.specs.Calls.{Answer, refused, given, _>>=_, refuse, refuseAt, Reply, reply, tests1-3, examine, lookUp}
 use Rattle.paper.proofs.Calls.{Numbered, count-rows, numbered1-3, bind-numbered, reply-given, bind-given, passed1-3}

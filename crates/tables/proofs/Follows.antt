@@ -1,10 +1,10 @@
 -- When one Dewey number follows another, by where the two meet and one component. Assumes nothing.
-use Prim.Native.Nat.{ℕ, zero, suc, _+_, _-_, _≤_, _<_, pred, min}
+use Prim.Native.Nat.{ℕ, suc, _+_, _-_, _≤_, _<_}
 use native.Mathlib.Numerals.{add-one}
 use native.Mathlib.Omega.{arith}
 use mathlib.Core.Path.{_≡_, refl, sym, _∙_, ap, ap₂}
 use mathlib.Core.Logic.{_⊎_, inl, inr, ⊎-elim}
-use mathlib.Core.Bool.{Bool, true, false, _||_, false≢true}
+use mathlib.Core.Bool.{Bool, true, false}
 use mathlib.Core.List.{List, [], _∷_, _++_}
 use lib.Dec.{eqb}
 use lib.ListN.{length, getD, take, length-append, length-take}
@@ -15,7 +15,7 @@ use Rattle.paper.specs.Format.{Format, byte, words}
 use Rattle.paper.specs.Tables.{rowOf, dewey, raised, follows}
 use Rattle.paper.specs.Closeness.{shared}
 use Rattle.paper.proofs.Lists.{either, same-eq, eq-same, or-left, or-right}
-use Rattle.paper.proofs.Agree.{Agree, agree-take, agree-sym, shared→agree, agree→shared, take-agree}
+use Rattle.paper.proofs.Agree.{Agree, agree-take, shared→agree, agree→shared, take-agree}
 use Rattle.paper.proofs.Forest.{length-raised}
 use Rattle.paper.proofs.Papers.{same-test}
 use Rattle.paper.proofs.Trees.{raised-snoc}

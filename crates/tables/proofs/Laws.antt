@@ -1,18 +1,18 @@
 -- What the row readers see of the paper's definitions, over any number of levels. Assumes nothing.
 use Prim.Native.Nat.{ℕ, zero, suc, _+_, _*_, _-_, _≤_, _<_, min}
-use native.Mathlib.Nat.{not-suc-le-zero, le-of-suc-le-suc}
+use native.Mathlib.Nat.{le-of-suc-le-suc}
 use native.Mathlib.Numerals.{add-one}
 use native.Mathlib.Omega.{arith}
-use mathlib.Core.Path.{_≡_, refl, sym, _∙_, ap, ap₂, subst}
+use mathlib.Core.Path.{_≡_, refl, sym, _∙_, ap, ap₂}
 use mathlib.Core.Bool.{Bool, true, false, _&&_}
-use mathlib.Core.List.{List, [], _∷_, _++_}
+use mathlib.Core.List.{List, [], _∷_}
 use lib.Dec.{eqb, leb}
-use lib.ListN.{length, getD, take, drop, length-take, drop-of-length-le}
+use lib.ListN.{length, getD, drop, length-take, drop-of-length-le}
 use lib.Seq.{drop-cons, getD-take}
 use borrow.Author.Tests.{eq-eqb, ne-eqb, le-leb, lt-leb}
 use Rattle.paper.specs.Lists.{all, between}
-use Rattle.paper.specs.Format.{Format, format, byte, word, words}
-use Rattle.paper.specs.Tables.{Row, rowOf, dewey, fieldsKept}
+use Rattle.paper.specs.Format.{Format, byte, word, words}
+use Rattle.paper.specs.Tables.{rowOf, dewey, fieldsKept}
 use Rattle.paper.specs.Closeness.{shared}
 use Rattle.paper.proofs.Lists.{and}
 use Rattle.paper.proofs.Tables.{length-words}

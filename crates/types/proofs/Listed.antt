@@ -1,13 +1,11 @@
 -- From the rows of a sound table to its type list. Assumes nothing.
-use Prim.Native.Nat.{ℕ, zero, suc, _+_, _*_, _-_, _≤_, _<_, pred, min}
+use Prim.Native.Nat.{ℕ, zero, suc, _+_, _-_, _≤_, _<_, pred}
 use native.Mathlib.Nat.{not-suc-le-zero, le-of-suc-le-suc}
 use native.Mathlib.Omega.{arith}
-use mathlib.Core.Path.{_≡_, refl, sym, _∙_, ap, ap₂, subst}
+use mathlib.Core.Path.{_≡_, refl, sym, _∙_, ap, subst}
 use mathlib.Core.Logic.{inl, inr}
-use mathlib.Core.Bool.{Bool, true, false}
 use mathlib.Core.List.{List, [], _∷_, _++_, map, map-map}
 use mathlib.Core.Option.{Option, none, some}
-use lib.Dec.{ltb}
 use lib.ListN.{length, getD, take, drop, set, length-append, length-take, length-map, length-set}
 use lib.Seq.{ext-getD, getD-take}
 use borrow.Author.Tests.{lt-ltb, le-ltb}
@@ -22,7 +20,6 @@ use Rattle.paper.proofs.Calls.{count-rows}
 use Rattle.tables.specs.Place.{placeOf}
 use Rattle.tables.proofs.Rows.{rec, rows-from, kept-level, some-place, none-place}
 use Rattle.types.specs.Types.{kinds, parentOf, Lists}
-use Rattle.types.specs.declared.list.Types.{Types}
 use Rattle.types.proofs.Ways.{beforeOr, before}
 use Rattle.types.proofs.Pass.{seen, numberOr, Pass, found-type, new-type}
 use Rattle.types.proofs.Step.{pass-start, pass-known, pass-new, pass-full, pass-end}

@@ -1,23 +1,20 @@
 -- One pass over a table that lists its types: what the arrays hold before row i. Assumes nothing.
-use Prim.Native.Nat.{ℕ, zero, suc, _+_, _-_, _≤_, _<_, pred, min}
-use native.Mathlib.Nat.{not-suc-le-zero, le-of-suc-le-suc, lt-irrefl}
-use native.Mathlib.Numerals.{add-one}
+use Prim.Native.Nat.{ℕ, zero, suc, _+_, _-_, _≤_, _<_, pred}
+use native.Mathlib.Nat.{not-suc-le-zero, le-of-suc-le-suc}
 use native.Mathlib.Omega.{arith}
-use mathlib.Core.Path.{_≡_, refl, sym, _∙_, ap, ap₂, subst, subst₂}
-use mathlib.Core.Logic.{_⊎_, inl, inr, ⊎-elim}
-use mathlib.Core.Bool.{Bool, true, false, true≢false, false≢true}
-use mathlib.Core.List.{List, [], _∷_, _++_, map, append-assoc}
-use lib.ListN.{length, getD, take, drop, set, length-take, length-append, take-append-drop}
-use lib.Seq.{take-suc, take-all, take-take, take-append-le, getD-set-same, getD-set-other, getD-append-seam}
-use lib.Dec.{eqb}
-use borrow.Author.Tests.{leb-true, leb-false, eqb-true, eqb-false}
+use mathlib.Core.Path.{_≡_, refl, sym, _∙_, ap, ap₂, subst}
+use mathlib.Core.Logic.{_⊎_, inl, inr}
+use mathlib.Core.Bool.{Bool, true, false, false≢true}
+use mathlib.Core.List.{List, [], _∷_, _++_, map}
+use lib.ListN.{length, getD, take, length-take, length-append}
+use lib.Seq.{take-suc, take-take, take-append-le}
 use Rattle.paper.specs.Lists.{Has, lastOr, place, same, distinct, up, ways}
 use Rattle.paper.specs.Format.{mostTypes}
 use Rattle.paper.specs.Tables.{typeNumber}
-use Rattle.paper.proofs.Lists.{same-eq, eq-same, same-self, has-left, has-right, has-append, has-getD, getD-has, up-snoc, last-snoc}
+use Rattle.paper.proofs.Lists.{same-eq, eq-same, same-self, has-right, getD-has, up-snoc, last-snoc}
 use Rattle.paper.proofs.Tables.{has-distinct, distinct-has, number-at, number-same, length-ways}
-use Rattle.paper.proofs.Adorned.{number-after, Once, distinct-once}
-use Rattle.types.proofs.Ways.{before, ways-at, closed, way-whole, distinct-prefix, distinct-known, distinct-new}
+use Rattle.paper.proofs.Adorned.{Once}
+use Rattle.types.proofs.Ways.{before, ways-at, closed, way-whole}
 
 -- a type's number, and 64 for none
 abbrev pub numberOr : List (List ℕ) → List ℕ → ℕ

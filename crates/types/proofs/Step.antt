@@ -3,13 +3,13 @@ use Prim.Native.Nat.{ℕ, zero, suc, _+_, _-_, _≤_, _<_, pred}
 use native.Mathlib.Nat.{not-suc-le-zero}
 use native.Mathlib.Numerals.{add-one}
 use native.Mathlib.Omega.{arith}
-use mathlib.Core.Path.{_≡_, refl, sym, _∙_, ap, ap₂, subst, subst₂}
-use mathlib.Core.Logic.{_⊎_, inl, inr, ⊎-elim}
+use mathlib.Core.Path.{_≡_, refl, sym, _∙_, ap, ap₂, subst}
+use mathlib.Core.Logic.{_⊎_, inl, inr}
 use mathlib.Core.Bool.{Bool, true, false}
 use mathlib.Core.List.{List, [], _∷_, _++_, map, append-assoc}
 use lib.ListN.{length, getD, take, drop, set, length-append, take-append-drop, List·getD-append}
-use lib.Seq.{take-all, getD-set-same, getD-set-other, getD-append-seam, getD-at}
-use lib.Dec.{leb, eqb}
+use lib.Seq.{take-all, getD-set-same, getD-set-other, getD-at}
+use lib.Dec.{leb}
 use borrow.Author.Tests.{leb-true, leb-false}
 use Rattle.paper.specs.Lists.{Has, lastOr, place, same, distinct, up, ways}
 use Rattle.paper.specs.Format.{mostTypes}
@@ -18,7 +18,7 @@ use Rattle.paper.proofs.Lists.{getD-has}
 use Rattle.paper.proofs.Tables.{has-distinct}
 use Rattle.paper.proofs.Adorned.{number-after, distinct-once}
 use Rattle.types.proofs.Ways.{before, distinct-prefix, distinct-known, distinct-new}
-use Rattle.types.proofs.Pass.{numberOr, number-left, once-number, place-first, seen, Pass, Known, take-has, known-up, known-before, number-stays, number-some, v, form, above, label, long, taken, known-above, short, parent-number}
+use Rattle.types.proofs.Pass.{numberOr, number-left, once-number, place-first, seen, Pass, known-up, known-before, number-stays, number-some, label, long, taken, known-above, short, parent-number}
 
 -- below j + 1 is below j, or j
 pub below : (j i : ℕ) → j < i + 1 → (j < i) ⊎ (j ≡ i)

@@ -1,22 +1,16 @@
 -- Types by first row, met one row after the other. Assumes nothing.
-use Prim.Native.Nat.{ℕ, zero, suc, _+_, _-_, _≤_, _<_, pred, min}
+use Prim.Native.Nat.{ℕ, zero, suc, _+_, _-_, _≤_, _<_, pred}
 use native.Mathlib.Nat.{not-suc-le-zero, le-of-suc-le-suc}
-use native.Mathlib.Numerals.{add-one}
 use native.Mathlib.Omega.{arith}
-use mathlib.Core.Path.{_≡_, refl, sym, _∙_, ap, ap₂, subst, subst₂}
+use mathlib.Core.Path.{_≡_, refl, sym, _∙_, ap, subst, subst₂}
 use mathlib.Core.Logic.{_⊎_, inl, inr, ⊎-elim}
-use mathlib.Core.Bool.{Bool, true, false, _&&_, _||_, not, true≢false, false≢true}
-use mathlib.Core.List.{List, [], _∷_, _++_, map, append-assoc, append-nil}
-use lib.ListN.{length, getD, take, drop, length-take, length-append, length-map, take-append-drop}
-use lib.Seq.{take-suc, take-all, take-take, getD-take, take-append-seam}
-use borrow.Author.Tests.{leb-true, leb-false}
-use Rattle.paper.specs.Lists.{Has, keep, any, lastOr, place, same, distinct, up, ways}
-use Rattle.paper.specs.Tables.{typeNumber}
-use Rattle.paper.proofs.Lists.{same-eq, same-self, eq-same, has-left, has-right, has-append, has-any, any-has, has-getD, getD-has, up-snoc, last-snoc, up-last, snoc-inj}
+use mathlib.Core.Bool.{Bool, true, false, _||_, not}
+use mathlib.Core.List.{List, [], _∷_, _++_, map, append-nil}
+use lib.ListN.{length, getD, take, length-take}
+use Rattle.paper.specs.Lists.{Has, keep, any, same, distinct, ways}
+use Rattle.paper.proofs.Lists.{same-eq, same-self, eq-same, has-any, any-has}
 use Rattle.paper.proofs.Forest.{above}
 use Rattle.paper.proofs.Shapes.{ways-kin, self}
-use Rattle.paper.proofs.Tables.{has-distinct, distinct-has, number-at, number-same, length-ways}
-use Rattle.paper.proofs.Adorned.{number-after}
 use Rattle.paper.proofs.Papers.{same-test}
 
 -- ---- the way of element i

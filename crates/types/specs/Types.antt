@@ -4,7 +4,7 @@ use mathlib.Core.Path.{_≡_}
 use mathlib.Core.List.{List, [], _∷_, map}
 use lib.ListN.{length, getD, take}
 use Rattle.paper.specs.Lists.{place, same, lastOr, up}
-use Rattle.paper.specs.Format.{Format, mostTypes}
+use Rattle.paper.specs.Format.{mostTypes}
 use Rattle.paper.specs.Tables.{Row, rowTypes, types, typeNumber}
 use Rattle.paper.specs.Calls.{typeTooMany}
 use Rattle.tables.specs.Place.{placeOf}

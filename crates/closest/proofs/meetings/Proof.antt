@@ -1,8 +1,6 @@
 use Prim.Native.Nat.{_+_, _*_, _-_, _≤_, _<_, max}
 use native.Mathlib.Omega.{arith}
-use mathlib.Core.Path.{_≡_, refl, sym, _∙_, ap, subst}
-use lib.ListN.{length, getD, set}
-use Rattle.paper.specs.Format.{mostTypes}
+use mathlib.Core.Path.{_≡_, refl, _∙_, ap}
 use Rattle.closest.specs.Deepest.{onward}
 use Rattle.closest.proofs.Meets.{ks-long, kind-few}
 use Rattle.closest.proofs.Deepest.{Filled, Filling, filled-start, filling-start, filling-step, filling-end, near-small, zeros-at}

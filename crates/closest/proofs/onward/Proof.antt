@@ -1,4 +1,4 @@
-use mathlib.Core.Path.{_≡_, sym, _∙_, ap}
+use mathlib.Core.Path.{sym, _∙_}
 use Rattle.closest.proofs.Deepest.{onward-own, onward-other}
 use borrow.Author.Needs.{needs}
 use Rattle.closest.proofs.onward.Statement.{statement}

@@ -36,7 +36,7 @@ use denote.Ref.{RefT}
 use denote.Array.{Array, arrayVal, array-vals, array-tells, array-typed, array-makes}
 use denote.Slice.{sliceTy, sliceVal, slice-vals, mut-slice-tells, MutSlice, Room, heres, codedHoleys, at-slice}
 use denote.Lend.{Held}
-use denote.Index.{place, place-is, row, elem-out, elem-put, opens-slice, closes-slice}
+use denote.Index.{place-is, row, elem-out, elem-put, opens-slice, closes-slice}
 use denote.Steps.{owned, nothing}
 use denote.Struct.Laws as LL
 use denote.Triple.Entry.{onEntry}

@@ -1,6 +1,6 @@
 use Prim.Native.Nat.{_-_, _≤_}
 use native.Mathlib.Omega.{arith}
-use mathlib.Core.Path.{refl, sym, _∙_, ap}
+use mathlib.Core.Path.{refl, ap}
 use lib.ListN.{getD}
 use Rattle.shapes.proofs.Filled.{Filled, filled-none, filled-more}
 use borrow.Author.Needs.{needs}

@@ -1,10 +1,10 @@
 use Prim.Native.Nat.{_-_}
 use native.Mathlib.Omega.{arith}
-use mathlib.Core.Path.{_≡_, refl, sym, _∙_, ap}
+use mathlib.Core.Path.{_≡_, sym, _∙_, ap}
 use lib.ListN.{length}
 use Rattle.paper.specs.Format.{base}
 use Rattle.judging.specs.Told.{told}
-use Rattle.judging.specs.Judged.{judged, inNumbers}
+use Rattle.judging.specs.Judged.{inNumbers}
 use Rattle.judging.proofs.Found.{not-kept}
 use Rattle.shapes.proofs.Levelled.{some-entry, shaped}
 use Rattle.judging.proofs.Whole.{room, levels-up, levels-down, alone-verdict, pair-verdict, judge-refused, judge-given, answered}

@@ -2,7 +2,6 @@ use native.Mathlib.Omega.{arith}
 use mathlib.Core.Path.{sym}
 use Rattle.paper.specs.Format.{format}
 use Rattle.judging.proofs.Search.{candidate-new, candidate-on}
-use borrow.Author.Needs.{needs}
 use Rattle.judging.proofs.lone.candidate_from.Statement.{statement}
 use Rattle.judging.proofs.lone.candidate_from.Tie as tie
 use Rattle.judging.proofs.lone.candidate_from.Reads as reads

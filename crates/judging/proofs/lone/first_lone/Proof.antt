@@ -1,13 +1,12 @@
-use Prim.Native.Nat.{_+_, _-_, _≤_, _<_}
+use Prim.Native.Nat.{_-_, _≤_}
 use native.Mathlib.Omega.{arith}
-use mathlib.Core.Path.{_≡_, refl, sym, _∙_, ap, subst}
+use mathlib.Core.Path.{_≡_, refl, sym, _∙_, ap}
 use mathlib.Core.Logic.{⊎-elim}
-use lib.ListN.{length, getD}
 use Rattle.paper.specs.Lists.{firstOr}
 use Rattle.paper.specs.Format.{format}
 use Rattle.paper.specs.Tables.{rows}
 use Rattle.paper.specs.Closeness.{nodes}
-use Rattle.paper.specs.Verdict.{kept, missing}
+use Rattle.paper.specs.Verdict.{kept}
 use Rattle.closest.proofs.Meets.{ks-long}
 use Rattle.judging.specs.Told.{told}
 use Rattle.judging.specs.Lone.{loneFrom}

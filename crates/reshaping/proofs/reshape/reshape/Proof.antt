@@ -1,7 +1,6 @@
 use Prim.Native.Nat.{_≤_}
 use native.Mathlib.Omega.{arith}
-use mathlib.Core.Path.{_≡_, sym, _∙_, ap}
-use mathlib.Core.List.{List}
+use mathlib.Core.Path.{_≡_, sym, ap}
 use lib.ListN.{length}
 use Rattle.paper.specs.Format.{base}
 use Rattle.paper.specs.Tables.{rows}
@@ -11,7 +10,6 @@ use Rattle.paper.specs.Calls.{Reshaping, roomIn}
 use Rattle.shapes.specs.Work.{shapeIn}
 use Rattle.shapes.proofs.Levelled.{some-entry, shaped}
 use Rattle.reshaping.proofs.Answers.{reshape-refused, reshape-full}
-use Rattle.reshaping.proofs.Paper.{length-is}
 use Rattle.reshaping.proofs.Ready.{ready, found-length, count-fits, count-exceeds}
 use Rattle.reshaping.proofs.Lent.{links-kept, fits, lines-left, table-left, sources-left}
 use borrow.Author.Needs.{needs}

@@ -4,7 +4,6 @@ use lib.ListN.{length}
 use Rattle.paper.specs.Format.{base, mostLines}
 use Rattle.paper.specs.Calls.{Figures, Reply}
 use Rattle.shapes.proofs.Levelled.{some-entry, shaped}
-use Rattle.lines.specs.Lines.{allEntries}
 use Rattle.reshaping.proofs.Answers.{summary-refused, summary-full, summary-given}
 use Rattle.reshaping.proofs.Ready.{ready, found-length, summed, count-fits, count-exceeds}
 use borrow.Author.Needs.{needs}

@@ -1,5 +1,5 @@
 use Prim.Native.Nat.{_≤_, _<_, _-_}
-use mathlib.Core.Path.{_≡_, refl, sym, _∙_, ap, subst}
+use mathlib.Core.Path.{_≡_, refl, _∙_, ap, subst}
 use Rattle.paper.specs.Tables.{rows}
 use Rattle.paper.proofs.Calls.{count-rows}
 use Rattle.types.specs.Types.{Lists}
