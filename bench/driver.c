@@ -35,40 +35,42 @@ static answers ours, plain;
 static tape tapes[TAPES];
 static figures all[TAPES][CALLS];
 
-static void call_ours(const tape *t, int call)
+/* The four calls of a program. */
+typedef struct {
+    silmezga_examined (*examine)(const uint8_t *, size_t);
+    silmezga_judged (*judge)(const uint8_t *, size_t, const uint8_t *, size_t);
+    silmezga_reshaped (*reshape)(const uint8_t *, size_t, const uint8_t *, size_t, uint8_t *, size_t, uint32_t *, size_t);
+    silmezga_summary (*summarise)(const uint8_t *, size_t, const uint8_t *, size_t);
+} program;
+
+static const program calls_ours = {silmezga_examine, silmezga_judge, silmezga_reshape, silmezga_summarise};
+static const program calls_plain = {plain_examine, plain_judge, plain_reshape, plain_summarise};
+
+static void make_call(const program *p, answers *a, const tape *t, int call)
 {
     switch (call) {
     case 0:
-        ours.examined = silmezga_examine(t->table, t->table_len);
+        a->examined = p->examine(t->table, t->table_len);
         break;
     case 1:
-        ours.judged = silmezga_judge(t->table, t->table_len, t->shape, t->shape_len);
+        a->judged = p->judge(t->table, t->table_len, t->shape, t->shape_len);
         break;
     case 2:
-        ours.reshaped = silmezga_reshape(t->table, t->table_len, t->shape, t->shape_len, ours.new_table, sizeof ours.new_table,
-                                         ours.sources, LINES);
+        a->reshaped = p->reshape(t->table, t->table_len, t->shape, t->shape_len, a->new_table, sizeof a->new_table, a->sources, LINES);
         break;
     default:
-        ours.summary = silmezga_summarise(t->table, t->table_len, t->shape, t->shape_len);
+        a->summary = p->summarise(t->table, t->table_len, t->shape, t->shape_len);
     }
+}
+
+static void call_ours(const tape *t, int call)
+{
+    make_call(&calls_ours, &ours, t, call);
 }
 
 static void call_plain(const tape *t, int call)
 {
-    switch (call) {
-    case 0:
-        plain.examined = plain_examine(t->table, t->table_len);
-        break;
-    case 1:
-        plain.judged = plain_judge(t->table, t->table_len, t->shape, t->shape_len);
-        break;
-    case 2:
-        plain.reshaped = plain_reshape(t->table, t->table_len, t->shape, t->shape_len, plain.new_table, sizeof plain.new_table,
-                                       plain.sources, LINES);
-        break;
-    default:
-        plain.summary = plain_summarise(t->table, t->table_len, t->shape, t->shape_len);
-    }
+    make_call(&calls_plain, &plain, t, call);
 }
 
 /* Both leave the same answers, and the same in every lent byte and place. */

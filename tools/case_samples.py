@@ -3,10 +3,11 @@ import itertools, sys
 
 import paper01, samples as folders
 from brackets import A
-from case_form import Case, adorning, total
+from case_form import Case, adorning
 from case_parts import around, bracketed, each_shape, far_more, lent, nested_table
 
 P4 = """\
+verdict 0
 1 0 lease 2 200
 1.1 1 lessee 1 100
 1.2 2 asset 3 300
@@ -29,20 +30,10 @@ def expect(what, hand, said):
         sys.exit(f"{what}: {hand} by document 01, {said} by paper01.py")
 
 
-def listing(case):
-    """The new table in the words of document 01's program."""
-    names = {2: "lessee", 3: "lease", 4: "asset"}
-    n = total(case)
-    _, new, sources = paper01.reshape(case.table, case.shape, bytes(24 * n), [0] * n)
-    for row, source in zip(paper01.read_rows(new), sources):
-        value = int.from_bytes(row.value, "little", signed=True)
-        yield f"{'.'.join(map(str, row.dewey))} {source // 65536} {names[row.label]} {source % 65536} {value}\n"
-
-
 def leases():
     """P4, for which the listing is document 01's too."""
     case = bracketed(A, "3[2 4]", "verdict 0, 3 3 3", VALUES)
-    expect("P4", P4, "".join(listing(case)))
+    expect("P4", P4, folders.listing(case.table, case.shape))
     return case
 
 

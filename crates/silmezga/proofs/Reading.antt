@@ -4,7 +4,7 @@ use native.Mathlib.Nat.{mul-zero, mul-suc}
 use native.Mathlib.Omega.{arith}
 use mathlib.Core.Path.{_≡_, refl, sym, _∙_, ap, ap₂}
 use mathlib.Core.List.{List, [], _∷_}
-use lib.ListN.{length, take, drop, replicate}
+use lib.ListN.{take, drop, replicate}
 use lib.Seq.{drop-drop}
 use denote.Ref.{RefT, now}
 use borrow.Author.Tests.{lt-ltb, le-ltb}
@@ -12,8 +12,6 @@ use Rattle.paper.specs.Format.{Format, base, rowBytes, records, whole}
 use Rattle.paper.specs.Tables.{rowPart}
 use Rattle.paper.specs.Calls.{readerRow, readerNext}
 use Rattle.bytes.specs.Part.{OwnFrom}
-use Rattle.bytes.proofs.Laws.{record-length}
-use Rattle.tables.proofs.Rows.{row-in}
 use Rattle.silmezga.specs.Handed.{readerStart, Handed}
 use Rattle.silmezga.specs.declared.reader.Reader.{Reader}
 
@@ -43,10 +41,6 @@ module _ (f : Format) (t : List ℕ) (at : ℕ) where
   pub readerStart-end : whole (rowBytes f) t ≤ at → readerStart f t at ≡ 0
   unfolding readerStart
   readerStart-end le = rw (le-ltb at (whole (rowBytes f) t) le, readerStart) refl
-
--- a row handed out is whole
-pub readerRow-length : (f : Format) (t : List ℕ) (at : ℕ) → at < whole (rowBytes f) t → length (readerRow f t at) ≡ rowBytes f
-readerRow-length f t at lt = ap length (readerRow-row f t at lt) ∙ record-length t (rowBytes f) at (row-in (rowBytes f) at t lt)
 
 -- ---- the part handed out
 -- the part of t that begins at byte i and ends before byte j
