@@ -7,7 +7,7 @@ use mathlib.Core.Path.{_≡_, refl, sym, _∙_, ap, ap₂}
 use mathlib.Core.List.{List, [], _∷_, _++_, map}
 use lib.ListN.{length, getD, take, drop, set, replicate, length-replicate, length-map, take-append-drop}
 use lib.Seq.{take-all, take-suc-set, drop-set-lt, drop-drop}
-use Rattle.paper.specs.Format.{format, mostTypes}
+use Rattle.paper.specs.Format.{Format, mostTypes}
 use Rattle.paper.specs.Tables.{Row, rows, types}
 use Rattle.paper.specs.Closeness.{Node, nodes}
 use Rattle.paper.specs.Adorned.{Summary, summary, summariesFrom, adorned}
@@ -15,7 +15,7 @@ use Rattle.paper.proofs.Lists.{map-append}
 use Rattle.types.specs.declared.list.Types.{Types}
 use Rattle.types.proofs.Few.{few-from}
 use Rattle.closest.specs.Node.{Typed}
-use Rattle.adorned.specs.Told.{told, noSummary, placed, Listed, Counted}
+use Rattle.adorned.specs.Told.{told, summaryAt, noSummary, placed, Listed, Counted}
 use Rattle.adorned.specs.declared.TypeSummary.{TypeSummary}
 
 -- ---- places
@@ -61,7 +61,7 @@ length-summaries t ts j [] = refl
 length-summaries t ts j (x ∷ xs) = ap suc (length-summaries t ts (suc j) xs)
 
 module _ (rs : List Row) where
-  adorned-next : (k : ℕ) → k < length (types rs) → take (suc k) (adorned rs) ≡ take k (adorned rs) ++ (summary (nodes rs) (types rs) k (getD (types rs) k []) ∷ [])
+  adorned-next : (k : ℕ) → k < length (types rs) → take (suc k) (adorned rs) ≡ take k (adorned rs) ++ (summaryAt rs k ∷ [])
   unfolding adorned
   adorned-next k lt =
       summaries-next (nodes rs) (types rs) 0 (types rs) k lt
@@ -73,7 +73,7 @@ module _ (rs : List Row) where
 
   -- what the loop keeps: the first k are written
   pub fill-step : (all : List TypeSummary) (k : ℕ) (s : TypeSummary) → k < length (types rs) → k < length all → toldFirst k all ≡ take k (adorned rs)
-      → told s ≡ summary (nodes rs) (types rs) k (getD (types rs) k []) → toldFirst (k + 1) (set all k s) ≡ take (k + 1) (adorned rs)
+      → told s ≡ summaryAt rs k → toldFirst (k + 1) (set all k s) ≡ take (k + 1) (adorned rs)
   fill-step all k s lt la e q =
       ap (λ n. map told (take n (set all k s))) (add-one k) ∙ ap (map told) (take-suc-set all k s la) ∙ map-append told (take k all) (s ∷ [])
       ∙ ap₂ {C = List Summary} (λ l x. l ++ (x ∷ [])) e q ∙ sym (adorned-next k lt) ∙ ap (λ n. take n (adorned rs)) (sym (add-one k))
@@ -86,23 +86,23 @@ module _ (rs : List Row) where
       ∙ ap₂ {C = List Summary} (λ a b. a ++ b) (e ∙ take-all k (adorned rs) (omega (arith, n))) (z ∙ ap (λ m. replicate (mostTypes - m) noSummary) n)
 
 -- ---- the type list of a table with no type too many
-module _ (levels largest n : ℕ) (t : List ℕ) (ty : Types) (c : Counted levels largest n t ty) where
+module _ (f : Format) (n : ℕ) (t : List ℕ) (ty : Types) (c : Counted f n t ty) where
   abbrev rs : List Row
-  rs = rows (format levels largest) t
+  rs = rows f t
 
   late : length rs ≤ ty .over
   late = omega (arith, c .rows-n, c .whole)
 
-  pub few : length (types (rows (format levels largest) t)) ≤ mostTypes
+  pub few : length (types (rows f t)) ≤ mostTypes
   few = few-from rs (ty .over) (length rs) (c .lists .over) late
 
-  pub count-is : ty .count ≡ length (types (rows (format levels largest) t))
+  pub count-is : ty .count ≡ length (types (rows f t))
   count-is = c .lists .count late
 
-  pub typed : Typed levels largest n t (ty .kinds)
-  typed = record { sound = c .sound; rows-n = c .rows-n; listed = ap (λ m. take m (ty .kinds)) (c .rows-n) ∙ c .lists .kind late }
+  pub typed : Typed f n t (ty .types)
+  typed = record { sound = c .sound; rows-n = c .rows-n; listed = ap (λ m. take m (ty .types)) (c .rows-n) ∙ c .lists .typed late }
 
-  pub listed : (k p a i : ℕ) → k < ty .count → p ≡ getD (ty .parents) k 0 → a ≡ getD (ty .labels) k 0 → i ≡ getD (ty .first) k 0 → Listed (rows (format levels largest) t) k p a i
+  pub listed : (k p a i : ℕ) → k < ty .count → p ≡ getD (ty .parents) k 0 → a ≡ getD (ty .labels) k 0 → i ≡ getD (ty .first) k 0 → Listed (rows f t) k p a i
   listed k p a i lt ep ea ei = record {
     known = omega (arith, count-is);
     few = few;

@@ -10,7 +10,7 @@ use lib.ListN.{length, getD, take, length-map, length-take}
 use borrow.Author.Tests.{eq-eqb, leb-true, leb-false}
 use Rattle.paper.specs.Lists
 use Rattle.paper.specs.Lists.{Has, keep, same, up}
-use Rattle.paper.specs.Format.{Format, format, mostTypes, rowBytes, byte, whole}
+use Rattle.paper.specs.Format.{Format, mostTypes, rowBytes, byte, whole}
 use Rattle.paper.specs.Tables.{Row, rows, dewey, rowTypes, types, typeNumber}
 use Rattle.paper.specs.Closeness.{Node, nodes, ofKind}
 use Rattle.paper.specs.Adorned.{Summary, childrenOf, summary}
@@ -27,23 +27,20 @@ use Rattle.types.proofs.Listed.{in-ways, l-is, a-is, l-pos, l-next}
 use Rattle.closest.specs.Node.{Typed}
 use Rattle.closest.proofs.Counts.{kinds-of, kinds-count}
 use Rattle.adorned.specs.Runs.{runs}
-use Rattle.adorned.specs.Told.{Listed}
+use Rattle.adorned.specs.Told.{Listed, summaryAt}
 use Rattle.adorned.proofs.Children.{runs-counts}
 
-module _ (levels largest n : ℕ) (t ks : List ℕ) (ty : Typed levels largest n t ks) (k parent label first : ℕ)
-    (li : Listed (rows (format levels largest) t) k parent label first) where
-  abbrev f : Format
-  f = format levels largest
-
+module _ (f : Format) (n : ℕ) (t ks : List ℕ) (ty : Typed f n t ks) (k parent label first : ℕ)
+    (li : Listed (rows f t) k parent label first) where
   abbrev rs : List Row
-  rs = rows (format levels largest) t
+  rs = rows f t
 
   abbrev ts : List (List ℕ)
-  ts = types (rows (format levels largest) t)
+  ts = types (rows f t)
 
   -- the type's labels
   abbrev v : List ℕ
-  v = getD (types (rows (format levels largest) t)) k []
+  v = getD (types (rows f t)) k []
 
   listed : Has v ts
   listed = getD-has [] ts k (li .known)
@@ -67,10 +64,10 @@ module _ (levels largest n : ℕ) (t ks : List ℕ) (ty : Typed levels largest n
       let (lt, e) = number-at v (rowTypes rs) (distinct-has v (rowTypes rs) listed) in
       (omega (arith, lt, li .first-is, length-ways [] (map step rs), length-map rs step), ap (λ i. getD (rowTypes rs) i []) (li .first-is) ∙ e)
 
-  pub first-in : first < whole (rowBytes (format levels largest)) t
+  pub first-in : first < whole (rowBytes f) t
   first-in = omega (arith, first-row .0, count-rows f t)
 
-  pub level-is : byte (rec (rowBytes (format levels largest)) first t) 0 ≡ length (getD (types (rows (format levels largest) t)) k [])
+  pub level-is : byte (rec (rowBytes f) first t) 0 ≡ length (getD (types (rows f t)) k [])
   unfolding rowTypes
   level-is =
       let b = rec (rowBytes f) first t in
@@ -122,13 +119,13 @@ module _ (levels largest n : ℕ) (t ks : List ℕ) (ty : Typed levels largest n
       go false q = absurd (ne (root-parent (omega (arith, leb-false 2 (length v) q, some))))
 
   -- ---- a root type
-  pub root-summary : (c l : ℕ) → parent ≡ mostTypes → c ≡ length (keep (λ x. eqb x k) (take n ks)) → l ≡ byte (rec (rowBytes (format levels largest)) first t) 0
+  pub root-summary : (c l : ℕ) → parent ≡ mostTypes → c ≡ length (keep (λ x. eqb x k) (take n ks)) → l ≡ byte (rec (rowBytes f) first t) 0
       → record { parent = parent; label = label; level = l; rows = c; least = c; greatest = c }
-      ≡ summary (nodes (rows (format levels largest) t)) (types (rows (format levels largest) t)) k (getD (types (rows (format levels largest) t)) k [])
+      ≡ summaryAt (rows f t) k
   unfolding summary
   root-summary c l e ec el =
       let one = is-root e in
-      let rc : c ≡ length (ofKind (nodes rs) k) = ec ∙ kinds-count levels largest n t ks ty k in
+      let rc : c ≡ length (ofKind (nodes rs) k) = ec ∙ kinds-count f n t ks ty k in
       let (lo, hi) = root-figures (nodes rs) ts k v one in
       λ i. record {
         parent = (e ∙ sym (pick-true (eqb (length v) 1) mostTypes (typeNumber ts (up v)) (eq-eqb (length v) 1 one))) i;
@@ -169,10 +166,10 @@ module _ (levels largest n : ℕ) (t ks : List ℕ) (ty : Typed levels largest n
           let (r, hr, er, tr, kr) = ancestor f rs la so s u tu (pred (length u)) (omega arith) (omega arith) in
           (r, (hr, kr ∙ ap (λ z. typeNumber ts (up z)) q), er ∙ ap (λ m. take (pred m) (s .dewey)) l)
 
-  pub deep-summary : (c l lo hi : ℕ) → (parent ≡ mostTypes → ⊥) → c ≡ length (keep (λ x. eqb x k) (take n ks)) → l ≡ byte (rec (rowBytes (format levels largest)) first t) 0
+  pub deep-summary : (c l lo hi : ℕ) → (parent ≡ mostTypes → ⊥) → c ≡ length (keep (λ x. eqb x k) (take n ks)) → l ≡ byte (rec (rowBytes f) first t) 0
       → lo ≡ Lists.least (runs parent k (take n ks)) → hi ≡ Lists.most (λ x. x) (runs parent k (take n ks))
       → record { parent = parent; label = label; level = l; rows = c; least = lo; greatest = hi }
-      ≡ summary (nodes (rows (format levels largest) t)) (types (rows (format levels largest) t)) k (getD (types (rows (format levels largest) t)) k [])
+      ≡ summaryAt (rows f t) k
   unfolding summary
   deep-summary c l lo hi ne ec el elo ehi =
       let deep = is-deep ne in
@@ -186,7 +183,7 @@ module _ (levels largest n : ℕ) (t ks : List ℕ) (ty : Typed levels largest n
         parent = (deep-parent deep .0 ∙ sym fp ∙ ap (λ (x : Summary). x .parent) same) i;
         label = li .label-is i;
         level = (el ∙ level-is) i;
-        rows = (ec ∙ kinds-count levels largest n t ks ty k) i;
+        rows = (ec ∙ kinds-count f n t ks ty k) i;
         least = (elo ∙ ap Lists.least (cs ∙ at) ∙ sym fl ∙ ap (λ (x : Summary). x .least) same) i;
         greatest = (ehi ∙ ap (Lists.most (λ x. x)) (cs ∙ at) ∙ sym fg ∙ ap (λ (x : Summary). x .greatest) same) i;
       }

@@ -1,8 +1,10 @@
 -- Children counted along the rows' type numbers: those of type k between a row of type p and the next. Assumes nothing.
 use Prim.Native.Nat.{ℕ, zero, suc, min, max}
+use mathlib.Core.Path.{_≡_}
 use mathlib.Core.Bool.{true, false}
 use mathlib.Core.List.{List, [], _∷_}
 use lib.Dec.{eqb}
+use Rattle.paper.specs.Lists.{least, most}
 
 -- those of type k before the next of type p
 abbrev pub lead : ℕ → ℕ → List ℕ → ℕ
@@ -14,7 +16,11 @@ abbrev pub runs : ℕ → ℕ → List ℕ → List ℕ
 runs p k [] = []
 runs p k (x ∷ xs) = elim (eqb x p) [ true ↦ lead p k xs ∷ runs p k xs | false ↦ runs p k xs ]
 
--- the least and the greatest after one more count, where m have been seen
+-- these are the least and the greatest of the counts, zeros where there is none
+abbrev pub CountRange : List ℕ → ℕ → ℕ → Type 0
+CountRange counts lo hi = (lo ≡ least counts) × (hi ≡ most (λ x. x) counts)
+
+-- the least and the greatest after one more count, where so many have been seen
 abbrev pub low : ℕ → ℕ → ℕ → ℕ
 low zero l c = c
 low (suc m) l c = min l c

@@ -4,9 +4,11 @@ use mathlib.Core.Path.{_≡_}
 use mathlib.Core.List.{List, [], _++_, map}
 use lib.ListN.{length, getD, replicate}
 use Rattle.paper.specs.Lists.{place, same, lastOr, up}
-use Rattle.paper.specs.Format.{format, base, mostTypes}
-use Rattle.paper.specs.Tables.{Row, rows, rowTypes, types}
-use Rattle.paper.specs.Adorned.{Summary}
+use Rattle.paper.specs.Format.{Format, base, mostRows, mostTypes}
+use Rattle.paper.specs.Tables as Tables
+use Rattle.paper.specs.Tables.{Row, rowTypes, types}
+use Rattle.paper.specs.Closeness.{nodes}
+use Rattle.paper.specs.Adorned.{Summary, summary}
 use Rattle.paper.specs.Calls.{Reply, reply, adorning}
 use Rattle.types.specs.Types.{parentOf, Lists}
 use Rattle.types.specs.declared.list.Types.{Types}
@@ -25,6 +27,10 @@ pub record Listed (rs : List Row) (k parent label first : ℕ) : Type 0 where
   pub label-is : label ≡ lastOr 0 (getD (types rs) k [])
   pub first-is : first ≡ place (same (getD (types rs) k [])) (rowTypes rs)
 
+-- the summary of type k
+abbrev pub summaryAt : List Row → ℕ → Summary
+summaryAt rs k = summary (nodes rs) (types rs) k (getD (types rs) k [])
+
 -- what a place past the last type holds
 abbrev pub noSummary : Summary
 noSummary = record { parent = 0; label = 0; level = 0; rows = 0; least = 0; greatest = 0 }
@@ -33,13 +39,13 @@ noSummary = record { parent = 0; label = 0; level = 0; rows = 0; least = 0; grea
 abbrev pub placed : List Summary → List Summary
 placed ss = ss ++ replicate (mostTypes - length ss) noSummary
 
--- the type list is that of this table of n rows, and no type is one too many
-pub record Counted (levels largest n : ℕ) (t : List ℕ) (ty : Types) : Type 0 where
-  pub sound : Sound levels largest t
-  pub rows-n : n ≡ length (rows (format levels largest) t)
-  pub lists : Lists (rows (format levels largest) t) ty
-  pub whole : n ≤ ty .over
-  pub small : n ≤ 1024
+-- the type list is that of this table of so many rows, and no type is one too many
+pub record Counted (f : Format) (rows : ℕ) (t : List ℕ) (ty : Types) : Type 0 where
+  pub sound : Sound f t
+  pub rows-n : rows ≡ length (Tables.rows f t)
+  pub lists : Lists (Tables.rows f t) ty
+  pub whole : rows ≤ ty .over
+  pub small : rows ≤ mostRows
 
 -- the answer is this reply: its number, its place, the count of its summaries, and the summaries
 pub record Says (a : Reply (List Summary)) (r : Adorned) : Type 0 where

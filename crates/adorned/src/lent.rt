@@ -13,13 +13,13 @@ pub struct AdornedTypes {
     pub types: usize,
 }
 
-// Stores the first n summaries at the front of what was lent.
-pub fn store(summaries: &mut [TypeSummary], all: [TypeSummary; 64], n: usize)
-    requires { ⌜ (n ≤ length (now summaries)) × (n ≤ 64) ⌝ }
-    ensures { λ _. ⌜ now (summaries .exit) ≡ take n all ++ drop n (now (summaries .entry)) ⌝ }
+// Stores the first summaries, so many, at the front of what was lent.
+pub fn store(summaries: &mut [TypeSummary], all: [TypeSummary; 64], count: usize)
+    requires { ⌜ (count ≤ length (now summaries)) × (count ≤ 64) ⌝ }
+    ensures { λ _. ⌜ now (summaries .exit) ≡ take count all ++ drop count (now (summaries .entry)) ⌝ }
 {
     let mut k = 0;
-    while k < n {
+    while k < count {
         summaries[k] = all[k];
         k += 1;
     }

@@ -2,21 +2,19 @@
 // children of a row stand before the next row of its type.
 pub mod lent;
 
+use paper::Format;
 use tables::table::examine;
 use types::list::Types;
 use types::list::list_types;
 ghost use mathlib.Core.Path.{_≡_};
 ghost use mathlib.Core.List.{[], map};
 ghost use Prim.Native.Nat.{_≤_, _<_};
-ghost use lib.ListN.{length, getD, take};
-ghost use Rattle.paper.specs.Lists.{least, most};
-ghost use Rattle.paper.specs.Format.{format};
-ghost use Rattle.paper.specs.Tables.{rows, types};
-ghost use Rattle.paper.specs.Closeness.{nodes};
-ghost use Rattle.paper.specs.Adorned.{summary, adorned};
+ghost use lib.ListN.{length, take};
+ghost use Rattle.paper.specs.Tables as Tables;
+ghost use Rattle.paper.specs.Adorned.{adorned};
 ghost use Rattle.closest.specs.Node.{Typed};
-ghost use Rattle.adorned.specs.Runs.{runs, low, high};
-ghost use Rattle.adorned.specs.Told.{Listed, Counted, told, noSummary, placed, Says, adornFigures};
+ghost use Rattle.adorned.specs.Runs.{runs, low, high, CountRange};
+ghost use Rattle.adorned.specs.Told.{Listed, Counted, told, summaryAt, noSummary, placed, Says, adornFigures};
 
 // The least and the greatest of some counts.
 pub struct Range {
@@ -24,11 +22,11 @@ pub struct Range {
     pub greatest: usize,
 }
 
-// One count more, where m have been seen.
-fn with_count(r: Range, m: usize, c: usize) -> Range
-    ensures { λ s. ⌜ (s .least ≡ low m (r .least) c) × (s .greatest ≡ high m (r .greatest) c) ⌝ }
+// One count more, where so many have been seen.
+fn with_count(r: Range, counts: usize, c: usize) -> Range
+    ensures { λ s. ⌜ (s .least ≡ low counts (r .least) c) × (s .greatest ≡ high counts (r .greatest) c) ⌝ }
 {
-    if m == 0 {
+    if counts == 0 {
         return Range {
             least: c,
             greatest: c,
@@ -36,29 +34,29 @@ fn with_count(r: Range, m: usize, c: usize) -> Range
     }
     Range {
         least: tables::row::smaller(r.least, c),
-        greatest: closest::larger(r.greatest, c),
+        greatest: tables::row::larger(r.greatest, c),
     }
 }
 
 // The least and the greatest number of children of type k under a row of type p; zeros where there is no such row.
-fn children_range(ks: &[u8], n: usize, p: usize, k: usize) -> Range
-    requires { ⌜ n ≤ length (now ks) ⌝ }
-    ensures { λ r. ⌜ (r .least ≡ least (runs p k (take n (now (ks .entry))))) × (r .greatest ≡ most (λ x. x) (runs p k (take n (now (ks .entry))))) ⌝ }
+fn children_range(types: &[u8], rows: usize, p: usize, k: usize) -> Range
+    requires { ⌜ rows ≤ length (now types) ⌝ }
+    ensures { λ r. ⌜ CountRange (runs p k (take rows (now (types .entry)))) (r .least) (r .greatest) ⌝ }
 {
     let mut r = Range {
         least: 0,
         greatest: 0,
     };
     let mut seen = false;
-    let mut m = 0;
+    let mut counts = 0;
     let mut c = 0;
     let mut i = 0;
-    while i < n {
-        let x = bytes::wide(ks[i]);
+    while i < rows {
+        let x = bytes::wide(types[i]);
         if x == p {
             if seen {
-                r = with_count(r, m, c);
-                m += 1;
+                r = with_count(r, counts, c);
+                counts += 1;
                 c = 0;
                 i += 1;
             } else {
@@ -76,7 +74,7 @@ fn children_range(ks: &[u8], n: usize, p: usize, k: usize) -> Range
         }
     }
     if seen {
-        return with_count(r, m, c);
+        return with_count(r, counts, c);
     }
     r
 }
@@ -95,23 +93,22 @@ pub struct TypeSummary {
 
 // The summary of type k, from its parent type, its last label and its first row.
 fn summary_of(
-    t: &[u8],
-    levels: usize,
-    largest: usize,
-    n: usize,
-    ks: &[u8],
+    table: &[u8],
+    f: Format,
+    rows: usize,
+    types: &[u8],
     k: usize,
     parent: usize,
     label: usize,
     first: usize,
 ) -> TypeSummary
-    requires { ⌜ Typed levels largest n (now t) (now ks) × Listed (rows (format levels largest) (now t)) k parent label first ⌝ }
-    ensures { λ r. ⌜ told r ≡ summary (nodes (rows (format levels largest) (now (t .entry)))) (types (rows (format levels largest) (now (t .entry)))) k (getD (types (rows (format levels largest) (now (t .entry)))) k []) ⌝ }
+    requires { ⌜ Typed f rows (now table) (now types) × Listed (Tables.rows f (now table)) k parent label first ⌝ }
+    ensures { λ r. ⌜ told r ≡ summaryAt (Tables.rows f (now (table .entry))) k ⌝ }
 {
-    let w = 4 + 2 * levels + 8;
-    let row = bytes::record(t, w, first);
+    let w = bytes::row_bytes(f);
+    let row = bytes::record(table, w, first);
     let level = bytes::wide(row[0]);
-    let c = closest::count_rows(ks, n, k);
+    let c = closest::count_rows(types, rows, k);
     if parent == 64 {
         return TypeSummary {
             parent: parent,
@@ -122,7 +119,7 @@ fn summary_of(
             greatest: c,
         };
     }
-    let r = children_range(ks, n, parent, k);
+    let r = children_range(types, rows, parent, k);
     TypeSummary {
         parent: parent,
         label: label,
@@ -162,28 +159,22 @@ fn no_summaries() -> [TypeSummary; 64]
 }
 
 // The summaries of a listed table, one a type in type order.
-fn summaries_of(
-    t: &[u8],
-    levels: usize,
-    largest: usize,
-    n: usize,
-    types: Types,
-) -> [TypeSummary; 64]
-    requires { ⌜ Counted levels largest n (now t) types ⌝ }
-    ensures { λ r. ⌜ map told r ≡ placed (adorned (rows (format levels largest) (now (t .entry)))) ⌝ }
+fn summaries_of(table: &[u8], f: Format, rows: usize, listed: Types) -> [TypeSummary; 64]
+    requires { ⌜ Counted f rows (now table) listed ⌝ }
+    ensures { λ r. ⌜ map told r ≡ placed (adorned (Tables.rows f (now (table .entry)))) ⌝ }
 {
-    let ks = types.kinds;
-    let first = types.first;
-    let parents = types.parents;
-    let labels = types.labels;
-    let count = types.count;
+    let types = listed.types;
+    let first = listed.first;
+    let parents = listed.parents;
+    let labels = listed.labels;
+    let count = listed.count;
     let mut all = no_summaries();
     let mut k = 0;
     while k < count {
         let p = bytes::wide(parents[k]);
         let a = labels[k] as usize;
         let i = first[k] as usize;
-        all[k] = summary_of(t, levels, largest, n, &ks, k, p, a, i);
+        all[k] = summary_of(table, f, rows, &types, k, p, a, i);
         k += 1;
     }
     all
@@ -202,26 +193,27 @@ fn refused(number: usize, place: usize) -> Adorned
 }
 
 // Refusals 1 to 4, then 10 where fewer places are lent than the table has types, or the summaries of its types.
-pub fn adorn_by_value(t: &[u8], lent: usize) -> Adorned
-    ensures { λ r. ⌜ Says (adornFigures (now (t .entry)) lent) r ⌝ }
+pub fn adorn_by_value(table: &[u8], lent: usize) -> Adorned
+    ensures { λ r. ⌜ Says (adornFigures (now (table .entry)) lent) r ⌝ }
 {
-    let e = examine(t);
-    let number = e.number;
-    let place = e.place;
-    let n = e.rows;
+    let examined = examine(table);
+    let number = examined.number;
+    let place = examined.place;
+    let rows = examined.rows;
     if number != 0 {
         return refused(number, place);
     }
-    let types = list_types(t, 6, 999, n);
-    let over = types.over;
-    let count = types.count;
-    if over < n {
+    let f = paper::base();
+    let listed = list_types(table, f, rows);
+    let over = listed.over;
+    let count = listed.count;
+    if over < rows {
         return refused(4, over);
     }
     if lent < count {
         return refused(10, 0);
     }
-    let all = summaries_of(t, 6, 999, n, types);
+    let all = summaries_of(table, f, rows, listed);
     Adorned {
         number: 0,
         place: 0,

@@ -3,10 +3,11 @@ use Prim.Native.Nat.{ℕ, suc, _+_, _*_, _-_, _≤_, _<_}
 use native.Mathlib.Nat.{mul-le-mul-left, mul-add, mul-one}
 use native.Mathlib.Numerals.{add-one}
 use native.Mathlib.Omega.{arith}
-use mathlib.Core.Path.{_≡_, ap}
+use mathlib.Core.Path.{_≡_, sym, ap, subst}
 use mathlib.Core.List.{List}
+use lib.Dec.{lit≤}
 use lib.ListN.{length, getD, take, drop, length-take, length-drop}
-use Rattle.paper.specs.Format.{word, number, span}
+use Rattle.paper.specs.Format.{Format, base, word, number, span}
 
 -- two bytes, the low one first
 pub word-bytes : (b : List ℕ) (i lo hi : ℕ) → lo ≡ getD b i 0 → hi ≡ getD b (i + 1) 0 → lo + 256 * hi ≡ word b i
@@ -30,3 +31,8 @@ record-length t w i h = simp (length-take, length-drop) (omega arith)
 -- a record below the count lies within the table
 pub record-in : (w i n l : ℕ) → i < n → w * n ≤ l → w * i + w ≤ l
 record-in w i n l h f = let e : w * (i + 1) ≤ w * n = mul-le-mul-left w (omega arith) in omega (arith, simp (mul-add, mul-one) at e)
+
+-- the format of document 01 has no more levels than any width may have
+pub base-levels : (f : Format) → f ≡ base → f .levels ≤ 8
+unfolding base
+base-levels f e = subst (λ (g : Format). g .levels ≤ 8) (sym e) (lit≤ tt)

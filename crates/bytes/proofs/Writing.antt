@@ -1,12 +1,12 @@
 -- What is written and what is still to be written. Assumes nothing.
 use Prim.Native.Nat.{ℕ, suc, _+_, _*_, _≤_, _<_}
-use native.Mathlib.Nat.{add-zero}
+use native.Mathlib.Nat.{add-zero, not-suc-le-zero, le-of-suc-le-suc}
 use native.Mathlib.Numerals.{add-one}
 use native.Mathlib.Omega.{arith}
 use mathlib.Core.Path.{_≡_, refl, sym, _∙_, ap}
 use mathlib.Core.List.{List, [], _∷_, _++_}
-use lib.ListN.{length, getD, take, drop, set, length-take, drop-of-length-le}
-use lib.Seq.{sets, length-sets, drop-cons, getD-take}
+use lib.ListN.{length, getD, drop, set, drop-of-length-le}
+use lib.Seq.{sets, length-sets, drop-cons, set-set, set-comm}
 use Rattle.paper.specs.Lists.{joinMap}
 use Rattle.paper.specs.Format.{bytes}
 
@@ -49,18 +49,37 @@ module _ {l₀ : List ℕ} {at : ℕ} {l : List ℕ} (k : ℕ) where
   -- The next byte is written.
   pub byte-written : (vs : List ℕ) → Writing l₀ at vs l (at + k) (drop k vs) → k < length vs
       → Writing l₀ at vs (set l (at + k) (getD vs k 0)) (at + (k + 1)) (drop (k + 1) vs)
-  byte-written vs w lt = part-written w (getD vs k 0 ∷ []) (drop (k + 1) vs) (drop-next vs k lt) (set l (at + k) (getD vs k 0)) refl (at + (k + 1)) (omega arith)
+  byte-written vs w lt =
+      part-written w (getD vs k 0 ∷ []) (drop (k + 1) vs) (drop-next vs k lt) (set l (at + k) (getD vs k 0)) refl (at + (k + 1)) (omega arith)
 
-  -- The next of the first n numbers is written.
-  pub number-written : (n : ℕ) (xs : List ℕ) → Writing l₀ at (joinMap (bytes 2) (take n xs)) l (at + 2 * k) (joinMap (bytes 2) (drop k (take n xs)))
-      → k < n → n ≤ length xs → (l' : List ℕ) → l' ≡ sets l (at + 2 * k) (bytes 2 (getD xs k 0))
-      → Writing l₀ at (joinMap (bytes 2) (take n xs)) l' (at + 2 * (k + 1)) (joinMap (bytes 2) (drop (k + 1) (take n xs)))
-  number-written n xs w lt le l' e =
-      let next = drop-next (take n xs) k (omega (arith, length-take n xs)) in
-      let same : bytes 2 (getD (take n xs) k 0) ≡ bytes 2 (getD xs k 0) = ap (bytes 2) (getD-take n xs k 0 lt) in
-      part-written w (bytes 2 (getD xs k 0)) (joinMap (bytes 2) (drop (k + 1) (take n xs)))
-      (ap (joinMap (bytes 2)) next ∙ ap (λ b. b ++ joinMap (bytes 2) (drop (k + 1) (take n xs))) same) l' e (at + 2 * (k + 1)) (omega arith)
+  -- The next number is written.
+  pub number-written : (xs : List ℕ) → Writing l₀ at (joinMap (bytes 2) xs) l (at + 2 * k) (joinMap (bytes 2) (drop k xs))
+      → k < length xs → (l' : List ℕ) → l' ≡ sets l (at + 2 * k) (bytes 2 (getD xs k 0))
+      → Writing l₀ at (joinMap (bytes 2) xs) l' (at + 2 * (k + 1)) (joinMap (bytes 2) (drop (k + 1) xs))
+  number-written xs w lt l' e =
+      part-written w (bytes 2 (getD xs k 0)) (joinMap (bytes 2) (drop (k + 1) xs)) (ap (joinMap (bytes 2)) (drop-next xs k lt)) l' e
+      (at + 2 * (k + 1)) (omega arith)
 
--- Nothing is left of the first n numbers at place n.
-pub numbers-end : (n : ℕ) (xs : List ℕ) (k : ℕ) → n ≤ k → joinMap (bytes 2) (drop k (take n xs)) ≡ []
-numbers-end n xs k le = ap (joinMap (bytes 2)) (drop-of-length-le (take n xs) {i = k} (omega (arith, length-take n xs)))
+-- Past the last number nothing is left.
+pub numbers-end : (xs : List ℕ) (k : ℕ) → length xs ≤ k → joinMap (bytes 2) (drop k xs) ≡ []
+numbers-end xs k le = ap (joinMap (bytes 2)) (drop-of-length-le xs {i = k} le)
+
+-- ---- written over
+-- A byte before those that are written may as well be written first.
+pub set-first : (vs l : List ℕ) (i j v : ℕ) → i < j → set (sets l j vs) i v ≡ sets (set l i v) j vs
+set-first [] l i j v lt = refl
+set-first (x ∷ vs) l i j v lt =
+    set-first vs (set l j x) i (suc j) v (omega arith) ∙ ap (λ m. sets m (suc j) vs) (set-comm l j i x v (λ e. let b : ⊥ = omega arith in b))
+
+-- Of values that no fewer are written over nothing is left.
+pub sets-over : (b v l : List ℕ) (i : ℕ) → length b ≤ length v → sets (sets l i b) i v ≡ sets l i v
+sets-over [] v l i le = refl
+sets-over (x ∷ b) [] l i le = absurd (not-suc-le-zero le)
+sets-over (x ∷ b) (y ∷ v) l i le =
+    ap (λ m. sets m (suc i) v) (set-first b (set l i x) i (suc i) y (omega arith) ∙ ap (λ m. sets m (suc i) b) (set-set l i x y))
+    ∙ sets-over b v (set l i y) (suc i) (le-of-suc-le-suc le)
+
+-- So of the last part of what is written.
+pub last-over : (a b v l : List ℕ) (i : ℕ) → length b ≤ length v → sets (sets l i (a ++ b)) (i + length a) v ≡ sets l i (a ++ v)
+last-over a b v l i le =
+    ap (λ m. sets m (i + length a) v) (sets-append a b l i) ∙ sets-over b v (sets l i a) (i + length a) le ∙ sym (sets-append a v l i)

@@ -1,10 +1,11 @@
 // Numbers and records read from lent bytes, and bytes put into them. Every function here asks its caller for bytes that are there, and
 // a reader's contract is a definition of the paper; what the numbers mean is left to the layers above.
+use paper::Format;
 ghost use mathlib.Core.Path.{_≡_};
 ghost use Prim.Native.Nat.{_+_, _*_, _≤_, _<_};
 ghost use lib.ListN.{length, take, drop};
 ghost use lib.Seq.{sets};
-ghost use Rattle.paper.specs.Format.{word, number, span};
+ghost use Rattle.paper.specs.Format.{rowBytes, entryBytes, word, number, span};
 ghost use Rattle.bytes.specs.Part.{OwnFrom};
 
 // A byte as a number.
@@ -12,6 +13,13 @@ pub fn wide(b: u8) -> usize
     ensures { λ r. ⌜ (r ≡ b) × (r < 256) ⌝ }
 {
     b as usize
+}
+
+// A 16-bit number as a wide one.
+pub fn wide16(x: u16) -> usize
+    ensures { λ r. ⌜ (r ≡ x) × (r < 65536) ⌝ }
+{
+    x as usize
 }
 
 // The 16-bit number at byte i.
@@ -30,6 +38,22 @@ pub fn long(b: &[u8], i: usize) -> usize
     let low = word(b, i) + 65536 * word(b, i + 2);
     let high = word(b, i + 4) + 65536 * word(b, i + 6);
     low + 4294967296 * high
+}
+
+// The bytes of an entry of a shape.
+pub fn entry_bytes(f: Format) -> usize
+    requires { ⌜ f .levels ≤ 255 ⌝ }
+    ensures { λ r. ⌜ r ≡ entryBytes f ⌝ }
+{
+    4 + 2 * f.levels
+}
+
+// The bytes of a row: its list, as in an entry, and its value.
+pub fn row_bytes(f: Format) -> usize
+    requires { ⌜ f .levels ≤ 255 ⌝ }
+    ensures { λ r. ⌜ r ≡ rowBytes f ⌝ }
+{
+    entry_bytes(f) + 8
 }
 
 // Record i of w bytes: its own bytes of the caller's table.

@@ -9,13 +9,13 @@ ghost use Prim.Native.Nat.{_*_, _≤_};
 ghost use lib.ListN.{length};
 
 // Room for the bytes of 4,100 records: more than a reshape ever uses.
-fn records_room() -> [u8; 98400]
+pub fn records_room() -> [u8; 98400]
     ensures { λ r. ⌜ 98400 ≡ length r ⌝ }
 {
     [0; 98400]
 }
 
-fn places_room() -> [u32; 4100]
+pub fn places_room() -> [u32; 4100]
     ensures { λ r. ⌜ 4100 ≡ length r ⌝ }
 {
     [0; 4100]
@@ -31,7 +31,7 @@ fn place_before(i: usize) -> u32 {
     (1000003 + i % 65536) as u32
 }
 
-fn fill_bytes(b: &mut [u8]) {
+pub fn fill_bytes(b: &mut [u8]) {
     let mut i = 0;
     while i < b.len() {
         b[i] = byte_before(i);
@@ -39,7 +39,7 @@ fn fill_bytes(b: &mut [u8]) {
     }
 }
 
-fn fill_places(p: &mut [u32]) {
+pub fn fill_places(p: &mut [u32]) {
     let mut i = 0;
     while i < p.len() {
         p[i] = place_before(i);

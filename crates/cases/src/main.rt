@@ -21,6 +21,9 @@
 //   line that is not as it was before the call, with its index;
 // - summarising's number and place, and for each entry with a figure other than 0 its lines, source rows and copies.
 // A sum is that of `print::folded`.
+//
+// The last line says on how many cases the calls for C answer and leave what the Rattle calls do.
+pub mod alike;
 pub mod calls;
 pub mod lent;
 pub mod marked;
@@ -101,30 +104,53 @@ fn read_changes(held: &mut [u8], count: usize) -> bool {
     true
 }
 
-// Reads a case and prints its line, or answers false where the input has no whole case left that fits what is held.
-fn run_case(held: &mut [u8]) -> bool {
+// What came of a case: was there a whole one that fits what is held, and do the calls for C answer alike (1)?
+struct Ran {
+    whole: bool,
+    alike: u64,
+}
+
+// Reads a case and prints its line.
+fn run_case(held: &mut [u8]) -> Ran {
     let mut head = [0u8; 20];
+    let none = Ran {
+        whole: false,
+        alike: 0,
+    };
     if io::read_full(STDIN_FILENO, &mut head) < 20 {
-        return false;
+        return none;
     }
     if !read_changes(held, bytes::word(&head, 0)) {
-        return false;
+        return none;
     }
     let n = bytes::word(&head, 2);
     let end = 32768 + bytes::word(&head, 4);
     if held.len() < n || held.len() < end {
-        return false;
+        return none;
     }
     let ask = asked(&head);
-    print_case(&held[0..n], &held[32768..end], ask);
-    true
+    let t = &held[0..n];
+    let s = &held[32768..end];
+    print_case(t, s, ask);
+    Ran {
+        whole: true,
+        alike: alike::count_alike(t, s, ask.row, ask.bytes, ask.places),
+    }
 }
 
 // A proved loop has to end, and nothing says that the input does: the loop counts down from a number that no run uses up.
 fn main() {
     let mut held = io::large_buffer();
     let mut cases = u64::MAX;
-    while cases > 0 && run_case(&mut held) {
+    let mut alike = 0;
+    let mut more = true;
+    while cases > 0 && more {
+        let ran = run_case(&mut held);
+        alike = std::num::wrapping_add_u64(alike, ran.alike);
+        more = ran.whole;
         cases -= 1;
     }
+    io::write_all(STDOUT_FILENO, b"calls for C alike: ");
+    io::print_decimal(STDOUT_FILENO, alike);
+    io::write_all(STDOUT_FILENO, b"\n");
 }

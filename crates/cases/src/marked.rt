@@ -1,5 +1,5 @@
 // Adorning into 65 places of its own, each marked, so that a program without a slice of summaries can run the call and show every place
-// after it.
+// after it. The call is the one for C, which runs the Rattle call.
 use silmezga::TypeSummary;
 ghost use mathlib.Core.Path.{_≡_};
 ghost use Prim.Native.Nat.{_≤_, min};
@@ -34,7 +34,7 @@ fn lend(table: &[u8], n: usize) -> Left
     ensures { λ r. ⌜ LeftOf (now (table .entry)) n r ⌝ }
 {
     let mut places = marks();
-    let r = silmezga::adorn(table, &mut places[..n]);
+    let r = silmezga_c::silmezga_adorn(table, &mut places[..n]);
     Left {
         number: r.number,
         place: r.place,

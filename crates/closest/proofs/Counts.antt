@@ -10,7 +10,7 @@ use lib.ListN.{length, getD, take, drop, drop-of-length-le, length-map}
 use lib.Seq.{drop-cons}
 use borrow.Author.Tests.{eq-eqb, ne-eqb}
 use Rattle.paper.specs.Lists.{keep}
-use Rattle.paper.specs.Format.{Format, format}
+use Rattle.paper.specs.Format.{Format}
 use Rattle.paper.specs.Tables.{rows, dewey, rowTypes}
 use Rattle.paper.specs.Closeness.{Node, nodesFrom, nodes, ofKind}
 use Rattle.types.specs.Types.{kinds}
@@ -70,7 +70,7 @@ many-kind (x ∷ t) k = go (eqb (x .kind) k) refl (many-kind t k)
     go false e ih = rw (e, keep) ih
 
 -- the rows of type k among the type numbers are the nodes of kind k
-pub kinds-count : (levels largest n : ℕ) (t ks : List ℕ) → Typed levels largest n t ks → (k : ℕ)
-    → length (keep (λ x. eqb x k) (take n ks)) ≡ length (ofKind (nodes (rows (format levels largest) t)) k)
-kinds-count levels largest n t ks ty k =
-    ap (many k) (ty .listed ∙ sym (kinds-of (format levels largest) t)) ∙ many-kind (nodes (rows (format levels largest) t)) k
+pub kinds-count : (f : Format) (n : ℕ) (t ks : List ℕ) → Typed f n t ks → (k : ℕ)
+    → length (keep (λ x. eqb x k) (take n ks)) ≡ length (ofKind (nodes (rows f t)) k)
+kinds-count f n t ks ty k =
+    ap (many k) (ty .listed ∙ sym (kinds-of f t)) ∙ many-kind (nodes (rows f t)) k

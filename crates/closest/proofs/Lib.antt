@@ -1,7 +1,11 @@
 pub mod Nodes
 pub mod Meets
 pub mod Levels
-pub mod Runs
+pub mod MeetAt
+pub mod Starts
+pub mod Index
+pub mod Filled
 pub mod Deepest
+pub mod Meetings
 pub mod Listed
 pub mod Counts

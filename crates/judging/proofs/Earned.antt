@@ -7,48 +7,59 @@ use mathlib.Core.Bool.{Bool, true, false, _&&_, _||_}
 use mathlib.Core.List.{List, [], _∷_, _++_, map}
 use lib.Dec.{eqb, leb}
 use lib.ListN.{getD, drop}
-use borrow.Author.Tests.{eqb-true, eq-eqb, ne-eqb, leb-true, le-leb}
+use borrow.Author.Tests.{eqb-true, eq-eqb, ne-eqb, leb-true, leb-false, le-leb}
 use Rattle.paper.specs.Lists.{Has, all, any, joinMap, count}
 use Rattle.paper.specs.Closeness.{Node, shared}
-use Rattle.paper.specs.Shapes.{Shape, way, side, path}
+use Rattle.paper.specs.Shapes as Paper
+use Rattle.paper.specs.Shapes.{way, side, path}
+use Rattle.shapes.specs.Shape.{edgeOf}
+use Rattle.shapes.specs.declared.shape.Shape.{Shape}
 use Rattle.paper.specs.Verdict
 use Rattle.paper.specs.Verdict.{kept, apart, unsure, isLeast, overPairs, meeting, edgeLevel, sureDown, meetsLeast, sure, pairFault}
 use Rattle.paper.proofs.Lists.{both, and, or-left, has-left, has-right, has-all, any-has, has-any, map-append}
 use Rattle.paper.proofs.Papers.{same-test}
 use Rattle.paper.proofs.Agree.{shared-sym}
-use Rattle.judging.specs.Pairs.{lowest, levelsOn, sureOn, earned, fault}
+use Rattle.judging.specs.Pairs.{wayOf, lowest, levelsOn, sureOn, earnedBy, earned, fault}
 
 -- a pair's verdict by whether its types meet at the least level and whether some edge of that level is sure
 abbrev verdictBy : ℕ → ℕ → Bool → Bool → Verdict.Verdict
 verdictBy e f t u = elim t [ true ↦ elim u [ true ↦ kept | false ↦ unsure e f ] | false ↦ apart e f ]
 
-module _ (edges : List ℕ) (full : List Bool) (m e f : ℕ) (a b : List ℕ) where
-  -- ---- from what is found: what the ways share, the least level of one way's edges, then of both
-  module _ (k d l : ℕ) (qk : k ≡ shared a b) (qd : d ≡ lowest 255 (levelsOn edges (drop k a))) (ql : l ≡ lowest d (levelsOn edges (drop k b))) where
-    earned-by : (t w : Bool) → eqb l m ≡ t → sureOn edges full m (drop k a) || sureOn edges full m (drop k b) ≡ w
-        → verdictBy e f t w ≡ earned edges full m e f a b
-    earned-by t w qt qw = rw (← qt, ← qw, ql, qd, qk) refl
+-- ---- from what is found
+-- k entries are shared; d is the least level of the edges from there down to e, and l the least of d and those down to f
+pub record Found (s : Shape) (ways : List ℕ) (e f k d l : ℕ) : Type 0 where
+  pub shared-is : k ≡ shared (wayOf s ways e) (wayOf s ways f)
+  pub down-is : d ≡ lowest 255 (levelsOn s (drop k (wayOf s ways e)))
+  pub least-is : l ≡ lowest d (levelsOn s (drop k (wayOf s ways f)))
 
-    -- the least level is another than that at which the types meet
-    pub earned-apart : (l ≡ m → ⊥) → apart e f ≡ earned edges full m e f a b
-    earned-apart ne = earned-by false (sureOn edges full m (drop k a) || sureOn edges full m (drop k b)) (ne-eqb l m ne) refl
+module _ {s : Shape} {ways : List ℕ} {e f k d l : ℕ} (w : Found s ways e f k d l) (full : List Bool) (m : ℕ) where
+  -- is a way sure from place k on?
+  abbrev pub sureTo : ℕ → Bool
+  sureTo e = sureOn s full m (drop k (wayOf s ways e))
 
-    module _ (meets : l ≡ m) (u : Bool) (qu : u ≡ sureOn edges full m (drop k a)) where
-      -- one way is sure
-      pub earned-down : u ≡ true → kept ≡ earned edges full m e f a b
-      earned-down h = earned-by true true (eq-eqb l m meets) (or-left (sureOn edges full m (drop k b)) (sym qu ∙ h))
+  earned-by : (t u : Bool) → eqb l m ≡ t → sureTo e || sureTo f ≡ u → verdictBy e f t u ≡ earned s ways full m e f
+  earned-by t u qt qu = rw (← qt, ← qu, w .least-is, w .down-is, w .shared-is) refl
 
-      module _ (lost : u ≡ false) (v : Bool) (qv : v ≡ sureOn edges full m (drop k b)) where
-        earned-up : (w : Bool) → v ≡ w → verdictBy e f true w ≡ earned edges full m e f a b
-        earned-up w h = earned-by true w (eq-eqb l m meets) (ap₂ (λ x y. x || y) (sym qu ∙ lost) (sym qv ∙ h))
+  -- the least level is another than that at which the types meet
+  pub earned-apart : (l ≡ m → ⊥) → apart e f ≡ earned s ways full m e f
+  earned-apart ne = earned-by false (sureTo e || sureTo f) (ne-eqb l m ne) refl
 
-        -- only the other way is sure
-        pub earned-kept : v ≡ true → kept ≡ earned edges full m e f a b
-        earned-kept = earned-up true
+  module _ (meets : l ≡ m) (x : Bool) (qx : x ≡ sureOn s full m (drop k (wayOf s ways e))) where
+    -- one way is sure
+    pub earned-down : x ≡ true → kept ≡ earned s ways full m e f
+    earned-down h = earned-by true true (eq-eqb l m meets) (or-left (sureTo f) (sym qx ∙ h))
 
-        -- no way is sure
-        pub earned-unsure : v ≡ false → unsure e f ≡ earned edges full m e f a b
-        earned-unsure = earned-up false
+    module _ (lost : x ≡ false) (y : Bool) (qy : y ≡ sureOn s full m (drop k (wayOf s ways f))) where
+      earned-up : (u : Bool) → y ≡ u → verdictBy e f true u ≡ earned s ways full m e f
+      earned-up u h = earned-by true u (eq-eqb l m meets) (ap₂ (λ x y. x || y) (sym qx ∙ lost) (sym qy ∙ h))
+
+      -- only the other way is sure
+      pub earned-kept : y ≡ true → kept ≡ earned s ways full m e f
+      earned-kept = earned-up true
+
+      -- no way is sure
+      pub earned-unsure : y ≡ false → unsure e f ≡ earned s ways full m e f
+      earned-unsure = earned-up false
 
 -- ---- the least level
 lowest-le : (b : ℕ) (xs : List ℕ) → lowest b xs ≤ b
@@ -74,7 +85,7 @@ lowest-reached b (x ∷ xs) = ⊎-elim (λ q. go (leb b x) refl q) (λ h. inr (i
   where
     go : (t : Bool) → leb b x ≡ t → lowest (min b x) xs ≡ min b x → (lowest (min b x) xs ≡ b) ⊎ Has (lowest (min b x) xs) (x ∷ xs)
     go true e q = let le = leb-true b x e in inl (omega arith)
-    go false e q = let lt = borrow.Author.Tests.leb-false b x e in inr (inl (omega arith))
+    go false e q = let lt = leb-false b x e in inr (inl (omega arith))
 
 -- m is the least, as it is below b
 lowest-least : (m b : ℕ) (xs : List ℕ) → m < b → eqb (lowest b xs) m ≡ isLeast m xs
@@ -83,7 +94,8 @@ lowest-least m b xs lt = same-test (eqb (lowest b xs) m) (isLeast m xs) there ba
     there : eqb (lowest b xs) m ≡ true → isLeast m xs ≡ true
     there h =
         let q : lowest b xs ≡ m = eqb-true (lowest b xs) m h in
-        and (⊎-elim (λ r. let z : ⊥ = omega arith in absurd z) (λ i. has-any (eqb m) (lowest b xs) xs i (eq-eqb m (lowest b xs) (sym q))) (lowest-reached b xs))
+        and (⊎-elim (λ r. let z : ⊥ = omega arith in absurd z) (λ i. has-any (eqb m) (lowest b xs) xs i (eq-eqb m (lowest b xs) (sym q)))
+        (lowest-reached b xs))
         (has-all (leb m) xs (λ x i. le-leb m x (omega (arith, lowest-has b x xs i))))
 
     back : isLeast m xs ≡ true → eqb (lowest b xs) m ≡ true
@@ -103,51 +115,51 @@ fault-by e f true true = refl
 fault-by e f true false = refl
 fault-by e f false u = refl
 
-module _ (t : List Node) (s : Shape) (edges : List ℕ) (full : List Bool) where
+module _ (t : List Node) (p : Paper.Shape) (s : Shape) (full : List Bool) where
   -- the array has the levels of these edges
   abbrev pub Levels : List ℕ → Type 0
-  Levels cs = (c : ℕ) → Has c cs → getD edges c 0 ≡ edgeLevel t s c
+  Levels cs = (c : ℕ) → Has c cs → edgeOf s c ≡ edgeLevel t p c
 
   -- the array says of these edges whether they are full
   abbrev pub Fulls : List ℕ → Type 0
-  Fulls cs = (c : ℕ) → Has c cs → getD full c false ≡ Verdict.full t s c
+  Fulls cs = (c : ℕ) → Has c cs → getD full c false ≡ Verdict.full t p c
 
-  levels-same : (cs : List ℕ) → Levels cs → levelsOn edges cs ≡ map (edgeLevel t s) cs
+  levels-same : (cs : List ℕ) → Levels cs → levelsOn s cs ≡ map (edgeLevel t p) cs
   levels-same [] h = refl
   levels-same (c ∷ cs) h = ap₂ {C = List ℕ} (λ x xs. x ∷ xs) (h c (inl refl)) (levels-same cs (λ d i. h d (inr i)))
 
-  sure-same : (l : ℕ) (cs : List ℕ) → Levels cs → Fulls cs → sureOn edges full l cs ≡ sureDown t s l cs
+  sure-same : (l : ℕ) (cs : List ℕ) → Levels cs → Fulls cs → sureOn s full l cs ≡ sureDown t p l cs
   sure-same l [] h k = refl
   sure-same l (c ∷ cs) h k =
       ap₂ (λ x y. eqb x l || y) (h c (inl refl)) (ap₂ (λ x y. x && y) (k c (inl refl)) (sure-same l cs (λ d i. h d (inr i)) (λ d i. k d (inr i))))
 
-  module _ (e f m : ℕ) (meets : m ≡ meeting t s e f) (low : m < 255) (levels : Levels (path s e f)) (fulls : Fulls (path s e f)) where
+  module _ (e f m : ℕ) (meets : m ≡ meeting t p e f) (low : m < 255) (levels : Levels (path p e f)) (fulls : Fulls (path p e f)) where
     -- the edges on the way to f from the fork on
-    up-is : drop (shared (way s e) (way s f)) (way s f) ≡ side s f e
-    up-is = ap (λ k. drop k (way s f)) (shared-sym (way s e) (way s f))
+    up-is : drop (shared (way p e) (way p f)) (way p f) ≡ side p f e
+    up-is = ap (λ k. drop k (way p f)) (shared-sym (way p e) (way p f))
 
-    least-is : eqb (lowest (lowest 255 (levelsOn edges (side s e f))) (levelsOn edges (side s f e))) m ≡ meetsLeast t s e f
+    least-is : eqb (lowest (lowest 255 (levelsOn s (side p e f))) (levelsOn s (side p f e))) m ≡ meetsLeast t p e f
     unfolding meetsLeast
     least-is =
-        ap (λ x. eqb x m) (lowest-append 255 (levelsOn edges (side s e f)) (levelsOn edges (side s f e))
-        ∙ ap (lowest 255) (sym (map-append (λ c. getD edges c 0) (side s e f) (side s f e)) ∙ levels-same (path s e f) levels))
-        ∙ lowest-least m 255 (map (edgeLevel t s) (path s e f)) low ∙ ap (λ x. isLeast x (map (edgeLevel t s) (path s e f))) meets
+        ap (λ x. eqb x m) (lowest-append 255 (levelsOn s (side p e f)) (levelsOn s (side p f e))
+        ∙ ap (lowest 255) (sym (map-append (edgeOf s) (side p e f) (side p f e)) ∙ levels-same (path p e f) levels))
+        ∙ lowest-least m 255 (map (edgeLevel t p) (path p e f)) low ∙ ap (λ x. isLeast x (map (edgeLevel t p) (path p e f))) meets
 
-    sure-is : sureOn edges full m (side s e f) || sureOn edges full m (side s f e) ≡ sure t s e f
+    sure-is : sureOn s full m (side p e f) || sureOn s full m (side p f e) ≡ sure t p e f
     unfolding sure
     sure-is =
         ap₂ (λ x y. x || y)
-        (sure-same m (side s e f) (λ c h. levels c (has-left c (side s e f) (side s f e) h)) (λ c h. fulls c (has-left c (side s e f) (side s f e) h)))
-        (sure-same m (side s f e) (λ c h. levels c (has-right c (side s e f) (side s f e) h)) (λ c h. fulls c (has-right c (side s e f) (side s f e) h)))
-        ∙ ap (λ x. sureDown t s x (side s e f) || sureDown t s x (side s f e)) meets
+        (sure-same m (side p e f) (λ c h. levels c (has-left c (side p e f) (side p f e) h)) (λ c h. fulls c (has-left c (side p e f) (side p f e) h)))
+        (sure-same m (side p f e) (λ c h. levels c (has-right c (side p e f) (side p f e) h)) (λ c h. fulls c (has-right c (side p e f) (side p f e) h)))
+        ∙ ap (λ x. sureDown t p x (side p e f) || sureDown t p x (side p f e)) meets
 
     -- a pair earns what the paper says
-    pub earned-fault : fault (earned edges full m e f (way s e) (way s f)) ≡ pairFault t s e f
+    pub earned-fault : fault (earnedBy s full m e f (way p e) (way p f)) ≡ pairFault t p e f
     unfolding pairFault
     earned-fault =
-        ap (λ u. fault (verdictBy e f (eqb (lowest (lowest 255 (levelsOn edges (side s e f))) (levelsOn edges u)) m)
-        (sureOn edges full m (side s e f) || sureOn edges full m u))) up-is
-        ∙ ap₂ (λ w u. fault (verdictBy e f w u)) least-is sure-is ∙ fault-by e f (meetsLeast t s e f) (sure t s e f)
+        ap (λ u. fault (verdictBy e f (eqb (lowest (lowest 255 (levelsOn s (side p e f))) (levelsOn s u)) m)
+        (sureOn s full m (side p e f) || sureOn s full m u))) up-is
+        ∙ ap₂ (λ w u. fault (verdictBy e f w u)) least-is sure-is ∙ fault-by e f (meetsLeast t p e f) (sure t p e f)
 
 -- ---- all pairs
 joins-same : (g h : ℕ → List Verdict.Verdict) (i n : ℕ) → ((f : ℕ) → i ≤ f → f < i + n → g f ≡ h f) → joinMap g (count i n) ≡ joinMap h (count i n)

@@ -1,6 +1,5 @@
 -- The walk over the pairs of entries to the first that earns a 2 or a 3. Assumes nothing.
-use Prim.Native.Nat.{ℕ, suc, _+_, _-_, _≤_, _<_}
-use native.Mathlib.Numerals.{add-one}
+use Prim.Native.Nat.{ℕ, _+_, _-_, _≤_, _<_}
 use native.Mathlib.Omega.{arith}
 use mathlib.Core.Path.{_≡_, refl, sym, _∙_, ap}
 use mathlib.Core.Logic.{⊎-elim}
@@ -11,21 +10,14 @@ use Rattle.paper.specs.Verdict
 use Rattle.paper.specs.Verdict.{kept, overPairs}
 use types.Run.{OneOf}
 use denote.Enum.Declared.{tagOf}
-use Rattle.judging.specs.Pairs.{wayOf, earned, fault}
+use Rattle.shapes.specs.declared.shape.Shape.{Shape}
+use Rattle.judging.specs.Pairs.{earned, fault}
 use Rattle.shapes.specs.Edges.{meetingOf}
 use Rattle.judging.specs.Told.{told}
 use Rattle.judging.specs.declared.verdict.Verdict.{Verdict}
 use Rattle.judging.specs.declared.verdict.Verdict.the-variants.{Kept, Missing, Apart, Unsure}
 use Rattle.judging.proofs.verdict.Verdict.{the-type}
-
--- ---- counting on
-count-from : (i n : ℕ) → i < n → count i (n - i) ≡ i ∷ count (i + 1) (n - (i + 1))
-count-from i n lt =
-    let q : n - i ≡ suc (n - (i + 1)) = omega arith in
-    ap (count i) q ∙ ap (λ j. i ∷ count j (n - (i + 1))) (sym (add-one i))
-
-count-done : (i n : ℕ) → n ≤ i → count i (n - i) ≡ []
-count-done i n le = let q : n - i ≡ 0 = omega arith in ap (count i) q
+use Rattle.judging.proofs.Counting.{count-from, count-done}
 
 -- ---- the walk
 module _ (g : ℕ → ℕ → List Verdict.Verdict) (n : ℕ) where
@@ -73,19 +65,18 @@ module _ (g : ℕ → ℕ → List Verdict.Verdict) (n : ℕ) where
 
 -- ---- one pair
 -- what each pair of entries earns, where it is a fault
-abbrev pub faultsOf : List ℕ → List ℕ → List ℕ → List Bool → List ℕ → List ℕ → ℕ → ℕ → List Verdict.Verdict
-faultsOf levels ways edges full meetings kinds e f =
-    fault (earned edges full (meetingOf meetings kinds e f) e f (wayOf levels ways e) (wayOf levels ways f))
+abbrev pub faultsOf : Shape → List ℕ → List Bool → List ℕ → ℕ → ℕ → List Verdict.Verdict
+faultsOf s ways full meetings e f = fault (earned s ways full (meetingOf meetings (s .types) e f) e f)
 
-module _ (levels ways edges : List ℕ) (full : List Bool) (meetings kinds : List ℕ) (e f m : ℕ) (qm : m ≡ meetingOf meetings kinds e f) (v : Verdict)
-    (qv : told v ≡ earned edges full m e f (wayOf levels ways e) (wayOf levels ways f)) where
-  faults-told : faultsOf levels ways edges full meetings kinds e f ≡ fault (told v)
-  faults-told = ap (λ m. fault (earned edges full m e f (wayOf levels ways e) (wayOf levels ways f))) (sym qm) ∙ ap fault (sym qv)
+module _ (s : Shape) (ways : List ℕ) (full : List Bool) (meetings : List ℕ) (e f m : ℕ) (qm : m ≡ meetingOf meetings (s .types) e f) (v : Verdict)
+    (qv : told v ≡ earned s ways full m e f) where
+  faults-told : faultsOf s ways full meetings e f ≡ fault (told v)
+  faults-told = ap (λ m. fault (earned s ways full m e f)) (sym qm) ∙ ap fault (sym qv)
 
-  pub faults-none : v ≡ Kept → faultsOf levels ways edges full meetings kinds e f ≡ []
+  pub faults-none : v ≡ Kept → faultsOf s ways full meetings e f ≡ []
   faults-none q = faults-told ∙ ap (λ v. fault (told v)) q
 
-  pub faults-one : OneOf (1 ∷ 2 ∷ 3 ∷ []) (tagOf the-type v) → faultsOf levels ways edges full meetings kinds e f ≡ told v ∷ []
+  pub faults-one : OneOf (1 ∷ 2 ∷ 3 ∷ []) (tagOf the-type v) → faultsOf s ways full meetings e f ≡ told v ∷ []
   faults-one h = faults-told ∙ one v h
     where
       one : (v : Verdict) → OneOf (1 ∷ 2 ∷ 3 ∷ []) (tagOf the-type v) → fault (told v) ≡ told v ∷ []

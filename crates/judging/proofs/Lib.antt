@@ -1,9 +1,12 @@
-pub mod Runs
-pub mod Partners
+pub mod Counting
+pub mod Rows
+pub mod Walk
+pub mod Flags
 pub mod Search
-pub mod Found
 pub mod Ways
 pub mod Earned
 pub mod Faults
+pub mod Closest
+pub mod Found
 pub mod Whole
 pub mod Unique

@@ -1,215 +1,257 @@
 -- The search for a row without a partner, step by step. Assumes nothing.
-use Prim.Native.Nat.{ℕ, _+_, _-_, _≤_, _<_}
+use Prim.Native.Nat.{ℕ, zero, suc, _+_, _-_, _≤_, _<_}
 use native.Mathlib.Nat.{not-suc-le-zero}
 use native.Mathlib.Omega.{arith}
 use mathlib.Core.Path.{_≡_, refl, sym, _∙_, ap, subst}
-use mathlib.Core.Logic.{inl, inr}
-use mathlib.Core.Bool.{Bool, true, false}
-use mathlib.Core.List.{List, [], _∷_, _++_}
-use lib.Dec.{leb, ltb}
-use lib.ListN.{getD, drop}
-use borrow.Author.Tests.{leb-true, leb-false, ltb-true, ltb-false, le-leb, lt-leb}
-use Rattle.paper.specs.Lists.{firstOr}
-use Rattle.paper.specs.Format.{Format, format}
-use Rattle.paper.specs.Tables.{rows}
-use Rattle.paper.specs.Faithful.{Chain}
-use Rattle.paper.specs.Closeness.{Node, nodes, level, kindsMeet, closestOf}
+use mathlib.Core.Logic.{inl, inr, ⊎-elim}
+use mathlib.Core.Bool.{Bool, true, false, true≢false}
+use mathlib.Core.List.{List, [], _∷_, _++_, map}
+use lib.Dec.{eqb, leb}
+use lib.ListN.{getD}
+use borrow.Author.Tests.{leb-true, leb-false, le-leb, lt-leb, eq-eqb, ne-eqb}
+use Rattle.paper.specs.Lists.{keep, firstOr, joinMap, count}
 use Rattle.paper.specs.Verdict.{Verdict, kept, missing, isEmpty}
-use Rattle.paper.proofs.Forest.{deweys, follows-lt}
-use Rattle.closest.specs.Node.{node, Typed}
-use Rattle.closest.proofs.Nodes.{nodes-from}
-use Rattle.closest.proofs.Meets.{forest}
-use Rattle.closest.proofs.Levels.{level-pos}
-use Rattle.closest.proofs.Runs.{deep}
-use Rattle.closest.proofs.Listed.{row-other, row-fails, row-passes, row-none}
-use Rattle.judging.specs.Lone.{loneFrom, Levels, candidateFrom, OnInRun}
-use Rattle.judging.proofs.Runs.{Run, NoPartner, run-new, run-on, run-next, run-end, run-partner}
-use Rattle.judging.proofs.Partners.{lones, aloneFrom, answerFrom, entry-more, has-partner, no-partner}
+use Rattle.types.proofs.Step.{below}
+use Rattle.closest.specs.Runs.{begins, startOf}
+use Rattle.closest.proofs.Starts.{start-begins, start-on, start-le, start-grows}
+use Rattle.shapes.specs.Shape.{typeOf, parentOf, edgeOf}
+use Rattle.shapes.specs.declared.shape.Shape.{Shape}
+use Rattle.judging.specs.Lone.{isLone, loneRows, aloneRows, loneFrom, Bound, candidateFrom, OnInRun}
+use Rattle.judging.proofs.Rows.{Apart, joined-some, apart-none, begins-within, on-above}
+use Rattle.judging.proofs.Counting.{count-from, count-done}
 
-pub candidate-new : (f : Format) (t : List ℕ) (r l j : ℕ) → level (node f t r) ≤ l → candidateFrom f t r l j ≡ r
-candidate-new f t r l j le = rw (le-leb (level (node f t r)) l le, candidateFrom) refl
+-- ---- where candidates are looked for
+pub candidate-new : (levels : List ℕ) (bound r j : ℕ) → getD levels r 0 ≤ bound → candidateFrom levels bound r j ≡ r
+candidate-new levels bound r j le = rw (le-leb (getD levels r 0) bound le, candidateFrom) refl
 
-pub candidate-on : (f : Format) (t : List ℕ) (r l j : ℕ) → l < level (node f t r) → candidateFrom f t r l j ≡ j
-candidate-on f t r l j lt = rw (lt-leb (level (node f t r)) l lt, candidateFrom) refl
+pub candidate-on : (levels : List ℕ) (bound r j : ℕ) → bound < getD levels r 0 → candidateFrom levels bound r j ≡ j
+candidate-on levels bound r j lt = rw (lt-leb (getD levels r 0) bound lt, candidateFrom) refl
 
--- the walk stands at candidate j for row r
-pub record Stands (levels largest n : ℕ) (t ks : List ℕ) (l b r j : ℕ) : Type 0 where
-  pub apart : l ≡ 0 → j ≡ n
-  pub runs : 0 < l → (s : ℕ) × Run levels largest n t ks l b r j s
+-- candidate j is in the run of row r, and no row of the run before it is of type b
+pub record Stands (levels types : List ℕ) (rows l b r j : ℕ) : Type 0 where
+  pub inside : j < rows
+  pub same : startOf levels l r ≡ startOf levels l j
+  pub none : (i : ℕ) → i < j → getD types i 0 ≡ b → startOf levels l r ≡ startOf levels l i → ⊥
 
--- the rows before r are done, and the answer is still to come
-pub record Rows (levels largest n : ℕ) (t ks own other : List ℕ) (last e l j r : ℕ) (answer : Verdict) : Type 0 where
-  pub inside : r ≤ n
-  pub apart : l ≡ 0 → j ≡ n
-  pub runs : 0 < l → 0 < r → (s : ℕ) × Run levels largest n t ks l (getD other e 0) (r - 1) j s
-  pub rest : answerFrom (nodes (rows (format levels largest) t)) own other last e r ≡ answer
+-- the candidates before j are no partners of row r; at `rows` there is none
+pub record Candidates (levels types : List ℕ) (rows l b r j : ℕ) : Type 0 where
+  pub inside : j ≤ rows
+  pub stands : j < rows → Stands levels types rows l b r j
+  pub none : rows ≤ j → Apart levels types rows l b r
 
--- the candidates before j are no partners of row r; at n there is none
-pub record Candidates (levels largest n : ℕ) (t ks : List ℕ) (l b r j : ℕ) : Type 0 where
-  pub inside : j ≤ n
-  pub runs : j < n → (0 < l) × (s : ℕ) × Run levels largest n t ks l b r j s
-  pub none : n ≤ j → NoPartner levels largest n t ks l b r
+module _ (levels types : List ℕ) (rows l b bound : ℕ) (bytes : (i : ℕ) → getD levels i 0 < 256) (bounds : Bound l bound) where
+  abbrev start : ℕ → ℕ
+  start i = startOf levels l i
 
--- what the search asks for entry e: its two types, and the level at which they meet
-pub record Asked (levels largest n : ℕ) (t ks own other at : List ℕ) (first last e a b l : ℕ) : Type 0 where
-  pub typed : Typed levels largest n t ks
-  pub levels-are : Levels (nodes (rows (format levels largest) t)) own other at first last
-  pub after : first ≤ e
-  pub before : e < last
-  pub own-is : a ≡ getD own e 0
-  pub other-is : b ≡ getD other e 0
-  pub level-is : l ≡ getD at e 0
-
-module _ {levels largest n : ℕ} {t ks own other at : List ℕ} {first last e a b l : ℕ} (q : Asked levels largest n t ks own other at first last e a b l) where
-  abbrev ty : Typed levels largest n t ks
-  ty = q .typed
-
-  abbrev lt : e < last
-  lt = q .before
-
-  abbrev ea : a ≡ getD own e 0
-  ea = q .own-is
-
-  abbrev eb : b ≡ getD other e 0
-  eb = q .other-is
-
-  abbrev f : Format
-  f = format levels largest
-
-  abbrev ns : List Node
-  ns = nodes (rows f t)
-
-  abbrev alone-test : ℕ → Node → Bool
-  alone-test b x = isEmpty (closestOf ns x b)
-
-  abbrev answer : Verdict
-  answer = firstOr kept (loneFrom ns own other first (last - first))
-
-  meets : l ≡ kindsMeet ns a b
-  meets = q .level-is ∙ q .levels-are e (q .after) lt ∙ ap (λ x. kindsMeet ns x (getD other e 0)) (sym ea) ∙ ap (λ x. kindsMeet ns a x) (sym eb)
-
-  pub rows-start : firstOr kept (loneFrom (nodes (rows (format levels largest) t)) own other e (last - e)) ≡ firstOr kept (loneFrom (nodes (rows (format levels largest) t)) own other first (last - first))
-      → Rows levels largest n t ks own other last e l n 0 (firstOr kept (loneFrom (nodes (rows (format levels largest) t)) own other first (last - first)))
-  rows-start h = record {
-    inside = omega arith;
-    apart = λ z. refl;
-    runs = λ pos p. absurd (not-suc-le-zero p);
-    rest = entry-more ns own other last e lt ∙ h;
+  pub stands-new : (r : ℕ) → r < rows → getD levels r 0 ≤ bound → Stands levels types rows l b r r
+  stands-new r lr le = record {
+    inside = lr;
+    same = refl;
+    none = λ i lt own e. omega (arith, e, start-le levels l i, start-begins levels l r (begins-within levels l bound r bounds (bytes r) le));
   }
 
-  module _ (j r : ℕ) (w : Rows levels largest n t ks own other last e l j r (firstOr kept (loneFrom (nodes (rows (format levels largest) t)) own other first (last - first)))) (lr : r < n) where
-    -- a table's first row has level 1
-    first-level : 0 < n → level (node f t 0) ≤ 1
-    first-level pos =
-        let c : Chain [] (deweys (node f t 0 ∷ drop 1 ns)) = subst (λ l. Chain [] (deweys l)) (nodes-from f t 0 (omega (arith, ty .rows-n))) (forest levels largest n t ks ty) in
-        follows-lt [] (node f t 0 .dewey) (c .0) .1
+  pub stands-first : 0 < rows → Stands levels types rows l b 0 0
+  stands-first pos = record { inside = pos; same = refl; none = λ i lt own e. not-suc-le-zero lt }
 
-    pub stands : (k : ℕ) → k ≡ candidateFrom (format levels largest) t r l j → Stands levels largest n t ks l b r k
-    stands k ek = go (leb (level (node f t r)) l) refl
+  pub stands-on : (r j : ℕ) → bound < getD levels (suc r) 0 → Stands levels types rows l b r j → Stands levels types rows l b (suc r) j
+  stands-on r j up g =
+      let on : start (suc r) ≡ start r = start-on levels l r (on-above levels l bound (suc r) bounds (bytes (suc r)) up) in
+      record { inside = g .inside; same = on ∙ g .same; none = λ i lt own e. g .none i lt own (sym on ∙ e) }
+
+  pub candidates-start : (r j : ℕ) → Stands levels types rows l b r j → Candidates levels types rows l b r j
+  candidates-start r j g = record {
+    inside = omega (arith, g .inside);
+    stands = λ lt. g;
+    none = λ le. let z : ⊥ = omega (arith, g .inside) in absurd z;
+  }
+
+  pub candidates-next : (r j k : ℕ) → Candidates levels types rows l b r j → j < rows → (getD types j 0 ≡ b → ⊥) → OnInRun levels rows bound j k
+      → Candidates levels types rows l b r k
+  candidates-next r j k c lj other (inl (ek, lk, up)) =
+      let g = c .stands lj in
+      let q : k ≡ suc j = omega arith in
+      let on : start (suc j) ≡ start j = start-on levels l j (subst (λ k. begins levels l k ≡ false) q (on-above levels l bound k bounds (bytes k) up)) in
+      record {
+        inside = omega arith;
+        stands = λ lt. record {
+          inside = lk;
+          same = g .same ∙ sym on ∙ ap start (sym q);
+          none = λ i li own e. ⊎-elim (λ x. g .none i x own e) (λ z. other (subst (λ i. getD types i 0 ≡ b) z own)) (below i j (omega arith));
+        };
+        none = λ le. let z : ⊥ = omega arith in absurd z;
+      }
+  candidates-next r j k c lj other (inr (ek, stop)) = record {
+    inside = omega arith;
+    stands = λ lt. let z : ⊥ = omega arith in absurd z;
+    none = λ le i li own e. past i li own e (leb (j + 1) i) refl;
+  }
+    where
+      past : (i : ℕ) → i < rows → getD types i 0 ≡ b → start r ≡ start i → (c : Bool) → leb (j + 1) i ≡ c → ⊥
+      past i li own e true q =
+          let le = leb-true (j + 1) i q in
+          omega (
+            arith,
+            e,
+            c .stands lj .same,
+            start-le levels l j,
+            start-grows levels l (j + 1) i le,
+            start-begins levels l (j + 1) (begins-within levels l bound (j + 1) bounds (bytes (j + 1)) (stop (omega arith))),
+          )
+      past i li own e false q =
+          let lt = leb-false (j + 1) i q in
+          ⊎-elim (λ x. c .stands lj .none i x own e) (λ z. other (subst (λ i. getD types i 0 ≡ b) z own)) (below i j lt)
+
+-- ---- the answer from entry c and row r on
+module _ (levels types : List ℕ) (rows : ℕ) (s : Shape) where
+  -- is row r of entry c's type, without a partner?
+  abbrev isAlone : ℕ → ℕ → Bool
+  isAlone c = isLone levels types rows (edgeOf s c) (typeOf s c) (typeOf s (parentOf s c))
+
+  -- the rows without a partner from row r on
+  abbrev pub aloneFrom : ℕ → ℕ → List ℕ
+  aloneFrom c r = keep (isAlone c) (count r (rows - r))
+
+  -- the first of these rows of entry c, then of the entries after it
+  abbrev firstFrom : ℕ → List ℕ → Verdict
+  firstFrom c rs = firstOr kept (map (missing c) rs ++ loneFrom levels types rows s (c + 1) (s .entries - (c + 1)))
+
+  abbrev pub entriesFrom : ℕ → Verdict
+  entriesFrom c = firstOr kept (loneFrom levels types rows s c (s .entries - c))
+
+  abbrev pub rowsFrom : ℕ → ℕ → Verdict
+  rowsFrom c r = firstFrom c (aloneFrom c r)
+
+  module _ (c : ℕ) where
+    -- the rows of the next entry
+    entry-more : c < s .entries → rowsFrom c 0 ≡ entriesFrom c
+    unfolding loneFrom loneRows
+    entry-more lt =
+        let n : rows - 0 ≡ rows = omega arith in
+        ap (λ n. firstFrom c (keep (isAlone c) (count 0 n))) n
+        ∙ sym (ap (λ cs. firstOr kept (joinMap (λ c. map (missing c) (aloneRows levels types rows s c)) cs)) (count-from c (s .entries) lt))
+
+    -- an entry whose rows all have a partner is passed over
+    pub entry-met : c < s .entries → isEmpty (aloneRows levels types rows s c) ≡ true → entriesFrom c ≡ entriesFrom (c + 1)
+    unfolding loneFrom
+    entry-met lt e =
+        ap (λ cs. firstOr kept (joinMap (λ c. map (missing c) (aloneRows levels types rows s c)) cs)) (count-from c (s .entries) lt)
+        ∙ ap (firstFrom c) (empty (aloneRows levels types rows s c) e)
       where
-        go : (c : Bool) → leb (level (node f t r)) l ≡ c → Stands levels largest n t ks l b r k
-        go true q =
-            let le = leb-true (level (node f t r)) l q in
-            let e : k ≡ r = ek ∙ candidate-new f t r l j le in
-            record {
-              apart = λ z. let y : ⊥ = omega (arith, le, level-pos levels largest n t ks ty r lr) in absurd y;
-              runs = λ pos. (r, subst (λ x. Run levels largest n t ks l b r x r) (sym e) (run-new levels largest n t ks ty l b r lr le));
-            }
-        go false q =
-            let up = leb-false (level (node f t r)) l q in
-            let e : k ≡ j = ek ∙ candidate-on f t r l j up in
-            record { apart = λ z. e ∙ w .apart z; runs = λ pos. on up e pos (later up pos (ltb 0 r) refl) }
+        empty : (xs : List ℕ) → isEmpty xs ≡ true → xs ≡ []
+        empty [] e = refl
+        empty (x ∷ xs) e = absurd (true≢false (sym e))
+
+    pub entry-none : s .entries ≤ c → entriesFrom c ≡ kept
+    unfolding loneFrom
+    entry-none le = ap (λ cs. firstOr kept (joinMap (λ c. map (missing c) (aloneRows levels types rows s c)) cs)) (count-done c (s .entries) le)
+
+  -- row r is asked first
+  module _ (c r : ℕ) (lr : r < rows) where
+    row-asked : (x : Bool) → isAlone c r ≡ x → aloneFrom c r ≡ elim x as (λ _. List ℕ) [ true ↦ r ∷ aloneFrom c (r + 1) | false ↦ aloneFrom c (r + 1) ]
+    row-asked x e = ap (keep (isAlone c)) (count-from r rows lr) ∙ step x e
+      where
+        step : (x : Bool) → isAlone c r ≡ x → keep (isAlone c) (r ∷ count (r + 1) (rows - (r + 1)))
+            ≡ elim x as (λ _. List ℕ) [ true ↦ r ∷ aloneFrom c (r + 1) | false ↦ aloneFrom c (r + 1) ]
+        step true e = rw (e, keep) refl
+        step false e = rw (e, keep) refl
+
+    row-passed : isAlone c r ≡ false → rowsFrom c (r + 1) ≡ rowsFrom c r
+    row-passed e = ap (firstFrom c) (sym (row-asked false e))
+
+    row-found : isAlone c r ≡ true → missing c r ≡ rowsFrom c r
+    row-found e = ap (firstFrom c) (sym (row-asked true e))
+
+  rows-done : (c r : ℕ) → rows ≤ r → rowsFrom c r ≡ entriesFrom (c + 1)
+  rows-done c r le = ap (λ rs. firstFrom c (keep (isAlone c) rs)) (count-done r rows le)
+
+-- ---- the walk over the rows of an entry
+-- what the search asks for entry c: its two types, and the bound of the runs
+pub record Asked (levels types : List ℕ) (rows : ℕ) (s : Shape) (c own other bound : ℕ) : Type 0 where
+  pub bytes : (i : ℕ) → getD levels i 0 < 256
+  pub before : c < s .entries
+  pub own-is : own ≡ typeOf s c
+  pub other-is : other ≡ typeOf s (parentOf s c)
+  pub bounds : Bound (edgeOf s c) bound
+
+-- the rows before r are done, and the answer is still to come
+pub record Done (levels types : List ℕ) (rows : ℕ) (s : Shape) (c j r : ℕ) (answer : Verdict) : Type 0 where
+  pub inside : r ≤ rows
+  pub first : r ≡ 0 → j ≡ 0
+  pub stands : (q : ℕ) → r ≡ suc q → Stands levels types rows (edgeOf s c) (typeOf s (parentOf s c)) q j
+  pub rest : rowsFrom levels types rows s c r ≡ answer
+
+module _ {levels types : List ℕ} {rows : ℕ} {s : Shape} {c own other bound : ℕ} (q : Asked levels types rows s c own other bound) (answer : Verdict) where
+  abbrev l : ℕ
+  l = edgeOf s c
+
+  abbrev b : ℕ
+  b = typeOf s (parentOf s c)
+
+  pub candidates-here : (r j : ℕ) → Stands levels types rows (edgeOf s c) (typeOf s (parentOf s c)) r j
+      → Candidates levels types rows (edgeOf s c) (typeOf s (parentOf s c)) r j
+  candidates-here = candidates-start levels types rows l b bound (q .bytes) (q .bounds)
+
+  pub candidates-on : (r j k : ℕ) → Candidates levels types rows (edgeOf s c) (typeOf s (parentOf s c)) r j → j < rows → (getD types j 0 ≡ other → ⊥)
+      → OnInRun levels rows bound j k → Candidates levels types rows (edgeOf s c) (typeOf s (parentOf s c)) r k
+  candidates-on r j k cs lj ne = candidates-next levels types rows l b bound (q .bytes) (q .bounds) r j k cs lj (λ e. ne (e ∙ sym (q .other-is)))
+
+  pub done-none : entriesFrom levels types rows s c ≡ answer → Done levels types rows s c 0 0 answer
+  done-none h = record {
+    inside = omega arith;
+    first = λ z. refl;
+    stands = λ p e. let z : ⊥ = omega arith in absurd z;
+    rest = entry-more levels types rows s c (q .before) ∙ h;
+  }
+
+  module _ (j r : ℕ) (w : Done levels types rows s c j r answer) (lr : r < rows) where
+    -- where the walk stands for row r
+    pub standing : (k : ℕ) → k ≡ candidateFrom levels bound r j → Stands levels types rows (edgeOf s c) (typeOf s (parentOf s c)) r k
+    standing k ek = go (leb (getD levels r 0) bound) refl
+      where
+        go : (x : Bool) → leb (getD levels r 0) bound ≡ x → Stands levels types rows l b r k
+        go true e =
+            let le = leb-true (getD levels r 0) bound e in
+            subst (Stands levels types rows l b r) (sym (ek ∙ candidate-new levels bound r j le))
+            (stands-new levels types rows l b bound (q .bytes) (q .bounds) r lr le)
+        go false e = subst (Stands levels types rows l b r) (sym (ek ∙ candidate-on levels bound r j up)) (on r refl)
           where
-            later : l < level (node f t r) → 0 < l → (c : Bool) → ltb 0 r ≡ c → 0 < r
-            later up pos true q = ltb-true 0 r q
-            later up pos false q =
-                let z : r ≡ 0 = omega (arith, ltb-false 0 r q) in
-                let y : ⊥ = omega (arith, ap (λ x. level (node f t x)) z, first-level (omega arith)) in absurd y
+            up : bound < getD levels r 0
+            up = leb-false (getD levels r 0) bound e
 
-            on : l < level (node f t r) → k ≡ j → 0 < l → 0 < r → (s : ℕ) × Run levels largest n t ks l b r k s
-            on up e pos p =
-                let (s, g) = w .runs pos p in
-                let q : r - 1 + 1 ≡ r = omega arith in (
-                  s,
-                  subst (λ x. Run levels largest n t ks l b r x s) (sym e) (subst (λ x. Run levels largest n t ks l b x j s) q
-                      (run-on levels largest n t ks ty l b (r - 1) j s (subst (λ x. l < level (node f t x)) (sym q) up) (subst (λ x. Run levels largest n t ks l x (r - 1) j s) (sym eb) g))),
-                )
-
-    next-runs : (k : ℕ) → Stands levels largest n t ks l b r k → 0 < l → 0 < r + 1 → (s : ℕ) × Run levels largest n t ks l (getD other e 0) (r + 1 - 1) k s
-    next-runs k st pos p =
-        let (s, g) = st .runs pos in
-        let q : r ≡ r + 1 - 1 = omega arith in
-        (s, subst (λ x. Run levels largest n t ks l (getD other e 0) x k s) q (subst (λ x. Run levels largest n t ks l x r k s) eb g))
+            on : (p : ℕ) → r ≡ p → Stands levels types rows l b r j
+            on zero z = subst (λ r. Stands levels types rows l b r j) (sym z)
+                (subst (Stands levels types rows l b 0) (sym (w .first z)) (stands-first levels types rows l b bound (q .bytes) (q .bounds) (omega arith)))
+            on (suc p) z = subst (λ r. Stands levels types rows l b r j) (sym z)
+                (stands-on levels types rows l b bound (q .bytes) (q .bounds) p j (subst (λ r. bound < getD levels r 0) z up) (w .stands p z))
 
     -- the next row, where this one is passed over
-    next-row : (k : ℕ) → Stands levels largest n t ks l b r k → aloneFrom ns (getD own e 0) (getD other e 0) r ≡ aloneFrom ns (getD own e 0) (getD other e 0) (r + 1)
-        → Rows levels largest n t ks own other last e l k (r + 1) answer
-    next-row k st same = record {
+    next-row : (k : ℕ) → Stands levels types rows l b r k → isLone levels types rows l (typeOf s c) b r ≡ false → Done levels types rows s c k (r + 1) answer
+    next-row k g e = record {
       inside = omega arith;
-      apart = st .apart;
-      runs = next-runs k st;
-      rest = ap (λ xs. firstOr kept (lones e xs ++ loneFrom ns own other (e + 1) (last - (e + 1)))) (sym same) ∙ w .rest;
+      first = λ z. let y : ⊥ = omega arith in absurd y;
+      stands = λ p z. let y : r ≡ p = omega arith in subst (λ r. Stands levels types rows l b r k) y g;
+      rest = row-passed levels types rows s c r lr e ∙ w .rest;
     }
 
     -- a row of another type
-    pub rows-other : (k : ℕ) → Stands levels largest n t ks l b r k → (getD ks r 0 ≡ a → ⊥)
-        → Rows levels largest n t ks own other last e l k (r + 1) (firstOr kept (loneFrom (nodes (rows (format levels largest) t)) own other first (last - first)))
-    rows-other k st ne = next-row k st (row-other levels largest n t ks ty (alone-test (getD other e 0)) (getD own e 0) r lr (λ q. ne (q ∙ sym ea)))
+    pub done-other : (k : ℕ) → Stands levels types rows (edgeOf s c) (typeOf s (parentOf s c)) r k → (getD types r 0 ≡ own → ⊥)
+        → Done levels types rows s c k (r + 1) answer
+    done-other k g ne = next-row k g (rw (ne-eqb (getD types r 0) (typeOf s c) (λ e. ne (e ∙ sym (q .own-is)))))
 
-    module _ (own-type : getD ks r 0 ≡ a) where
+    module _ (own-type : getD types r 0 ≡ own) (k : ℕ) (cs : Candidates levels types rows (edgeOf s c) (typeOf s (parentOf s c)) r k) where
+      is-own : eqb (getD types r 0) (typeOf s c) ≡ true
+      is-own = eq-eqb (getD types r 0) (typeOf s c) (own-type ∙ q .own-is)
+
       -- candidate k is a partner
-      pub rows-partnered : (k : ℕ) → Candidates levels largest n t ks l b r k → k < n → getD ks k 0 ≡ b
-          → Rows levels largest n t ks own other last e l k (r + 1) (firstOr kept (loneFrom (nodes (rows (format levels largest) t)) own other first (last - first)))
-      rows-partnered k c lk kb =
-          let (pos, s, g) = c .runs lk in
-          let st : Stands levels largest n t ks l b r k = record { apart = λ z. let y : ⊥ = omega arith in absurd y; runs = λ p. (s, g) } in
-          let m = run-partner levels largest n t ks ty l b r k s lr (deep levels largest n t ks ty r lr b l (meets ∙ ap (λ x. kindsMeet ns x b) (sym own-type)) pos) g in
-          next-row k st (row-fails levels largest n t ks ty (alone-test (getD other e 0)) (getD own e 0) r lr (own-type ∙ ea)
-          (subst (λ x. isEmpty (closestOf ns (node f t r) x) ≡ false) eb (has-partner levels largest n t ks ty a b l meets r lr own-type k lk kb pos m)))
+      pub done-partnered : k < rows → getD types k 0 ≡ other → Done levels types rows s c k (r + 1) answer
+      done-partnered lk kb =
+          let g = cs .stands lk in
+          next-row k g (rw (is-own, joined-some levels types rows l b r (k, lk, kb ∙ q .other-is, g .same)))
 
       -- no candidate is left: the row decides
-      pub rows-alone : (k : ℕ) → Candidates levels largest n t ks l b r k → n ≤ k
-          → missing e r ≡ firstOr kept (loneFrom (nodes (rows (format levels largest) t)) own other first (last - first))
-      rows-alone k c le =
-          sym (ap (λ xs. firstOr kept (lones e xs ++ loneFrom ns own other (e + 1) (last - (e + 1))))
-          (row-passes levels largest n t ks ty (alone-test (getD other e 0)) (getD own e 0) r lr (own-type ∙ ea)
-          (subst (λ x. isEmpty (closestOf ns (node f t r) x) ≡ true) eb (no-partner levels largest n t ks ty a b l meets r lr own-type (c .none le)))))
-          ∙ w .rest
-
-  -- ---- candidates
-  pub candidates-start : (r k : ℕ) → Stands levels largest n t ks l b r k → Candidates levels largest n t ks l b r k
-  candidates-start r k st = go (ltb 0 l) refl
-    where
-      go : (c : Bool) → ltb 0 l ≡ c → Candidates levels largest n t ks l b r k
-      go true q =
-          let pos = ltb-true 0 l q in
-          let (s, g) = st .runs pos in
-          record { inside = omega (arith, g .inside); runs = λ lk. (pos, s, g); none = λ le. let y : ⊥ = omega (arith, g .inside) in absurd y }
-      go false q =
-          let z : l ≡ 0 = omega (arith, ltb-false 0 l q) in
-          let ek = st .apart z in
-          record { inside = omega (arith, ek); runs = λ lk. let y : ⊥ = omega (arith, ek) in absurd y; none = λ le i li ki pos. let y : ⊥ = omega arith in absurd y }
-
-  pub candidates-next : (r j k : ℕ) → r < n → Candidates levels largest n t ks l b r j → j < n → (getD ks j 0 ≡ b → ⊥) → OnInRun (format levels largest) t n j l k
-      → Candidates levels largest n t ks l b r k
-  candidates-next r j k lr c lj other (inl (ek, lk, up)) =
-      let (pos, s, g) = c .runs lj in
-      record {
-        inside = omega arith;
-        runs = λ x. (pos, s, subst (λ y. Run levels largest n t ks l b r y s) (sym ek) (run-next levels largest n t ks ty l b r j s (omega arith) other (subst (λ y. l < level (node f t y)) ek up) g));
-        none = λ le. let y : ⊥ = omega arith in absurd y;
-      }
-  candidates-next r j k lr c lj other (inr (ek, stop)) =
-      let (pos, s, g) = c .runs lj in
-      record {
-        inside = omega arith;
-        runs = λ x. let y : ⊥ = omega arith in absurd y;
-        none = λ le. run-end levels largest n t ks ty l b r j s lr stop other g;
-      }
+      pub done-alone : rows ≤ k → missing c r ≡ answer
+      done-alone le = row-found levels types rows s c r lr (rw (is-own, apart-none levels types rows l b r (cs .none le))) ∙ w .rest
 
   -- the rows of the entry are done
-  pub rows-end : (j r : ℕ) → n ≤ r
-      → Rows levels largest n t ks own other last e l j r (firstOr kept (loneFrom (nodes (rows (format levels largest) t)) own other first (last - first)))
-      → firstOr kept (loneFrom (nodes (rows (format levels largest) t)) own other (e + 1) (last - (e + 1))) ≡ firstOr kept (loneFrom (nodes (rows (format levels largest) t)) own other first (last - first))
-  rows-end j r le w =
-      sym (ap (λ xs. firstOr kept (lones e xs ++ loneFrom ns own other (e + 1) (last - (e + 1)))) (row-none levels largest n t ks ty (alone-test (getD other e 0)) (getD own e 0) r le)) ∙ w .rest
+  pub done-all : (j r : ℕ) → rows ≤ r → Done levels types rows s c j r answer → entriesFrom levels types rows s (c + 1) ≡ answer
+  done-all j r le w = sym (rows-done levels types rows s c r le) ∙ w .rest

@@ -1,77 +1,98 @@
-// Full edges, each named by its lower entry. They are found once, for all pairs.
-use crate::lone::first_lone;
-use crate::verdict::Verdict;
+// The edges of a shape, each named by its lower entry: one walk an edge, run by run.
+use shapes::shape::Shape;
 ghost use mathlib.Core.Path.{_≡_};
-ghost use Prim.Native.Nat.{_+_, _≤_, _<_};
-ghost use lib.ListN.{length, getD};
-ghost use Rattle.paper.specs.Format.{format};
-ghost use Rattle.paper.specs.Tables.{rows};
-ghost use Rattle.paper.specs.Closeness.{nodes};
-ghost use Rattle.paper.specs.Verdict.{isEmpty};
-ghost use Rattle.closest.specs.Node.{Typed};
-ghost use Rattle.judging.specs.Lone.{Levels, aloneOf};
-ghost use Rattle.shapes.specs.Edges.{Shaped};
-ghost use Rattle.judging.specs.Edges.{Over, Fulls};
+ghost use mathlib.Core.Bool.{_&&_};
+ghost use Rattle.closest.specs.Runs.{Rows};
+ghost use Rattle.shapes.specs.Shape.{Sized};
+ghost use Rattle.judging.specs.Lone.{Bound};
+ghost use Rattle.judging.specs.Edges.{served, Walked, Fulls, Mets};
 
-// The type of each entry's parent.
-pub fn parent_kinds(kinds: &[u8], parents: &[u8], n: usize) -> [u8; 16]
-    requires { ⌜ Shaped n (now kinds) (now parents) ⌝ }
-    ensures { λ r. ⌜ Over n (now (kinds .entry)) (now (parents .entry)) r ⌝ }
+// The level up to which a row begins a run of level l. At level 0 each row is a run of its own.
+pub fn run_bound(l: u8) -> u8
+    ensures { λ r. ⌜ Bound l r ⌝ }
 {
-    let mut over = [0u8; 16];
-    let mut e = 0;
-    while e < n {
-        over[e] = kinds[bytes::wide(parents[e])];
-        e += 1;
+    if l == 0 {
+        return 255;
     }
-    over
+    l
 }
 
-// Is the edge of entry c full? The row that is looked for is one of the parent entry's type without a closest row of the child's.
-fn is_full(
-    t: &[u8],
-    levels: usize,
-    largest: usize,
-    n: usize,
-    ks: &[u8],
-    over: &[u8],
-    kinds: &[u8],
-    edges: &[u8],
-    c: usize,
-) -> bool
-    requires { ⌜ Typed levels largest n (now t) (now ks) × (c < length (now over)) × (c < length (now kinds)) × (c < length (now edges)) × (c < 16) ⌝ }
-    requires { ⌜ Levels (nodes (rows (format levels largest) (now t))) (now over) (now kinds) (now edges) c (c + 1) ⌝ }
-    ensures { λ r. ⌜ r ≡ isEmpty (aloneOf (nodes (rows (format levels largest) (now (t .entry)))) (getD (now (over .entry)) c 0) (getD (now (kinds .entry)) c 0)) ⌝ }
+// What one walk finds of an edge.
+pub struct Edge {
+    pub full: bool, // each row of the parent's type has a closest row of the child's
+    pub met: bool, // each row of the child's type has a closest row of the parent's
+}
+
+// One run more, with or without a row of the parent's type and one of the child's.
+fn with_run(edge: Edge, parent: bool, child: bool) -> Edge
+    ensures { λ r. ⌜ (r .full ≡ (edge .full && served parent child)) × (r .met ≡ (edge .met && served child parent)) ⌝ }
 {
-    let lone = first_lone(t, levels, largest, n, ks, over, kinds, edges, c, c + 1);
-    if let Verdict::Kept = lone {
-        true
-    } else {
-        false
+    Edge {
+        full: edge.full & (!parent | child),
+        met: edge.met & (!child | parent),
     }
 }
 
-// Which edges are full.
-pub fn full_edges(
-    t: &[u8],
-    levels: usize,
-    largest: usize,
-    n: usize,
-    ks: &[u8],
-    over: &[u8],
-    kinds: &[u8],
-    edges: &[u8],
-    m: usize,
-) -> [bool; 16]
-    requires { ⌜ Typed levels largest n (now t) (now ks) × (m ≤ length (now over)) × (m ≤ length (now kinds)) × (m ≤ length (now edges)) × (m ≤ 16) ⌝ }
-    requires { ⌜ Levels (nodes (rows (format levels largest) (now t))) (now over) (now kinds) (now edges) 0 m ⌝ }
-    ensures { λ r. ⌜ Fulls (nodes (rows (format levels largest) (now (t .entry)))) m (now (over .entry)) (now (kinds .entry)) r ⌝ }
+// The edge of level l between types a, the parent's, and b, the child's.
+fn walk_edge(levels: &[u8], types: &[u8], rows: usize, l: u8, a: u8, b: u8) -> Edge
+    requires { ⌜ Rows rows (now levels) (now types) ⌝ }
+    ensures { λ r. ⌜ Walked (now (levels .entry)) (now (types .entry)) rows l a b r ⌝ }
 {
-    let mut full = [false; 16];
-    let mut c = 0;
-    while c < m {
-        full[c] = is_full(t, levels, largest, n, ks, over, kinds, edges, c);
+    let bound = run_bound(l);
+    let mut edge = Edge {
+        full: true,
+        met: true,
+    };
+    let mut parent = false;
+    let mut child = false;
+    let mut i = 0;
+    while i < rows {
+        if levels[i] <= bound {
+            let next = with_run(edge, parent, child);
+            edge = next;
+            parent = types[i] == a;
+            child = types[i] == b;
+            i += 1;
+        } else {
+            parent = parent | (types[i] == a);
+            child = child | (types[i] == b);
+            i += 1;
+        }
+    }
+    with_run(edge, parent, child)
+}
+
+// Which edges are full, and which are met. Entry 0 counts as both.
+pub struct Edges {
+    pub full: [bool; 16],
+    pub met: [bool; 16],
+}
+
+// The edges of a shape.
+pub fn walk_edges(levels: &[u8], types: &[u8], rows: usize, shape: Shape) -> Edges
+    requires { ⌜ Rows rows (now levels) (now types) × Sized shape ⌝ }
+    ensures { λ r. ⌜ Fulls (now (levels .entry)) (now (types .entry)) rows shape (r .full) ⌝ }
+    ensures { λ r. ⌜ Mets (now (levels .entry)) (now (types .entry)) rows shape (r .met) ⌝ }
+{
+    let mut full = [true; 16];
+    let mut met = [true; 16];
+    let mut c = 1;
+    while c < shape.entries {
+        let p = bytes::wide(shape.parents[c]);
+        let edge = walk_edge(
+            levels,
+            types,
+            rows,
+            shape.edges[c],
+            shape.types[p],
+            shape.types[c],
+        );
+        full[c] = edge.full;
+        met[c] = edge.met;
         c += 1;
     }
-    full
+    Edges {
+        full: full,
+        met: met,
+    }
 }

@@ -1,10 +1,8 @@
 // Judging a table and a shape.
-use crate::edges::full_edges;
-use crate::edges::parent_kinds;
+use crate::edges::walk_edges;
 use crate::lone::first_lone;
 use crate::pairs::first_fault;
 use crate::verdict::Verdict;
-use shapes::edges::edge_levels;
 use shapes::work::prepare;
 ghost use mathlib.Core.Path.{_≡_};
 ghost use Rattle.paper.specs.Format.{base};
@@ -29,12 +27,12 @@ fn given(verdict: Verdict) -> Judged
 }
 
 // Refusals 1 to 7, or the verdict: a row without a partner before all pairs.
-pub fn judge(t: &[u8], s: &[u8]) -> Judged
-    ensures { λ r. ⌜ judged r ≡ inNumbers (judge base (now (t .entry)) (now (s .entry))) ⌝ }
+pub fn judge(table: &[u8], shape: &[u8]) -> Judged
+    ensures { λ r. ⌜ judged r ≡ inNumbers (judge base (now (table .entry)) (now (shape .entry))) ⌝ }
 {
-    let w = prepare(t, s);
-    let number = w.number;
-    let place = w.place;
+    let work = prepare(table, shape);
+    let number = work.number;
+    let place = work.place;
     if number != 0 {
         return Judged {
             number: number,
@@ -42,21 +40,19 @@ pub fn judge(t: &[u8], s: &[u8]) -> Judged
             verdict: Verdict::Kept,
         };
     }
-    let n = w.rows;
-    let m = w.entries;
-    let ks = w.types;
-    let kinds = w.kinds;
-    let parents = w.parents;
-    let levels = w.levels;
-    let ways = w.ways;
-    let meetings = closest::meetings(t, 6, 999, n, &ks, &kinds, m);
-    let edges = edge_levels(&meetings, &kinds, &parents, m);
-    let over = parent_kinds(&kinds, &parents, m);
-    let lone = first_lone(t, 6, 999, n, &ks, &kinds, &over, &edges, 1, m);
+    let rows = work.rows;
+    let levels = work.levels;
+    let types = work.types;
+    let drawn = work.shape;
+    let edges = walk_edges(&levels, &types, rows, drawn);
+    let met = edges.met;
+    let lone = first_lone(&levels, &types, rows, drawn, met);
     match lone {
         Verdict::Kept => {
-            let full = full_edges(t, 6, 999, n, &ks, &over, &kinds, &edges, m);
-            given(first_fault(m, &levels, &ways, &edges, &full, &meetings, &kinds))
+            let ways = work.ways;
+            let meetings = work.meetings;
+            let full = edges.full;
+            given(first_fault(drawn, &ways, full, &meetings))
         }
         _ => given(lone),
     }

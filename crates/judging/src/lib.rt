@@ -1,6 +1,6 @@
-// Judging: the search for a row without a partner, the levels of the edges, full edges, and the first pair of entries that earns a 2 or
-// a 3. The public call is `judge`, for the base; the leaves take the number of levels, so that they serve every width. What the verdict
-// means for a new table is the paper's (demand 3).
+// Judging: the edges of a shape, the search for a row without a partner, and the first pair of entries that earns a 2 or a 3. The public
+// call is `judge`, for the base; the rest reads the rows' levels and types and serves every width. What the verdict means for a new table
+// is the paper's (demand 3).
 pub mod edges;
 pub mod judge;
 pub mod lone;

@@ -1,11 +1,19 @@
+-- The laws of this crate. Assumes nothing.
+pub mod SumOver
+pub mod LineLaw
+pub mod Items
+pub mod Partition
+pub mod Counted
+pub mod Sums
+pub mod Placing
+pub mod Tallying
+pub mod Names
 pub mod Line
+pub mod Filling
 pub mod Trees
-pub mod Beneath
-pub mod Counting
-pub mod Walk
-pub mod Roots
-pub mod Under
 pub mod Width
+pub mod Beneath
 pub mod Going
+pub mod Children
 pub mod Walking
 pub mod Tops

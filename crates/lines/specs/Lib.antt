@@ -1,4 +1,7 @@
 pub mod Put
+pub mod Places
+pub mod Firsts
 pub mod Lines
-pub mod Tally
+pub mod Count
 pub mod Write
+pub mod Counting

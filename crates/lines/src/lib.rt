@@ -1,6 +1,7 @@
-// The lines of a new table: counted, no further than the room, and written, each tree of lines by recursion over child entries. The leaves take
-// the number of levels, so that they serve every width. They ask for a table and a shape that pass the tests; whether lines fit is the
-// caller's to find out, by counting first.
+// The lines of a new table: counted before any is written, then written. Rows are their places, levels and type numbers, and a run of rows
+// that agree to a level is named by its first row (crate `closest`). Whether lines fit is the caller's to find out, by counting first.
+pub mod count;
+pub mod firsts;
 pub mod put;
-pub mod tally;
+pub mod table;
 pub mod write;

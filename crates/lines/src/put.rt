@@ -1,56 +1,87 @@
 // One line written: its record into the lent bytes.
+use paper::Format;
 ghost use mathlib.Core.Path.{_≡_};
-ghost use Prim.Native.Nat.{_+_, _*_, _≤_, _<_};
-ghost use lib.ListN.{length, take};
+ghost use Prim.Native.Nat.{_+_, _≤_};
+ghost use lib.ListN.{length, set};
 ghost use lib.Seq.{sets};
 ghost use Rattle.paper.specs.Lists.{joinMap};
-ghost use Rattle.paper.specs.Format.{format, rowBytes, bytes};
-ghost use Rattle.paper.specs.Tables.{rows};
-ghost use Rattle.lines.specs.Put.{lineBytes};
+ghost use Rattle.paper.specs.Format.{valueBytes, span, bytes};
+ghost use Rattle.lines.specs.Put.{LineFits, withLine};
 
 // A 16-bit number, least byte first.
-fn put_word(out: &mut [u8], at: usize, x: u16)
-    requires { ⌜ at + 2 ≤ length (now out) ⌝ }
-    ensures { λ _. ⌜ now (out .exit) ≡ sets (now (out .entry)) at (bytes 2 x) ⌝ }
+fn put_word(new: &mut [u8], at: usize, x: u16)
+    requires { ⌜ at + 2 ≤ length (now new) ⌝ }
+    ensures { λ _. ⌜ now (new .exit) ≡ sets (now (new .entry)) at (bytes 2 x) ⌝ }
 {
-    out[at] = (x % 256) as u8;
-    out[at + 1] = (x / 256) as u8;
+    new[at] = (x % 256) as u8;
+    new[at + 1] = (x / 256) as u8;
 }
 
-// The components of a Dewey number.
-fn put_number(out: &mut [u8], at: usize, number: [u16; 8], levels: usize)
-    requires { ⌜ (at + 2 * levels ≤ length (now out)) × (levels ≤ 8) ⌝ }
-    ensures { λ _. ⌜ now (out .exit) ≡ sets (now (out .entry)) at (joinMap (bytes 2) (take levels number)) ⌝ }
+// The eight places of a Dewey number.
+fn put_number(new: &mut [u8], at: usize, number: [u16; 8])
+    requires { ⌜ at + 16 ≤ length (now new) ⌝ }
+    ensures { λ _. ⌜ now (new .exit) ≡ sets (now (new .entry)) at (joinMap (bytes 2) number) ⌝ }
 {
     let mut k = 0;
-    while k < levels {
-        put_word(out, at + 2 * k, number[k]);
+    while k < 8 {
+        put_word(new, at + 2 * k, number[k]);
         k += 1;
     }
 }
 
-// The record of a line at place p: level, label, Dewey number, and the value of source row r.
+// The eight bytes of a value, by value: they are read before any byte of the line is written.
+fn value_at(table: &[u8], at: usize) -> [u8; 8]
+    requires { ⌜ at + valueBytes ≤ length (now table) ⌝ }
+    ensures { λ value. ⌜ value ≡ span valueBytes (now (table .entry)) at ⌝ }
+{
+    [
+        table[at],
+        table[at + 1],
+        table[at + 2],
+        table[at + 3],
+        table[at + 4],
+        table[at + 5],
+        table[at + 6],
+        table[at + 7],
+    ]
+}
+
+fn put_value(new: &mut [u8], at: usize, value: [u8; 8])
+    requires { ⌜ at + valueBytes ≤ length (now new) ⌝ }
+    ensures { λ _. ⌜ now (new .exit) ≡ sets (now (new .entry)) at value ⌝ }
+{
+    let mut k = 0;
+    while k < 8 {
+        new[at + k] = value[k];
+        k += 1;
+    }
+}
+
+// The record of a line: level, label, the upper line's number with the line's position at place `at`, and the value of source row r.
+// The position has a store of its own, since storing it into the number and then reading that whole stalls the processor. All eight places
+// of the number are put, since a number of places known beforehand is quicker; the value is put over those past the levels.
 pub fn put_line(
-    t: &[u8],
-    levels: usize,
-    largest: usize,
-    out: &mut [u8],
-    p: usize,
+    table: &[u8],
+    f: Format,
+    new: &mut [u8],
+    place: usize,
     level: u8,
     label: u16,
     number: [u16; 8],
+    at: usize,
+    position: u16,
     r: usize,
 )
-    requires { ⌜ (levels ≤ 8) × (r < length (rows (format levels largest) (now t))) × (p < 4096) × (rowBytes (format levels largest) * p + rowBytes (format levels largest) ≤ length (now out)) ⌝ }
-    ensures { λ _. ⌜ now (out .exit) ≡ sets (now (out .entry)) (rowBytes (format levels largest) * p) (lineBytes (format levels largest) (now (t .entry)) level label number r) ⌝ }
+    requires { ⌜ LineFits f (now table) (now new) place at r ⌝ }
+    ensures { λ _. ⌜ now (new .exit) ≡ withLine f (now (table .entry)) (now (new .entry)) place level label (set number at position) r ⌝ }
 {
-    let w = 4 + 2 * levels + 8;
-    let at = w * p;
-    let row = bytes::record(t, w, r);
-    let v = 4 + 2 * levels;
-    out[at] = level;
-    out[at + 1] = 0;
-    put_word(out, at + 2, label);
-    put_number(out, at + 4, number, levels);
-    bytes::put(out, at + v, &row[v..v + 8]);
+    let width = bytes::row_bytes(f);
+    let value = value_at(table, width * r + width - 8);
+    let start = width * place;
+    new[start] = level;
+    new[start + 1] = 0;
+    put_word(new, start + 2, label);
+    put_number(new, start + 4, number);
+    put_word(new, start + 4 + 2 * at, position);
+    put_value(new, start + width - 8, value);
 }

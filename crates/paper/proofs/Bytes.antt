@@ -42,9 +42,9 @@ span-back pre (x ∷ v) i e =
     (ap (λ l. span (length v) l (suc i)) (sym (append-assoc pre (x ∷ []) v))
     ∙ span-back (pre ++ (x ∷ [])) v (suc i) (omega (arith, length-append pre (x ∷ []))))
 
-length-words : (xs : List ℕ) → length (joinMap (bytes 2) xs) ≡ 2 * length xs
-length-words [] = refl
-length-words (x ∷ xs) = omega (arith, length-words xs, length-append (bytes 2 x) (joinMap (bytes 2) xs))
+pub length-numbers : (xs : List ℕ) → length (joinMap (bytes 2) xs) ≡ 2 * length xs
+length-numbers [] = refl
+length-numbers (x ∷ xs) = omega (arith, length-numbers xs, length-append (bytes 2 x) (joinMap (bytes 2) xs))
 
 -- ---- rows
 -- a row whose fields have the lengths of the format
@@ -65,7 +65,7 @@ length-row f r (c, v) =
       arith,
       length-append (head r) (joinMap (bytes 2) (r .components) ++ r .value),
       length-append (joinMap (bytes 2) (r .components)) (r .value),
-      length-words (r .components),
+      length-numbers (r .components),
     ))
 
 components-back : (f : Format) (r : Row) → Shaped f r → ((x : ℕ) → Has x (r .components) → Small x) → rowOf f (rowBack r) .components ≡ r .components
@@ -92,7 +92,7 @@ unfolding rowOf rowBack
 value-back f r (c, v) =
     let pre = head r ++ joinMap (bytes 2) (r .components) in
     ap (λ n. span n (pre ++ r .value) (headBytes + listBytes f)) (sym v)
-    ∙ span-back pre (r .value) (headBytes + listBytes f) (omega (arith, length-append (head r) (joinMap (bytes 2) (r .components)), length-words (r .components)))
+    ∙ span-back pre (r .value) (headBytes + listBytes f) (omega (arith, length-append (head r) (joinMap (bytes 2) (r .components)), length-numbers (r .components)))
 
 -- a whole row is read back
 pub row-back : (f : Format) (r : Row) → Shaped f r → ((x : ℕ) → Has x (r .components) → Small x) → Small (r .label) → rowOf f (rowBack r) ≡ r

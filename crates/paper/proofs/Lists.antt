@@ -5,7 +5,7 @@ use native.Mathlib.Omega.{arith}
 use mathlib.Core.Path.{_≡_, refl, sym, _∙_, ap, ap₂, subst}
 use mathlib.Core.Logic.{_⊎_, inl, inr, ⊎-elim}
 use mathlib.Core.Bool.{Bool, true, false, _&&_, _||_, true≢false, false≢true}
-use mathlib.Core.List.{List, [], _∷_, _++_, map}
+use mathlib.Core.List.{List, [], _∷_, _++_, map, append-assoc}
 use lib.Dec.{eqb, leb}
 use lib.ListN.{length, getD, length-append}
 use lib.Seq.{take-at}
@@ -15,6 +15,7 @@ use Rattle.paper.specs.Verdict.{isEmpty}
 -- A wrong definition is refused first by the sample that it breaks, so the samples stand before every law.
 use Rattle.paper.specs.Samples
 use Rattle.paper.specs.Tried
+use Rattle.paper.specs.Further
 
 -- ---- tests
 pub both : (a b : Bool) → a && b ≡ true → (a ≡ true) × (b ≡ true)
@@ -200,6 +201,10 @@ module _ {A B : Type 0} where
   pub map-append : (f : A → B) (xs ys : List A) → map f (xs ++ ys) ≡ map f xs ++ map f ys
   map-append f [] ys = refl
   map-append f (x ∷ xs) ys = ap {B = List B} (λ l. f x ∷ l) (map-append f xs ys)
+
+  pub join-append : (f : A → List B) (xs ys : List A) → joinMap f (xs ++ ys) ≡ joinMap f xs ++ joinMap f ys
+  join-append f [] ys = refl
+  join-append f (x ∷ xs) ys = ap {B = List B} (λ l. f x ++ l) (join-append f xs ys) ∙ sym (append-assoc (f x) (joinMap f xs) (joinMap f ys))
 
   pub joined-map : (f : A → List B) (xs : List A) → joined (map f xs) ≡ joinMap f xs
   joined-map f [] = refl

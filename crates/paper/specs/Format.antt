@@ -5,11 +5,11 @@ use mathlib.Core.List.{List, [], _∷_}
 use lib.Dec.{ltb}
 use lib.IntN.{ℤ, pos, negsuc}
 use lib.ListN.{length, getD, take, drop}
+use Rattle.paper.specs.declared.Format as Declared
 
--- What a width of the files may change.
-pub record Format : Type 0 where
-  pub levels : ℕ  -- the number of levels
-  pub labels : ℕ  -- the largest label
+-- What a width of the files may change: `levels`, the number of levels, and `labels`, the largest label.
+abbrev pub Format : Type 0
+Format = Declared.Format
 
 abbrev pub format : ℕ → ℕ → Format
 format levels labels = record { levels = levels; labels = labels }

@@ -11,4 +11,5 @@ pub mod Links
 pub mod Faithful
 pub mod Opened
 pub mod Samples
+pub mod Further
 pub mod Tried

@@ -60,7 +60,7 @@ asset = 1 ∷ 2 ∷ 3 ∷ 4 ∷ []
 
 -- ---- what the definitions say, as lists of figures
 -- the refusal and its place, and the verdict's numbers
-judged : List ℕ → List ℕ → List (List ℕ)
+unfoldable pub judged : List ℕ → List ℕ → List (List ℕ)
 unfolding opened
 judged b sb = let j = judge base b sb in (j .number ∷ j .place ∷ []) ∷ verdictNumbers (j .rest) ∷ []
 

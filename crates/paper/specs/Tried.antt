@@ -45,6 +45,10 @@ holds c =
     let n = r .reply .rest in
     not (isKept (judge base b sb .rest)) || (eqb (r .reply .number) 0 && linksHold b sb (take (n * rowBytes base) (r .table)) (take n (r .sources)))
 
+-- two leases, of which the second has an asset
+later : List ℕ
+later = table 0 ((1 ∷ [], 1) ∷ (1 ∷ 1 ∷ [], 3) ∷ (1 ∷ 2 ∷ [], 3) ∷ (1 ∷ 2 ∷ 1 ∷ [], 4) ∷ [])
+
 pub cases : List (List ℕ × List ℕ)
 cases =
     (A, entry 1 lease ++ entry 2 lessee ++ entry 2 asset)
@@ -56,8 +60,14 @@ cases =
     ∷ (A, entry 1 lease ++ entry 2 lease)
     ∷ (A, entry 1 portfolio ++ entry 2 lease ++ entry 2 lease)
     ∷ (table10, entry 1 (2 ∷ []) ++ entry 2 (3 ∷ []))
+    -- the first lease meets the asset less deep than the second does
+    ∷ (later, entry 1 (1 ∷ 3 ∷ []) ++ entry 2 (1 ∷ 3 ∷ 4 ∷ []))
+    ∷ (later, entry 1 (1 ∷ 3 ∷ []) ++ entry 2 (1 ∷ 3 ∷ 4 ∷ []) ++ entry 3 (1 ∷ []))
+    -- at the fork, the edge to the first of two entries is not full: the last lease has no asset
+    ∷ (A, entry 1 lease ++ entry 2 asset ++ entry 2 lessee)
+    ∷ (A, entry 1 lessee ++ entry 2 lease ++ entry 3 asset ++ entry 2 portfolio)
     ∷ []
 
 pub demand3-tried : all holds cases ≡ true
-unfolding opened holds linksHold cases row table entry A table7 table8 table10 portfolio lessee lease asset
+unfolding opened holds linksHold later cases row table entry A table7 table8 table10 portfolio lessee lease asset
 demand3-tried = refl

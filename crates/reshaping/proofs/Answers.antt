@@ -11,7 +11,8 @@ use Rattle.paper.specs.Shapes.{Shape}
 use Rattle.paper.specs.NewTable.{Line, lines, lineRow, newTable, sourceList, entryUnit}
 use Rattle.paper.specs.Calls.{Answer, Work, given, _>>=_, refuse, refuseAt, reply, after, test8, roomIn, reshaping, Reshaping, reshape, Figures, figures, noFigures, summarise}
 use Rattle.paper.proofs.Promises.{written-kept}
-use Rattle.shapes.specs.Work.{Prepared, shapeIn}
+use Rattle.shapes.specs.Tests.{shapeIn}
+use Rattle.shapes.specs.Work.{Prepared}
 use Rattle.shapes.specs.declared.work.Work
 
 module _ {t s : List ℕ} {w : Work.Work} (p : Prepared t s w) where
@@ -55,7 +56,7 @@ module _ {t s : List ℕ} {w : Work.Work} (p : Prepared t s w) where
     module _ (z : w .number ≡ 0) where
       same : reshape base t s table sources ≡ from (rest work)
       unfolding reshape reshaping
-      same = ap (λ a. from (a >>= rest)) (p .given-is z)
+      same = ap (λ a. from (a >>= rest)) (p .ready z .given-is)
 
       -- 8: more lines than there is room for
       pub reshape-full : roomIn base table sources < length (lines (nodes (rows base t)) (shapeIn base t s) 6)
@@ -74,7 +75,7 @@ module _ {t s : List ℕ} {w : Work.Work} (p : Prepared t s w) where
       unfolding test8 base sourceList
       reshape-given le =
           same ∙ ap (λ b. from (refuse 8 b >>= (λ _. given ls) >>= written)) (le-ltb (roomIn base table sources) (length ls) le)
-          ∙ ap (λ o. from (refuseAt 9 o >>= (λ _. given (newTable base sh (rows base t) ls, sourceList ls)))) (written-kept base t s work (p .given-is z))
+          ∙ ap (λ o. from (refuseAt 9 o >>= (λ _. given (newTable base sh (rows base t) ls, sourceList ls)))) (written-kept base t s work (p .ready z .given-is))
           ∙ ap {B = Reshaping} (λ n. record { reply = record { number = 0; place = 0; rest = n }; table = newTable base sh (rows base t) ls ++ drop (length (newTable base sh (rows base t) ls)) table; sources = sourceList ls ++ drop (length (sourceList ls)) sources }) (length-map ls (λ (l : Line). l .entry * entryUnit + l .source .place))
 
   -- ---- summarising
@@ -86,12 +87,12 @@ module _ {t s : List ℕ} {w : Work.Work} (p : Prepared t s w) where
     pub summary-full : mostLines < length (lines (nodes (rows base t)) (shapeIn base t s) 6) → summarise base t s ≡ record { number = 8; place = 0; rest = noFigures }
     unfolding summarise test8 base
     summary-full lt =
-        ap (λ a. reply noFigures (a >>= counted)) (p .given-is z)
+        ap (λ a. reply noFigures (a >>= counted)) (p .ready z .given-is)
         ∙ ap (λ b. reply noFigures (refuse 8 b >>= (λ _. given ls) >>= (λ l. given (figures work l)))) (lt-ltb mostLines (length ls) lt)
 
     pub summary-given : length (lines (nodes (rows base t)) (shapeIn base t s) 6) ≤ mostLines
         → summarise base t s ≡ record { number = 0; place = 0; rest = figures (record { rows = rows base t; nodes = nodes (rows base t); shape = shapeIn base t s }) (lines (nodes (rows base t)) (shapeIn base t s) 6) }
     unfolding summarise test8 base
     summary-given le =
-        ap (λ a. reply noFigures (a >>= counted)) (p .given-is z)
+        ap (λ a. reply noFigures (a >>= counted)) (p .ready z .given-is)
         ∙ ap (λ b. reply noFigures (refuse 8 b >>= (λ _. given ls) >>= (λ l. given (figures work l)))) (le-ltb mostLines (length ls) le)

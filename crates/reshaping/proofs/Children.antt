@@ -16,11 +16,12 @@ use Rattle.paper.specs.Closeness.{nodes}
 use Rattle.paper.specs.Shapes.{Shape, entries, way, parent, children}
 use Rattle.paper.proofs.Lists.{same-eq, eq-same, up-snoc, count-has}
 use Rattle.paper.proofs.Papers.{same-test}
-use Rattle.paper.proofs.Nearest.{parent-nearest}
 use Rattle.paper.proofs.Verdict.{last-way, child-parent, child-pos}
-use Rattle.shapes.specs.Work.{Prepared, shapeIn}
+use Rattle.shapes.specs.Tests.{shapeIn}
+use Rattle.shapes.specs.Shape.{parentOf}
+use Rattle.shapes.specs.Work.{Ready}
 use Rattle.shapes.specs.declared.work.Work.{Work}
-use Rattle.shapes.proofs.Levelled.{held, rules, ways-are, count-is, entry-in}
+use Rattle.shapes.proofs.Given.{ways-are, over}
 use Rattle.lines.specs.Lines.{childrenOf}
 
 -- ---- numbers kept
@@ -41,33 +42,36 @@ keep-skip p (suc k) i n h =
     first true e = absurd (true≢false e)
     first false e = refl
 
-module _ {t sb : List ℕ} {w : Work} (p : Prepared t sb w) (z : w .number ≡ 0) where
+module _ {t sb : List ℕ} {w : Work} (y : Ready t sb w) where
   abbrev sh : Shape
   sh = shapeIn base t sb
 
+  entry-in : (e : ℕ) → e < w .shape .entries → e < length (sh .ways)
+  entry-in e lt = omega (arith, y .holds .counted)
+
   -- the way of a later entry is its parent's, and itself
-  over-way : (c : ℕ) → 0 < c → c < w .entries → way sh c ≡ way sh (parent sh c) ++ (c ∷ [])
-  over-way c pos lt = go (ways-are p z .own c (entry-in p z c lt))
+  over-way : (c : ℕ) → 0 < c → c < w .shape .entries → way sh c ≡ way sh (parent sh c) ++ (c ∷ [])
+  over-way c pos lt = go (ways-are t sb (y .given-is) .own c (entry-in c lt))
     where
       go : ((u : List ℕ) × (way sh c ≡ u ++ (c ∷ []))) → way sh c ≡ way sh (parent sh c) ++ (c ∷ [])
       go ([], e) =
-          let (v, q) = ways-are p z .root c (entry-in p z c lt) in
-          let y : ⊥ = omega (arith, ap (lastOr 0) (sym e ∙ q), ap (λ l. getD l 0 0) (sym e ∙ q)) in absurd y
+          let (v, q) = ways-are t sb (y .given-is) .root c (entry-in c lt) in
+          let no : ⊥ = omega (arith, ap (lastOr 0) (sym e ∙ q), ap (λ l. getD l 0 0) (sym e ∙ q)) in absurd no
       go (x ∷ u, e) =
           let n = length (x ∷ u) in
-          let (g, lg, q) = ways-are p z .cut c (entry-in p z c lt) n (omega arith) (omega (arith, ap length e, length-append (x ∷ u) (c ∷ []))) in
+          let (g, lg, q) = ways-are t sb (y .given-is) .cut c (entry-in c lt) n (omega arith) (omega (arith, ap length e, length-append (x ∷ u) (c ∷ []))) in
           let up-is : way sh g ≡ x ∷ u = q ∙ ap (take n) e ∙ take-at (x ∷ u) (c ∷ []) n refl in
-          let g-is : parent sh c ≡ g = ap (lastOr 0) (ap up e ∙ up-snoc (x ∷ u) c ∙ sym up-is) ∙ last-way sh (ways-are p z) g lg in
+          let g-is : parent sh c ≡ g = ap (lastOr 0) (ap up e ∙ up-snoc (x ∷ u) c ∙ sym up-is) ∙ last-way sh (ways-are t sb (y .given-is)) g lg in
           e ∙ ap (λ v. v ++ (c ∷ [])) (sym up-is ∙ ap (way sh) (sym g-is))
 
-  module _ (e : ℕ) (le : e < w .entries) where
+  module _ (e : ℕ) (le : e < w .shape .entries) where
     abbrev child : ℕ → Bool
     child c = same (up (way sh c)) (way sh e)
 
     -- a child's way is the entry's, and itself
-    child-way : (c : ℕ) → c < w .entries → child c ≡ true → way sh c ≡ way sh e ++ (c ∷ [])
+    child-way : (c : ℕ) → c < w .shape .entries → child c ≡ true → way sh c ≡ way sh e ++ (c ∷ [])
     child-way c lt h =
-        let (u, q) = ways-are p z .own c (entry-in p z c lt) in
+        let (u, q) = ways-are t sb (y .given-is) .own c (entry-in c lt) in
         q ∙ ap (λ v. v ++ (c ∷ [])) (sym (up-snoc u c) ∙ sym (ap up q) ∙ same-eq (up (way sh c)) (way sh e) h)
 
     -- an entry up to e is no child of it
@@ -77,23 +81,23 @@ module _ {t sb : List ℕ} {w : Work} (p : Prepared t sb w) (z : w .number ≡ 0
         go : (b : Bool) → child c ≡ b → child c ≡ false
         go false h = h
         go true h =
-            let lc : c < w .entries = omega arith in
+            let lc : c < w .shape .entries = omega arith in
             let q = child-way c lc h in
-            let pos = child-pos sh (ways-are p z) e c (entry-in p z e le) (entry-in p z c lc) q in
-            let is = child-parent sh (ways-are p z) e c (entry-in p z e le) q in
-            let near = parent-nearest base (types (rows base t)) (entries base sb) (rules p z) c pos (omega (arith, count-is p z)) .0 in
-            let y : ⊥ = omega (arith, is, near) in absurd y
+            let pos = child-pos sh (ways-are t sb (y .given-is)) e c (entry-in e le) (entry-in c lc) q in
+            let is = child-parent sh (ways-are t sb (y .given-is)) e c (entry-in e le) q in
+            let near = over t sb (y .given-is) c pos (entry-in c lc) .0 in
+            let no : ⊥ = omega (arith, is, near) in absurd no
 
-    late : (c : ℕ) → e < c → c < w .entries → child c ≡ eqb (getD (w .parents) c 0) e
-    late c ec lc = same-test (child c) (eqb (getD (w .parents) c 0) e)
-        (λ h. eq-eqb (getD (w .parents) c 0) e (held p z .parent-is c lc ∙ child-parent sh (ways-are p z) e c (entry-in p z e le) (child-way c lc h)))
-        (λ h. eq-same (ap up (over-way c (omega arith) lc) ∙ up-snoc (way sh (parent sh c)) c ∙ ap (way sh) (sym (held p z .parent-is c lc) ∙ eqb-true (getD (w .parents) c 0) e h)))
+    late : (c : ℕ) → e < c → c < w .shape .entries → child c ≡ eqb (parentOf (w .shape) c) e
+    late c ec lc = same-test (child c) (eqb (parentOf (w .shape) c) e)
+        (λ h. eq-eqb (parentOf (w .shape) c) e (y .holds .parent-is c lc ∙ child-parent sh (ways-are t sb (y .given-is)) e c (entry-in e le) (child-way c lc h)))
+        (λ h. eq-same (ap up (over-way c (omega arith) lc) ∙ up-snoc (way sh (parent sh c)) c ∙ ap (way sh) (sym (y .holds .parent-is c lc) ∙ eqb-true (parentOf (w .shape) c) e h)))
 
-    pub children-are : childrenOf (nodes (rows base t)) (w .entries) (w .kinds) (w .parents) e ≡ children (shapeIn base t sb) e
+    pub children-are : childrenOf (nodes (rows base t)) (w .shape) e ≡ children (shapeIn base t sb) e
     children-are =
-        let n = w .entries - (e + 1) in
-        let q : e + 1 + n ≡ length (sh .ways) = omega (arith, held p z .counted) in
+        let n = w .shape .entries - (e + 1) in
+        let q : e + 1 + n ≡ length (sh .ways) = omega (arith, y .holds .counted) in
         let i : 0 + (e + 1) ≡ e + 1 = omega arith in
-        keep-same (λ c. eqb (getD (w .parents) c 0) e) child (count (e + 1) n)
+        keep-same (λ c. eqb (parentOf (w .shape) c) e) child (count (e + 1) n)
         (λ c h. let b = count-has (e + 1) n c h in sym (late c (omega (arith, b .0)) (omega (arith, b .1))))
         ∙ sym (ap (λ m. keep child (count 0 m)) (sym q) ∙ keep-skip child (e + 1) 0 n (λ c a b. early c (omega arith)) ∙ ap (λ j. keep child (count j n)) i)

@@ -3,6 +3,6 @@ pub mod Paper
 pub mod Answers
 pub mod Figured
 pub mod Padded
-pub mod Ready
+pub mod Summed
 pub mod Lent
 pub mod Unique

@@ -16,11 +16,14 @@ use Rattle.paper.specs.Shapes.{Shape, children}
 use Rattle.paper.specs.NewTable.{Line, forest, tree, beneath, tops, lines, lineRow, newTable, sourceList, entryUnit}
 use Rattle.paper.proofs.Lists.{join-has, map-has, keep-has, count-has, joined-map}
 use Rattle.paper.proofs.Verdict.{listed-child}
-use Rattle.shapes.specs.Work.{Prepared, shapeIn}
+use Rattle.shapes.specs.Tests.{shapeIn}
+use Rattle.shapes.specs.Shape.{mostLevels, levelOf, labelOf, typeOf, parentOf}
+use Rattle.shapes.specs.Work.{Ready}
+use Rattle.shapes.specs.declared.shape.Shape as Drawn
 use Rattle.shapes.specs.declared.work.Work.{Work}
-use Rattle.shapes.proofs.Levelled.{held, ways-are, some-entry}
+use Rattle.shapes.proofs.Given.{ways-are}
 use Rattle.lines.specs.Put.{lineOf, lineBytes}
-use Rattle.lines.specs.Lines.{childrenOf, under, roots, treeOf, entriesOf, linesOf, allEntries, bytesOf, sourcesOf}
+use Rattle.lines.specs.Lines.{Item, Numbered, childrenOf, under, roots, treeOf, entriesOf, linesOf, allEntries, bytesOf, sourcesOf}
 use Rattle.lines.proofs.Trees.{forest-good, all-good, map-forest}
 use Rattle.reshaping.proofs.Children.{children-are}
 
@@ -49,19 +52,19 @@ padded-cut : (m n : ℕ) (d : List ℕ) → m ≤ n → take m (padded n d) ≡ 
 padded-cut m n d le = take-take m n (d ++ replicate n 0) le ∙ zeros-cut m n m d le (omega arith)
 
 -- the entries of the lines, whatever their numbers
-entries-of : (t : List Node) (n : ℕ) (kinds parents : List ℕ) (left : ℕ) (x : ℕ × Node) (d : List ℕ)
-    → map (λ (y : (ℕ × Node) × List ℕ). y .0 .0) (treeOf t n kinds parents left x d) ≡ entriesOf t n kinds parents left x
-entries-of t n kinds parents zero x d = refl
-entries-of t n kinds parents (suc left) x d =
+entries-of : (t : List Node) (s : Drawn.Shape) (left : ℕ) (x : ℕ × Node) (d : List ℕ)
+    → map (λ (l : Numbered). l .0 .0) (treeOf t s left x d) ≡ entriesOf t s left x
+entries-of t s zero x d = refl
+entries-of t s (suc left) x d =
     ap {B = List ℕ} (λ l. x .0 ∷ l)
-    (map-forest (λ (y : (ℕ × Node) × List ℕ). y .0 .0) (treeOf t n kinds parents left) (entriesOf t n kinds parents left) d 1 (joined (under t n kinds parents x)) (entries-of t n kinds parents left))
+    (map-forest (λ (l : Numbered). l .0 .0) (treeOf t s left) (entriesOf t s left) d 1 (joined (under t s x)) (entries-of t s left))
 
-pub all-entries : (t : List Node) (n : ℕ) (kinds parents : List ℕ) (left : ℕ)
-    → map (λ (y : (ℕ × Node) × List ℕ). y .0 .0) (linesOf t n kinds parents left) ≡ allEntries t n kinds parents left
-all-entries t n kinds parents left =
-    map-forest (λ (y : (ℕ × Node) × List ℕ). y .0 .0) (treeOf t n kinds parents left) (entriesOf t n kinds parents left) [] 1 (roots t n kinds parents) (entries-of t n kinds parents left)
+pub all-entries : (t : List Node) (s : Drawn.Shape) (left : ℕ)
+    → map (λ (l : Numbered). l .0 .0) (linesOf t s left) ≡ allEntries t s left
+all-entries t s left =
+    map-forest (λ (l : Numbered). l .0 .0) (treeOf t s left) (entriesOf t s left) [] 1 (roots t s) (entries-of t s left)
 
-module _ {t sb : List ℕ} {w : Work} (p : Prepared t sb w) (z : w .number ≡ 0) where
+module _ {t sb : List ℕ} {w : Work} (y : Ready t sb w) where
   abbrev ns : List Node
   ns = nodes (rows base t)
 
@@ -69,64 +72,64 @@ module _ {t sb : List ℕ} {w : Work} (p : Prepared t sb w) (z : w .number ≡ 0
   sh = shapeIn base t sb
 
   abbrev Good : ℕ × Node → Type 0
-  Good x = x .0 < w .entries
+  Good x = x .0 < w .shape .entries
 
-  under-is : (x : ℕ × Node) → Good x → under ns (w .entries) (w .kinds) (w .parents) x ≡ beneath ns sh x
+  under-is : (x : ℕ × Node) → Good x → under ns (w .shape) x ≡ beneath ns sh x
   unfolding beneath
   under-is x lt =
-      ap (map (λ c. map (λ (r : Node). (c, r)) (closestOf ns (x .1) (getD (w .kinds) c 0)))) (children-are p z (x .0) lt)
+      ap (map (λ c. map (λ (r : Node). (c, r)) (closestOf ns (x .1) (typeOf (w .shape) c)))) (children-are y (x .0) lt)
       ∙ map-same _ _ (children sh (x .0)) (λ c h.
-      let lc = listed-child sh (ways-are p z) (x .0) c h .0 in
-      ap (λ k. map {B = ℕ × Node} (λ (r : Node). (c, r)) (closestOf ns (x .1) k)) (held p z .kind-is c (omega (arith, lc, held p z .counted))))
+      let lc = listed-child sh (ways-are t sb (y .given-is)) (x .0) c h .0 in
+      ap (λ k. map {B = ℕ × Node} (λ (r : Node). (c, r)) (closestOf ns (x .1) k)) (y .holds .type-is c (omega (arith, lc, y .holds .counted))))
 
-  stay : (x : ℕ × Node) → Good x → (y : ℕ × Node) → Has y (joined (under ns (w .entries) (w .kinds) (w .parents) x)) → Good y
-  stay x lt y h =
-      let cs = childrenOf ns (w .entries) (w .kinds) (w .parents) (x .0) in
-      let g : ℕ → List (ℕ × Node) = λ c. map (λ (r : Node). (c, r)) (closestOf ns (x .1) (getD (w .kinds) c 0)) in
-      let (c, hc, hy) = join-has g y cs (subst (λ l. Has y l) (joined-map g cs) h) in
-      let (r, hr, e) = map-has {B = ℕ × Node} (λ (r : Node). (c, r)) y (closestOf ns (x .1) (getD (w .kinds) c 0)) hy in
-      let b = count-has (x .0 + 1) (w .entries - (x .0 + 1)) c (keep-has (λ c. eqb (getD (w .parents) c 0) (x .0)) c (count (x .0 + 1) (w .entries - (x .0 + 1))) hc .0) in
+  stay : (x : ℕ × Node) → Good x → (v : ℕ × Node) → Has v (joined (under ns (w .shape) x)) → Good v
+  stay x lt v h =
+      let cs = childrenOf ns (w .shape) (x .0) in
+      let g : ℕ → List (ℕ × Node) = λ c. map (λ (r : Node). (c, r)) (closestOf ns (x .1) (typeOf (w .shape) c)) in
+      let (c, hc, hv) = join-has g v cs (subst (λ l. Has v l) (joined-map g cs) h) in
+      let (r, hr, e) = map-has {B = ℕ × Node} (λ (r : Node). (c, r)) v (closestOf ns (x .1) (typeOf (w .shape) c)) hv in
+      let b = count-has (x .0 + 1) (w .shape .entries - (x .0 + 1)) c (keep-has (λ c. eqb (parentOf (w .shape) c) (x .0)) c (count (x .0 + 1) (w .shape .entries - (x .0 + 1))) hc .0) in
       omega (arith, ap (λ (q : ℕ × Node). q .0) e, b .1)
 
-  good-roots : (x : ℕ × Node) → Has x (roots ns (w .entries) (w .kinds) (w .parents)) → Good x
+  good-roots : (x : ℕ × Node) → Has x (roots ns (w .shape)) → Good x
   good-roots x h =
-      let (r, hr, e) = map-has {B = ℕ × Node} (λ (r : Node). (0, r)) x (ofKind ns (getD (w .kinds) 0 0)) h in
-      omega (arith, ap (λ (q : ℕ × Node). q .0) e, some-entry p z)
+      let (r, hr, e) = map-has {B = ℕ × Node} (λ (r : Node). (0, r)) x (ofKind ns (typeOf (w .shape) 0)) h in
+      omega (arith, ap (λ (q : ℕ × Node). q .0) e, y .shaped .sized .some)
 
-  abbrev found : List ((ℕ × Node) × List ℕ)
-  found = linesOf ns (w .entries) (w .kinds) (w .parents) 5
+  abbrev found : List (Numbered)
+  found = linesOf ns (w .shape) 5
 
-  abbrev toLine : (ℕ × Node) × List ℕ → Line
+  abbrev toLine : Numbered → Line
   toLine x = record { entry = x .0 .0; source = x .0 .1; dewey = x .1 }
 
-  pub lines-are : map (λ (x : (ℕ × Node) × List ℕ). record { entry = x .0 .0; source = x .0 .1; dewey = x .1 }) (linesOf (nodes (rows base t)) (w .entries) (w .kinds) (w .parents) 5)
+  pub lines-are : map (λ (x : Numbered). record { entry = x .0 .0; source = x .0 .1; dewey = x .1 }) (linesOf (nodes (rows base t)) (w .shape) 5)
       ≡ lines (nodes (rows base t)) (shapeIn base t sb) 6
   unfolding lines tops
   lines-are =
-      ap (map toLine) (forest-good Good (under ns (w .entries) (w .kinds) (w .parents)) (beneath ns sh) under-is stay 5 [] 1 (roots ns (w .entries) (w .kinds) (w .parents)) good-roots
-      ∙ ap (λ k. forest (tree (beneath ns sh) 5) [] 1 (map {B = ℕ × Node} (λ (r : Node). (0, r)) (ofKind ns k))) (held p z .kind-is 0 (some-entry p z)))
+      ap (map toLine) (forest-good Good (under ns (w .shape)) (beneath ns sh) under-is stay 5 [] 1 (roots ns (w .shape)) good-roots
+      ∙ ap (λ k. forest (tree (beneath ns sh) 5) [] 1 (map {B = ℕ × Node} (λ (r : Node). (0, r)) (ofKind ns k))) (y .holds .type-is 0 (y .shaped .sized .some)))
 
-  pub sources-are : sourcesOf (linesOf (nodes (rows base t)) (w .entries) (w .kinds) (w .parents) 5) ≡ sourceList (lines (nodes (rows base t)) (shapeIn base t sb) 6)
+  pub sources-are : sourcesOf (linesOf (nodes (rows base t)) (w .shape) 5) ≡ sourceList (lines (nodes (rows base t)) (shapeIn base t sb) 6)
   unfolding sourceList
   sources-are = sym (map-map (λ (l : Line). l .entry * entryUnit + l .source .place) toLine found) ∙ ap sourceList lines-are
 
   -- each line is of an entry of the shape
-  pub entry-small : (x : (ℕ × Node) × List ℕ) → Has x (linesOf (nodes (rows base t)) (w .entries) (w .kinds) (w .parents) 5) → x .0 .0 < w .entries
-  entry-small = all-good Good (under ns (w .entries) (w .kinds) (w .parents)) (beneath ns sh) under-is stay 5 [] 1 (roots ns (w .entries) (w .kinds) (w .parents)) good-roots
+  pub entry-small : (x : Numbered) → Has x (linesOf (nodes (rows base t)) (w .shape) 5) → x .0 .0 < w .shape .entries
+  entry-small = all-good Good (under ns (w .shape)) (beneath ns sh) under-is stay 5 [] 1 (roots ns (w .shape)) good-roots
 
   -- the record of a line
-  record-is : (x : (ℕ × Node) × List ℕ) → Has x found
-      → lineBytes base t (getD (w .levels) (x .0 .0) 0) (getD (w .labels) (x .0 .0) 0) (padded 8 (x .1)) (x .0 .1 .place) ≡ rowBack (lineRow base sh (rows base t) (toLine x))
+  record-is : (x : Numbered) → Has x found
+      → lineBytes base t (levelOf (w .shape) (x .0 .0)) (labelOf (w .shape) (x .0 .0)) (padded mostLevels (x .1)) (x .0 .1 .place) ≡ rowBack (lineRow base sh (rows base t) (toLine x))
   unfolding lineOf lineRow base
   record-is x h =
       let lt = entry-small x h in
-      ap (λ l. rowBack (record { level = l; spare = 0; label = getD (w .labels) (x .0 .0) 0; components = take 6 (padded 8 (x .1)); value = getD (map (λ (x : Row). x .value) (rows base t)) (x .0 .1 .place) [] })) (held p z .level (x .0 .0) lt)
-      ∙ ap₂ (λ l c. rowBack (record { level = getD (sh .levels) (x .0 .0) 0; spare = 0; label = l; components = c; value = getD (map (λ (x : Row). x .value) (rows base t)) (x .0 .1 .place) [] })) (held p z .label (x .0 .0) lt) (padded-cut 6 8 (x .1) (omega arith))
+      ap (λ l. rowBack (record { level = l; spare = 0; label = labelOf (w .shape) (x .0 .0); components = take 6 (padded mostLevels (x .1)); value = getD (map (λ (x : Row). x .value) (rows base t)) (x .0 .1 .place) [] })) (y .holds .level-is (x .0 .0) lt)
+      ∙ ap₂ (λ l c. rowBack (record { level = getD (sh .levels) (x .0 .0) 0; spare = 0; label = l; components = c; value = getD (map (λ (x : Row). x .value) (rows base t)) (x .0 .1 .place) [] })) (y .holds .label-is (x .0 .0) lt) (padded-cut 6 8 (x .1) (omega arith))
 
-  pub bytes-are : bytesOf base t (w .levels) (w .labels) (linesOf (nodes (rows base t)) (w .entries) (w .kinds) (w .parents) 5) ≡ newTable base (shapeIn base t sb) (rows base t) (lines (nodes (rows base t)) (shapeIn base t sb) 6)
+  pub bytes-are : bytesOf base t (w .shape) (linesOf (nodes (rows base t)) (w .shape) 5) ≡ newTable base (shapeIn base t sb) (rows base t) (lines (nodes (rows base t)) (shapeIn base t sb) 6)
   unfolding newTable
   bytes-are =
       join-same _ _ found record-is ∙ sym (join-map (λ l. rowBack (lineRow base sh (rows base t) l)) toLine found) ∙ ap (newTable base sh (rows base t)) lines-are
 
-  pub length-is : length (linesOf (nodes (rows base t)) (w .entries) (w .kinds) (w .parents) 5) ≡ length (lines (nodes (rows base t)) (shapeIn base t sb) 6)
+  pub length-is : length (linesOf (nodes (rows base t)) (w .shape) 5) ≡ length (lines (nodes (rows base t)) (shapeIn base t sb) 6)
   length-is = sym (length-map found toLine) ∙ ap length lines-are

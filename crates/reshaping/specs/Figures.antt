@@ -7,10 +7,10 @@ use lib.ListN.{length, getD, take}
 use Rattle.paper.specs.Lists.{keep}
 use Rattle.paper.specs.Format.{mostEntries}
 
--- each of m entries has as many rows as there are rows of its type among the first n; the places past them are zero
-pub record RowsOf (ks : List ℕ) (n : ℕ) (kinds : List ℕ) (m : ℕ) (rows : List ℕ) : Type 0 where
-  pub held : (e : ℕ) → e < m → getD rows e 0 ≡ length (keep (λ x. eqb x (getD kinds e 0)) (take n ks))
-  pub rest : (e : ℕ) → m ≤ e → getD rows e 0 ≡ 0
+-- each entry holds as many rows as there are of its type; `types` are the rows' and `wanted` the entries', and places past them are zero
+pub record RowsOf (types : List ℕ) (rows : ℕ) (wanted : List ℕ) (entries : ℕ) (figures : List ℕ) : Type 0 where
+  pub held : (e : ℕ) → e < entries → getD figures e 0 ≡ length (keep (λ x. eqb x (getD wanted e 0)) (take rows types))
+  pub rest : (e : ℕ) → entries ≤ e → getD figures e 0 ≡ 0
 
 -- lines less rows, place by place
 abbrev pub Less : List ℕ → List ℕ → List ℕ → Type 0

@@ -1,6 +1,12 @@
 -- What reshaping and summarising answer, in the paper's terms. Assumes nothing.
-use Prim.Native.Nat.{ℕ}
-use Rattle.paper.specs.Calls.{Reply, Figures}
+use Prim.Native.Nat.{ℕ, _*_}
+use mathlib.Core.Path.{_≡_}
+use mathlib.Core.List.{List}
+use lib.ListN.{take}
+use Rattle.paper.specs.Format.{base, rowBytes}
+use Rattle.paper.specs.Verdict.{kept}
+use Rattle.paper.specs.Links.{LinksKept}
+use Rattle.paper.specs.Calls.{Reply, Figures, reshape, judge}
 use Rattle.reshaping.specs.declared.reshape.Reshaped.{Reshaped}
 use Rattle.reshaping.specs.declared.summarise.Summary.{Summary}
 
@@ -11,3 +17,12 @@ reshaped r = record { number = r .number; place = r .place; rest = r .lines }
 -- number, place, and the figures of 16 entries
 abbrev pub summarised : Summary → Reply Figures
 summarised r = record { number = r .number; place = r .place; rest = record { lines = r .lines; rows = r .rows; copies = r .copies } }
+
+-- The whole promise of a reshape of the table t to the shape s: r is the answer, and new′ and sources′ are what the lent bytes and places
+-- hold afterwards.
+pub record Reshapes (t s new sources : List ℕ) (r : Reshaped) (new′ sources′ : List ℕ) : Type 0 where
+  pub answer : reshaped r ≡ reshape base t s new sources .reply
+  pub bytes : new′ ≡ reshape base t s new sources .table
+  pub places : sources′ ≡ reshape base t s new sources .sources
+  -- The buyer's demand: where the call is accepted and the verdict on the same table and shape is 0, no link is missing and none is made up.
+  pub links : r .number ≡ 0 → judge base t s .rest ≡ kept → LinksKept base t s (take (r .lines * rowBytes base) new′) (take (r .lines) sources′)

@@ -1,20 +1,22 @@
 // The figures of a summary, as arrays of 16: rows of each entry's type, and copies.
+use shapes::shape::Shape;
 ghost use Prim.Native.Nat.{_≤_};
 ghost use lib.ListN.{length};
 ghost use Rattle.reshaping.specs.Figures.{RowsOf, Less};
 
 // How many rows each entry's type has; zeros past the entries.
-pub fn entry_rows(ks: &[u8], n: usize, kinds: &[u8], m: usize) -> [usize; 16]
-    requires { ⌜ (n ≤ length (now ks)) × (m ≤ 16) × (m ≤ length (now kinds)) ⌝ }
-    ensures { λ r. ⌜ RowsOf (now (ks .entry)) n (now (kinds .entry)) m r ⌝ }
+pub fn entry_rows(types: &[u8], rows: usize, shape: Shape) -> [usize; 16]
+    requires { ⌜ (rows ≤ length (now types)) × (shape .entries ≤ 16) ⌝ }
+    ensures { λ r. ⌜ RowsOf (now (types .entry)) rows (shape .types) (shape .entries) r ⌝ }
 {
-    let mut rows = [0; 16];
+    let entries = shape.entries;
+    let mut held = [0; 16];
     let mut e = 0;
-    while e < m {
-        rows[e] = closest::count_rows(ks, n, bytes::wide(kinds[e]));
+    while e < entries {
+        held[e] = closest::count_rows(types, rows, bytes::wide(shape.types[e]));
         e += 1;
     }
-    rows
+    held
 }
 
 // Lines less rows, or 0 where lines are fewer.

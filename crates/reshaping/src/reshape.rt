@@ -1,16 +1,10 @@
 // Reshaping a table to a shape: the new table and its source list, into what was lent.
-use lines::tally::tally_lines;
-use lines::write::write_lines;
-use shapes::edges::edge_levels;
+use lines::count::count_lines;
+use lines::table::write_table;
 use shapes::work::prepare;
 ghost use mathlib.Core.Path.{_≡_};
-ghost use Prim.Native.Nat.{_*_, _/_, min};
-ghost use lib.ListN.{take};
-ghost use Rattle.paper.specs.Format.{base, rowBytes};
-ghost use Rattle.paper.specs.Verdict.{kept};
-ghost use Rattle.paper.specs.Calls.{reshape, judge};
-ghost use Rattle.paper.specs.Links.{LinksKept};
-ghost use Rattle.reshaping.specs.Reshaped.{reshaped};
+ghost use Rattle.reshaping.specs.Reshaped.{reshaped, Reshapes};
+ghost use Prim.Native.Nat.{_/_, min};
 
 // What reshaping answers: a refusal, or the number of lines.
 #[repr(C)]
@@ -27,59 +21,51 @@ fn room_in(bytes: usize, places: usize) -> usize
     tables::row::smaller(bytes / 24, tables::row::smaller(places, 4096))
 }
 
+fn refused(number: usize, place: usize) -> Reshaped
+    ensures { λ r. ⌜ reshaped r ≡ record { number = number; place = place; rest = 0 } ⌝ }
+{
+    Reshaped {
+        number: number,
+        place: place,
+        lines: 0,
+    }
+}
+
 // Refusals 1 to 8, or the lines of the new table, written to the front of what was lent; what lies past them stays as it was. The lines
 // are counted before the first is written. A refused call changes nothing.
 //
-// The last clause is the buyer's demand: where the call is accepted and the verdict on the same table and shape is 0, the new table and
-// the source list that it leaves keep the links between records. None is missing and none is made up.
-pub fn reshape(t: &[u8], s: &[u8], table: &mut [u8], sources: &mut [u32]) -> Reshaped
-    ensures { λ r. ⌜ reshaped r ≡ reshape base (now (t .entry)) (now (s .entry)) (now (table .entry)) (now (sources .entry)) .reply ⌝ }
-    ensures { λ _. ⌜ now (table .exit) ≡ reshape base (now (t .entry)) (now (s .entry)) (now (table .entry)) (now (sources .entry)) .table ⌝ }
-    ensures { λ _. ⌜ now (sources .exit) ≡ reshape base (now (t .entry)) (now (s .entry)) (now (table .entry)) (now (sources .entry)) .sources ⌝ }
-    ensures { λ r. ⌜ (r .number ≡ 0 → judge base (now (t .entry)) (now (s .entry)) .rest ≡ kept → LinksKept base (now (t .entry)) (now (s .entry)) (take (r .lines * rowBytes base) (now (table .exit))) (take (r .lines) (now (sources .exit)))) ⌝ }
+// `Reshapes` has the buyer's demand among its parts: where the call is accepted and the verdict on the same table and shape is 0, the new
+// table and the source list that it leaves keep the links between records. None is missing and none is made up.
+pub fn reshape(table: &[u8], shape: &[u8], new: &mut [u8], sources: &mut [u32]) -> Reshaped
+    ensures { λ r. ⌜ Reshapes (now (table .entry)) (now (shape .entry)) (now (new .entry)) (now (sources .entry)) r (now (new .exit)) (now (sources .exit)) ⌝ }
 {
-    let w = prepare(t, s);
+    let w = prepare(table, shape);
     let number = w.number;
     let place = w.place;
     if number != 0 {
-        return Reshaped {
-            number: number,
-            place: place,
-            lines: 0,
-        };
+        return refused(number, place);
     }
-    let n = w.rows;
-    let m = w.entries;
-    let ks = w.types;
-    let kinds = w.kinds;
-    let parents = w.parents;
+    let rows = w.rows;
     let levels = w.levels;
-    let labels = w.labels;
-    let meetings = closest::meetings(t, 6, 999, n, &ks, &kinds, m);
-    let edges = edge_levels(&meetings, &kinds, &parents, m);
-    let room = room_in(table.len(), sources.len());
-    let tally = tally_lines(t, 6, 999, n, &ks, m, &kinds, &parents, &edges, room);
+    let types = w.types;
+    let wanted = w.shape;
+    let mut runs = [0u16; 9216];
+    let mut lists = [0u16; 16384];
+    let tally = count_lines(&levels, &types, rows, wanted, &mut runs, &mut lists);
     let total = tally.total;
+    let room = room_in(new.len(), sources.len());
     if room < total {
-        return Reshaped {
-            number: 8,
-            place: 0,
-            lines: 0,
-        };
+        return refused(8, 0);
     }
-    let lines = write_lines(
-        t,
-        6,
-        999,
-        n,
-        &ks,
-        m,
-        &kinds,
-        &parents,
-        &edges,
-        &levels,
-        &labels,
+    let lines = write_table(
         table,
+        paper::base(),
+        rows,
+        &types,
+        &runs,
+        wanted,
+        &mut lists,
+        new,
         sources,
     );
     Reshaped {

@@ -1,8 +1,7 @@
 // Summarising a reshape: what each entry would show, with nothing written.
 use crate::figures::copies_of;
 use crate::figures::entry_rows;
-use lines::tally::tally_lines;
-use shapes::edges::edge_levels;
+use lines::count::count_lines;
 use shapes::work::prepare;
 ghost use mathlib.Core.Path.{_≡_};
 ghost use Rattle.paper.specs.Format.{base};
@@ -32,36 +31,35 @@ fn refused(number: usize, place: usize) -> Summary
     }
 }
 
-// Refusals 1 to 8, with room for 4,096 lines, or the figures. The lines are counted in one walk that stops at the room.
-pub fn summarise(t: &[u8], s: &[u8]) -> Summary
-    ensures { λ r. ⌜ summarised r ≡ summarise base (now (t .entry)) (now (s .entry)) ⌝ }
+// Refusals 1 to 8, with room for 4,096 lines, or the figures. No line is walked to count it.
+pub fn summarise(table: &[u8], shape: &[u8]) -> Summary
+    ensures { λ r. ⌜ summarised r ≡ summarise base (now (table .entry)) (now (shape .entry)) ⌝ }
 {
-    let w = prepare(t, s);
+    let w = prepare(table, shape);
     let number = w.number;
     let place = w.place;
     if number != 0 {
         return refused(number, place);
     }
-    let n = w.rows;
-    let m = w.entries;
-    let ks = w.types;
-    let kinds = w.kinds;
-    let parents = w.parents;
-    let meetings = closest::meetings(t, 6, 999, n, &ks, &kinds, m);
-    let edges = edge_levels(&meetings, &kinds, &parents, m);
-    let tally = tally_lines(t, 6, 999, n, &ks, m, &kinds, &parents, &edges, 4096);
+    let rows = w.rows;
+    let levels = w.levels;
+    let types = w.types;
+    let wanted = w.shape;
+    let mut runs = [0u16; 9216];
+    let mut shows = [0u16; 16384];
+    let tally = count_lines(&levels, &types, rows, wanted, &mut runs, &mut shows);
     let total = tally.total;
     if 4096 < total {
         return refused(8, 0);
     }
     let lines = tally.lines;
-    let rows = entry_rows(&ks, n, &kinds, m);
-    let copies = copies_of(lines, rows);
+    let held = entry_rows(&types, rows, wanted);
+    let copies = copies_of(lines, held);
     Summary {
         number: 0,
         place: 0,
         lines: lines,
-        rows: rows,
+        rows: held,
         copies: copies,
     }
 }

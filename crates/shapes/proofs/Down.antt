@@ -17,7 +17,7 @@ use Rattle.paper.specs.Tables.{typeNumber}
 use Rattle.paper.proofs.Lists.{same-self, same-eq, getD-has, up-snoc, last-snoc, up-last}
 use Rattle.paper.proofs.Tables.{number-at, number-same}
 use Rattle.types.specs.Types.{parentOf, Found}
-use Rattle.shapes.specs.Kinds.{Told, Numbers}
+use Rattle.shapes.specs.EntryTypes.{Told, Numbers}
 
 -- ---- the number of a type
 -- the number is the first place

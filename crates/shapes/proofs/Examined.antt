@@ -15,7 +15,7 @@ use Rattle.paper.specs.Calls.{Answer, refused, given, _>>=_, refuse, refuseAt, 
 use Rattle.paper.proofs.Lists.{or-left, or-right}
 use Rattle.paper.proofs.Calls.{count-entries}
 use Rattle.tables.specs.Place.{placeOf}
-use Rattle.shapes.specs.Work.{shapeReply}
+use Rattle.shapes.specs.Tests.{shapeReply}
 
 -- ---- a place among n
 pub place-some : (r n : ℕ) → r < n → placeOf r n ≡ some r

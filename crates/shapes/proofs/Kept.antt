@@ -27,35 +27,35 @@ pub within : (a x b : ℕ) → a ≤ x → x ≤ b → between a x b ≡ true
 within a x b lo hi = and (le-leb a x lo) (le-leb x b hi)
 
 -- ---- the labels of the type that an entry names, from label k on
-module _ (levels largest size : ℕ) (e : List ℕ) (fits : size ≤ levels) (k : ℕ) where
+module _ (f : Format) (size : ℕ) (e : List ℕ) (fits : size ≤ f .levels) (k : ℕ) where
   abbrev labels : List ℕ
-  labels = take size (words levels e 4)
+  labels = take size (words (f .levels) e 4)
 
   abbrev label : ℕ → Bool
-  label x = between 1 x largest
+  label x = between 1 x (f .labels)
 
   count : length labels ≡ size
-  count = omega (arith, length-take size (words levels e 4), length-words levels e 4)
+  count = omega (arith, length-take size (words (f .levels) e 4), length-words (f .levels) e 4)
 
-  module _ (x : ℕ) (lt : k < size) (at-k : x ≡ getD (words levels e 4) k 0) where
+  module _ (x : ℕ) (lt : k < size) (at-k : x ≡ getD (words (f .levels) e 4) k 0) where
     split : all label (drop k labels) ≡ label x && all label (drop (suc k) labels)
     split =
         ap (all label) (drop-cons labels k 0 (omega (arith, count)))
-        ∙ ap (λ y. label y && all label (drop (suc k) labels)) (getD-take size (words levels e 4) k 0 lt ∙ sym at-k)
+        ∙ ap (λ y. label y && all label (drop (suc k) labels)) (getD-take size (words (f .levels) e 4) k 0 lt ∙ sym at-k)
 
     -- A number that is no label of the format decides.
-    pub label-stop : between 1 x largest ≡ false → all (λ y. between 1 y largest) (drop k (take size (words levels e 4))) ≡ false
+    pub label-stop : between 1 x (f .labels) ≡ false → all (λ y. between 1 y (f .labels)) (drop k (take size (words (f .levels) e 4))) ≡ false
     label-stop no-label = split ∙ and-left (all label (drop (suc k) labels)) no-label
 
     -- After a label of the format the next one decides.
-    pub label-step : between 1 x largest ≡ true
-        → all (λ y. between 1 y largest) (drop k (take size (words levels e 4)))
-        ≡ all (λ y. between 1 y largest) (drop (k + 1) (take size (words levels e 4)))
+    pub label-step : between 1 x (f .labels) ≡ true
+        → all (λ y. between 1 y (f .labels)) (drop k (take size (words (f .levels) e 4)))
+        ≡ all (λ y. between 1 y (f .labels)) (drop (k + 1) (take size (words (f .levels) e 4)))
     label-step a-label =
         split ∙ ap (λ b. b && all label (drop (suc k) labels)) a-label ∙ ap (λ n. all label (drop n labels)) (sym (add-one k))
 
   -- Past the last label there is nothing left to break.
-  pub label-end : size ≤ k → all (λ y. between 1 y largest) (drop k (take size (words levels e 4))) ≡ true
+  pub label-end : size ≤ k → all (λ y. between 1 y (f .labels)) (drop k (take size (words (f .levels) e 4))) ≡ true
   label-end le = ap (all label) (drop-of-length-le labels {i = k} (omega (arith, count)))
 
 -- ---- the level of an entry after one of level b

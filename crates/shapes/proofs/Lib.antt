@@ -9,7 +9,8 @@ pub mod Fields
 pub mod Reading
 pub mod Examined
 pub mod Tested
-pub mod Prepared
-pub mod Filled
+pub mod Passed
 pub mod Inside
-pub mod Levelled
+pub mod Given
+pub mod Ends
+pub mod Prepared

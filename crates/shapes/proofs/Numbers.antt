@@ -19,7 +19,7 @@ use Rattle.types.proofs.Step.{below}
 use Rattle.types.proofs.Listed.{at-drop}
 use Rattle.shapes.proofs.Entries.{entry, entries-from, entries-end}
 use Rattle.shapes.proofs.Down.{number-none}
-use Rattle.shapes.specs.Kinds.{Told, Numbers, KindsOf}
+use Rattle.shapes.specs.EntryTypes.{Told, Numbers, NumbersEach}
 
 -- the number of the labels that are read from entry i is that of the type that it names
 pub read-numbers : (f : Format) (s parents labels : List ℕ) (count i : ℕ) (b : List ℕ) (size k : ℕ) → b ≡ rec (entryBytes f) i s → size ≡ byte b 1
@@ -81,25 +81,25 @@ module _ (f : Format) (s parents labels : List ℕ) (count : ℕ) where
             let here = ap (λ m. getD (set ks i k) m 0) e ∙ getD-set-same ks i k 0 room in
             (here ∙ is ts told ∙ sym (ap (λ m. getD (map (number ts) (entries f s)) m 0) e ∙ at-drop (number ts) 0 (entries f s) i (entry f s i) (drop (suc i) (entries f s)) (entries-from f s i lt)), omega (arith, here))
 
-    pub numbered-stop : count ≤ k → (n : ℕ) → n ≡ whole (entryBytes f) s → KindsOf parents labels count (entries f s) n (record { place = i; kinds = ks })
+    pub numbered-stop : count ≤ k → (n : ℕ) → n ≡ whole (entryBytes f) s → NumbersEach parents labels count (entries f s) n (record { place = i; types = ks })
     numbered-stop le n e ts told =
         let here : missing ts (entry f s i) ≡ true = ap not (number-not ts (named (entry f s i)) (omega (arith, is ts told, told .count-is))) in
         let at : place (missing ts) (drop i (entries f s)) ≡ 0 = ap (place (missing ts)) (entries-from f s i lt) ∙ rw (here, place) refl in
         record {
           place-is = omega (arith, num ts told .0);
           within = omega arith;
-          kind = λ late. let z : ⊥ = omega arith in absurd z;
+          type-is = λ late. let z : ⊥ = omega arith in absurd z;
           known = λ late. let z : ⊥ = omega arith in absurd z;
         }
 
   pub numbered-end : (i : ℕ) (ks : List ℕ) → Numbered i ks → (n : ℕ) → n ≡ whole (entryBytes f) s → i ≡ n
-      → KindsOf parents labels count (entries f s) n (record { place = n; kinds = ks })
+      → NumbersEach parents labels count (entries f s) n (record { place = n; types = ks })
   numbered-end i ks num n e q ts told =
       let at : place (missing ts) (drop i (entries f s)) ≡ 0 =
       ap (place (missing ts)) (entries-end f s i (omega arith)) in
       record {
         place-is = omega (arith, num ts told .0);
         within = omega arith;
-        kind = λ late j lj. num ts told .1 j (omega arith) .0;
+        type-is = λ late j lj. num ts told .1 j (omega arith) .0;
         known = λ late j lj. omega (arith, num ts told .1 j (omega arith) .1, told .count-is);
       }

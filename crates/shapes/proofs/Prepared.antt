@@ -1,185 +1,188 @@
--- What is known of a table and a shape as the tests go by, and the work at their end. Assumes nothing.
-use Prim.Native.Nat.{ℕ, _≤_, _<_}
+-- From what was read of a table and a shape to what the walks work on. Assumes nothing.
+use Prim.Native.Nat.{ℕ, suc, _+_, _≤_, _<_, max}
 use native.Mathlib.Omega.{arith}
-use mathlib.Core.Path.{_≡_, refl, sym, _∙_, ap, ap₂}
-use mathlib.Core.List.{List, []}
-use mathlib.Core.Option.{none}
-use lib.Dec.{lit≤}
-use lib.ListN.{length, take}
-use Rattle.paper.specs.Format.{base, mostRows, mostTypes, mostEntries, rowBytes, entryBytes, whole}
-use Rattle.paper.specs.Tables.{rows, types, badRow}
-use Rattle.paper.specs.Shapes.{entries, badEntry, shapeOver, entryKept}
-use Rattle.paper.specs.Calls.{refused, given, examine, typeTooMany, tests1-3, tests5-6, tests1-7}
-use Rattle.paper.proofs.Tables.{none-rules}
-use Rattle.paper.proofs.Shapes.{levelOf, size}
-use Rattle.paper.proofs.Calls.{passed1-3, few-rows, count-rows, count-entries}
-use Rattle.tables.specs.Reply.{examined}
-use Rattle.tables.specs.declared.table.Examined.{Examined}
-use Rattle.tables.proofs.Examine as table-laws
-use Rattle.types.specs.Types.{Lists}
-use Rattle.types.specs.declared.list.Types.{Types}
-use Rattle.types.proofs.Few.{few-from}
-use Rattle.closest.specs.Node.{Typed}
-use Rattle.shapes.specs.Kinds.{Told, Kinded, KindsOf}
-use Rattle.shapes.specs.Ways.{Laid, wayAt}
-use Rattle.shapes.specs.Work.{shapeReply, shapeExamined, shapeIn, Holds, Prepared}
-use Rattle.shapes.specs.declared.kinds.Kinds.{Kinds}
-use Rattle.shapes.specs.declared.ways.Ways.{Ways}
-use Rattle.shapes.specs.declared.work.ShapeExamined.{ShapeExamined}
+use mathlib.Core.Path.{_≡_, refl, sym, _∙_, ap, ap₂, subst}
+use mathlib.Core.List.{List}
+use lib.ListN.{length, getD}
+use Rattle.paper.specs.Format.{base, mostTypes}
+use Rattle.paper.specs.Tables.{rows, types}
+use Rattle.paper.specs.Closeness.{Node, nodes, kindsMeet}
+use Rattle.paper.specs.Shapes as Paper
+use Rattle.paper.specs.Calls.{refused, tests1-7}
+use Rattle.closest.specs.Deepest.{typesMeet, Meetings}
+use Rattle.closest.specs.Runs.{SoundRows, Levelled, LevelsOf, Rows}
+use Rattle.closest.proofs.Deepest.{types-meet, kinds-shallow}
+use Rattle.closest.proofs.Meets.{kind-few, ks-long}
+use Rattle.shapes.specs.Ways.{wayAt}
+use Rattle.shapes.specs.Tests.{Read, Passes, shapeIn}
+use Rattle.shapes.specs.Edges.{Inside, Known, meetingOf}
+use Rattle.shapes.specs.Shape.{levelOf, typeOf, parentOf, edgeOf, Sized, Shaped, Drawn}
+use Rattle.shapes.specs.Work.{Holds, Ready, Prepared}
+use Rattle.shapes.specs.declared.shape.Shape.{Shape}
+use Rattle.shapes.specs.declared.tests.Tested.{Tested}
 use Rattle.shapes.specs.declared.work.Work.{Work}
-use Rattle.shapes.proofs.Told.{told}
-use Rattle.shapes.proofs.Examined as shape-laws
-use Rattle.shapes.proofs.Examined.{place-some, place-none}
-use Rattle.shapes.proofs.Tested.{missing-some, missing-none, refused-table, refused-types, refused-shape, refused-missing, none-refused, workOf}
+use Rattle.shapes.proofs.Given as Given
 
--- a refusal is no work
-pub unprepared : (t s : List ℕ) (w : Work) (k p : ℕ) → (w .number ≡ k) × (w .place ≡ p) → (k ≡ 0 → ⊥) → tests1-7 base t s ≡ refused k p → Prepared t s w
-unprepared t s w k p is ne e = record {
-  refused-is = λ _. e ∙ ap₂ (λ a b. refused a b) (sym (is .0)) (sym (is .1));
-  given-is = λ z. absurd (ne (sym (is .0) ∙ z));
-  typed = λ z. absurd (ne (sym (is .0) ∙ z));
-  few-rows = λ z. absurd (ne (sym (is .0) ∙ z));
-  few-types = λ z. absurd (ne (sym (is .0) ∙ z));
-  known = λ z. absurd (ne (sym (is .0) ∙ z));
-  holds = λ z. absurd (ne (sym (is .0) ∙ z));
+-- A refusal is no work.
+pub refusal : (t s : List ℕ) (r : Tested) (w : Work) → Passes t s r → (r .number ≡ 0 → ⊥) → (w .number ≡ r .number) × (w .place ≡ r .place) → Prepared t s w
+refusal t s r w p ne is = record {
+  refused-is = λ _. p .refused-is ne ∙ ap₂ (λ a b. refused a b) (sym (is .0)) (sym (is .1));
+  ready = λ z. absurd (ne (sym (is .0) ∙ z));
 }
 
--- ---- tests 1 to 3
--- the table passes them, and has n rows
-pub record Tabled (t : List ℕ) (n : ℕ) : Type 0 where
-  pub passed : tests1-3 base t ≡ given (rows base t)
-  pub whole-rows : n ≡ whole (rowBytes base) t
-  pub kept : badRow base (rows base t) ≡ none
-  pub few : n ≤ mostRows
+module _ {t s : List ℕ} {r : Tested} (p : Passes t s r) (z : r .number ≡ 0) where
+  abbrev ns : List Node
+  ns = nodes (rows base t)
 
-module _ (t : List ℕ) (x : Examined) (e : examined x ≡ examine base t) where
-  pub table-refused : (s : List ℕ) → (x .number ≡ 0 → ⊥) → tests1-7 base t s ≡ refused (x .number) (x .place)
-  table-refused s ne =
-      refused-table base t s (x .number) (x .place) (table-laws.examined-refused base t (x .number) (x .place) (x .rows) e ne)
+  abbrev sh : Paper.Shape
+  sh = shapeIn base t s
 
-  pub table-passed : x .number ≡ 0 → Tabled t (x .rows)
-  table-passed z =
-      let (g, w) = table-laws.examined-given base t (x .number) (x .place) (x .rows) e z in
-      let (same, k, short) = passed1-3 base t (rows base t) g in
-      record { passed = g; whole-rows = w; kept = k; few = omega (arith, w, few-rows base t short, count-rows base t) }
+  held : Read (shapeIn base t s) r
+  held = p .reads z
 
--- ---- test 4
--- the table passes test 4 too, and ty is the list of its types
-pub record Listed (t : List ℕ) (n : ℕ) (ty : Types) : Type 0 where
-  pub table : Tabled t n
-  pub lists : Lists (rows base t) ty
-  pub late : length (rows base t) ≤ ty .over
+  inways : (e : ℕ) → e < r .entries → e < length (sh .ways)
+  inways e lt = omega (arith, held .counted)
 
-module _ {t : List ℕ} {n : ℕ} {ty : Types} (table : Tabled t n) (lists : Lists (rows base t) ty) where
-  pub types-refused : (s : List ℕ) → ty .over < n → tests1-7 base t s ≡ refused 4 (ty .over)
-  types-refused s lt =
-      refused-types base t s (table .passed) (ty .over)
-      (lists .over ∙ place-some (ty .over) (length (rows base t)) (omega (arith, table .whole-rows, count-rows base t)))
+  some-entry : 1 ≤ r .entries
+  some-entry = omega (arith, Given.some-entry t s (p .given-is z), held .counted)
 
-  pub types-listed : n ≤ ty .over → Listed t n ty
-  types-listed le = record { table = table; lists = lists; late = omega (arith, table .whole-rows, count-rows base t) }
+  -- ---- what the levels and the edges ask for
+  pub sound-rows : SoundRows base (r .rows) t
+  sound-rows = record { sound = p .typed z .sound; rows-n = p .typed z .rows-n; few = p .few-rows z }
 
-module _ {t : List ℕ} {n : ℕ} {ty : Types} (l : Listed t n ty) where
-  none-over : typeTooMany (rows base t) ≡ none
-  none-over = l .lists .over ∙ place-none (ty .over) (length (rows base t)) (l .late)
-
-  few-listed : length (types (rows base t)) ≤ mostTypes
-  few-listed = few-from (rows base t) (ty .over) (length (rows base t)) (l .lists .over) (l .late)
-
-  pub told-types : Told (types (rows base t)) (ty .parents) (ty .labels) (ty .count)
-  told-types = told (rows base t) ty (l .lists) (l .late)
-
-  typed-rows : Typed 6 999 n t (ty .kinds)
-  unfolding base
-  typed-rows =
-      let rows-n : n ≡ length (rows base t) = l .table .whole-rows ∙ sym (count-rows base t) in
-      record {
-        sound = record { kept = l .table .kept; shallow = lit≤ tt };
-        rows-n = rows-n;
-        listed = ap (λ m. take m (ty .kinds)) rows-n ∙ l .lists .kind (l .late);
-      }
-
--- ---- tests 5 and 6
--- the shape passes them, and has m entries
-pub record Shaped (s : List ℕ) (m : ℕ) : Type 0 where
-  pub passed : tests5-6 base s ≡ given (entries base s)
-  pub whole-entries : m ≡ whole (entryBytes base) s
-  pub kept : badEntry base (entries base s) ≡ none
-  pub few : m ≤ mostEntries
-
-module _ (s : List ℕ) (x : ShapeExamined) (e : shapeExamined x ≡ shapeReply base s) where
-  pub shape-refused : {t : List ℕ} {n : ℕ} {ty : Types} → Listed t n ty → (x .number ≡ 0 → ⊥) → tests1-7 base t s ≡ refused (x .number) (x .place)
-  shape-refused {t} l ne =
-      refused-shape base t s (l .table .passed) (none-over l) (x .number) (x .place)
-      (shape-laws.examined-refused base s (x .number) (x .place) (x .entries) e ne)
-
-  pub shape-passed : x .number ≡ 0 → Shaped s (x .entries)
-  shape-passed z = record {
-    passed = shape-laws.examined-given base s (x .number) (x .place) (x .entries) e z;
-    whole-entries = shape-laws.counted base s (x .number) (x .place) (x .entries) e z;
-    kept = shape-laws.kept base s (x .number) (x .place) (x .entries) e z;
-    few = shape-laws.few-entries base s (x .number) (x .place) (x .entries) e z;
+  pub known : Known (r .entries) (r .types) (r .parents)
+  known = record {
+    inside = record {
+      few = held .few;
+      under = λ e lt. omega (arith, held .parent-is e lt, Given.parent-in t s (p .given-is z) e (inways e lt), held .counted);
+    };
+    typed = λ e lt. omega (arith, p .known z e lt, p .few-types z);
   }
 
--- ---- test 7, and the work
-module _ {t s : List ℕ} {n m : ℕ} {ty : Types} (l : Listed t n ty) (h : Shaped s m) (ks : Kinds)
-    (k : KindsOf (ty .parents) (ty .labels) (ty .count) (entries base s) m ks) where
-  kinded : Kinded (types (rows base t)) (entries base s) m ks
-  kinded = k (types (rows base t)) (told-types l)
+  pub rows-are : (levels : List ℕ) → LevelsOf base (r .rows) t levels → length levels ≡ 1024 → Rows (r .rows) levels (r .«row_types»)
+  rows-are levels ls long = record {
+    few = p .few-rows z;
+    levels-long = omega (arith, p .few-rows z);
+    types-long = ks-long base (r .rows) t (r .«row_types») (p .typed z);
+    level-some = ls .level-some;
+    type-few = λ i lt. omega (arith, kind-few base (r .rows) t (r .«row_types») (p .typed z) i lt, p .few-types z);
+  }
 
-  entries-m : m ≡ length (entries base s)
-  entries-m = h .whole-entries ∙ sym (count-entries base s)
+  module _ (levels meetings : List ℕ) (ls : LevelsOf base (r .rows) t levels) (long : length levels ≡ 1024)
+      (met : Meetings (r .rows) levels (r .«row_types») (r .types) meetings)
+      (d : Shape) (drawn : Drawn (r .entries) (r .levels) (r .labels) (r .types) (r .parents) meetings d) where
+    levelled : Levelled base (r .rows) t levels (r .«row_types»)
+    levelled = record { typed = p .typed z; level-is = ls .level-is }
 
-  pub kinds-refused : ks .place < m → tests1-7 base t s ≡ refused 7 (ks .place)
-  kinds-refused lt =
-      refused-missing base t s (l .table .passed) (none-over l) (h .passed) (ks .place)
-      (missing-some (rows base t) (entries base s) (ks .place) (kinded .place-is) (omega (arith, entries-m)))
+    -- ---- an entry of the shape as it was read
+    inside : (e : ℕ) → e < d .entries → e < r .entries
+    inside e lt = omega (arith, drawn .entries-are)
 
-  module _ (le : m ≤ ks .place) (ws : Ways) (laid : Laid (shapeOver [] (entries base s)) m ws) where
+    type-at : (e : ℕ) → typeOf d e ≡ getD (r .types) e 0
+    type-at e = ap (λ l. getD l e 0) (drawn .types-are)
+
+    parent-at : (e : ℕ) → parentOf d e ≡ getD (r .parents) e 0
+    parent-at e = ap (λ l. getD l e 0) (drawn .parents-are)
+
+    level-at : (e : ℕ) → levelOf d e ≡ getD (r .levels) e 0
+    level-at e = ap (λ l. getD l e 0) (drawn .levels-are)
+
+    type-few : (e : ℕ) → e < r .entries → getD (r .types) e 0 < mostTypes
+    type-few = known .typed
+
+    -- ---- where types meet
+    meeting-is : (e f : ℕ) → e < r .entries → f < r .entries → meetingOf meetings (r .types) e f ≡ kindsMeet ns (getD (r .types) e 0) (getD (r .types) f 0)
+    meeting-is e f le lf =
+        let few = held .few in
+        ap₂ (λ a b. max a b) (met (getD (r .types) f 0) e (type-few f lf) (omega arith)) (met (getD (r .types) e 0) f (type-few e le) (omega arith))
+        ∙ types-meet base (r .rows) t levels (r .«row_types») levelled (getD (r .types) e 0) (getD (r .types) f 0)
+
+    meets : (e f : ℕ) → e < d .entries → f < d .entries → meetingOf meetings (d .types) e f ≡ kindsMeet ns (typeOf d e) (typeOf d f)
+    meets e f le lf =
+        ap (λ l. meetingOf meetings l e f) (drawn .types-are) ∙ meeting-is e f (inside e le) (inside f lf)
+        ∙ ap₂ (λ a b. kindsMeet ns a b) (sym (type-at e)) (sym (type-at f))
+
+    edge-is : (c : ℕ) → c < d .entries → edgeOf d c ≡ kindsMeet ns (typeOf d (parentOf d c)) (typeOf d c)
+    edge-is c lt =
+        drawn .edges-are c (inside c lt) ∙ meeting-is (getD (r .parents) c 0) c (known .inside .under c (inside c lt)) (inside c lt)
+        ∙ ap₂ (λ a b. kindsMeet ns a b) (sym (type-at (getD (r .parents) c 0)) ∙ ap (typeOf d) (sym (parent-at c))) (sym (type-at c))
+
+    -- ---- parents and levels
+    nearest : (c : ℕ) → 0 < c → c < d .entries → (parentOf d c < c) × (levelOf d c ≡ suc (levelOf d (parentOf d c)))
+    nearest c pos lt =
+        let lc = inside c lt in
+        let n = Given.over t s (p .given-is z) c pos (inways c lc) in
+        let is = parent-at c ∙ held .parent-is c lc in
+        let up = level-at (parentOf d c) ∙ held .level (parentOf d c) (omega (arith, is, n .0)) ∙ ap (λ e. getD (sh .levels) e 0) is in
+        (omega (arith, is, n .0), omega (arith, level-at c, held .level c lc, up, n .1))
+
+    top : levelOf d 0 ≡ 1
+    top = level-at 0 ∙ held .level 0 some-entry ∙ Given.top t s (p .given-is z)
+
+    -- the base has six levels
+    deep : (e : ℕ) → e < r .entries → levelOf d e ≤ base .levels
+    unfolding base
+    deep e lt = let w = Given.way-deep t s (p .given-is z) e (inways e lt) in omega (arith, level-at e, held .level e lt, w .0, w .1)
+
+    shallow : {a b : ℕ} → a ≡ b → b ≤ base .levels → a ≤ 8
+    unfolding base
+    shallow e le = omega arith
+
+    sized : Sized d
+    sized = record {
+      some = omega (arith, some-entry, drawn .entries-are);
+      few = omega (arith, held .few, drawn .entries-are);
+      typed = λ e lt. omega (arith, type-at e, type-few e (inside e lt));
+      root = parent-at 0 ∙ held .parent-is 0 some-entry ∙ Given.root t s (p .given-is z);
+      under = λ c pos lt. nearest c pos lt .0;
+      top = top;
+      down = λ c pos lt. nearest c pos lt .1;
+      deep = λ c lt. shallow (edge-is c lt) (kinds-shallow base (r .rows) t (r .«row_types») (p .typed z) (typeOf d (parentOf d c)) (typeOf d c));
+      before = λ e lt. omega (arith, drawn .ends-are .before e, drawn .entries-are);
+      last = λ c pos lt. subst (λ q. c < getD (d .ends) q 0) (sym (parent-at c)) (drawn .ends-are .last c pos (inside c lt));
+    }
+
     abbrev work : Work
     work = record {
       number = 0;
       place = 0;
-      rows = n;
-      types = ty .kinds;
-      entries = m;
-      levels = ws .levels;
-      labels = ws .labels;
-      parents = ws .parents;
-      kinds = ks .kinds;
-      ways = ws .ways;
+      rows = r .rows;
+      levels = levels;
+      types = r .«row_types»;
+      meetings = meetings;
+      shape = d;
+      ways = r .ways;
     }
 
-    all-passed : tests1-7 base t s ≡ given (workOf (rows base t) (entries base s))
-    all-passed =
-        none-refused base t s (l .table .passed) (none-over l) (h .passed)
-        (missing-none (rows base t) (entries base s) (ks .place) (kinded .place-is) (omega (arith, entries-m)))
-
-    ways-m : m ≡ length (shapeIn base t s .ways)
-    unfolding badEntry
-    ways-m =
-        entries-m
-        ∙ sym (size base (types (rows base t)) (entries base s) (none-rules (entryKept base) levelOf 0 0 (entries base s) (h .kept)))
-
-    held : Holds (shapeIn base t s) work
-    unfolding shapeOver
-    held = record {
-      counted = ways-m;
-      few = h .few;
-      level = laid .level;
-      label = laid .label;
-      parent-is = laid .parent-is;
-      kind-is = kinded .kind le;
-      way-is = λ e lt. ap (wayAt (ws .ways) e) (laid .level e lt) ∙ laid .way-is e lt;
+    holds : Holds sh work
+    holds = record {
+      counted = drawn .entries-are ∙ held .counted;
+      level-is = λ e lt. level-at e ∙ held .level e (inside e lt);
+      label-is = λ e lt. ap (λ l. getD l e 0) (drawn .labels-are) ∙ held .label e (inside e lt);
+      type-is = λ e lt. type-at e ∙ held .type-is e (inside e lt);
+      parent-is = λ e lt. parent-at e ∙ held .parent-is e (inside e lt);
+      way-is = λ e lt. ap (wayAt (r .ways) e) (level-at e) ∙ held .way-is e (inside e lt);
     }
 
-    pub prepared : Prepared t s work
+    pub prepared : Prepared t s (record {
+      number = 0;
+      place = 0;
+      rows = r .rows;
+      levels = levels;
+      types = r .«row_types»;
+      meetings = meetings;
+      shape = d;
+      ways = r .ways;
+    })
     prepared = record {
       refused-is = λ ne. absurd (ne refl);
-      given-is = λ _. all-passed;
-      typed = λ _. typed-rows l;
-      few-rows = λ _. l .table .few;
-      few-types = λ _. few-listed l;
-      known = λ _. kinded .known le;
-      holds = λ _. held;
+      ready = λ _. record {
+        given-is = p .given-is z;
+        levelled = levelled;
+        rows-are = rows-are levels ls long;
+        shaped = record { sized = sized; meets = edge-is };
+        shallow = λ e lt. deep e (inside e lt);
+        meets = meets;
+        holds = holds;
+      };
     }

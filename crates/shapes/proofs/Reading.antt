@@ -21,36 +21,36 @@ use Rattle.shapes.proofs.Entries.{entry-size}
 use Rattle.shapes.proofs.Fields.{shape, level-is, label-is, way-long, level-fits, first-level, way-last, way-above}
 
 -- the arrays hold the entries before i
-pub record Read (f : Format) (s : List ℕ) (i : ℕ) (depths labels parents ways : List ℕ) : Type 0 where
-  pub laid : Laid (shape f s) i (record { levels = depths; labels = labels; parents = parents; ways = ways })
-  pub depths-long : length depths ≡ mostEntries
+pub record Read (f : Format) (s : List ℕ) (i : ℕ) (levels labels parents ways : List ℕ) : Type 0 where
+  pub laid : Laid (shape f s) i (record { levels = levels; labels = labels; parents = parents; ways = ways })
+  pub levels-long : length levels ≡ mostEntries
   pub labels-long : length labels ≡ mostEntries
   pub parents-long : length parents ≡ mostEntries
   pub ways-long : length ways ≡ wayPlaces * mostEntries
 
-pub read-none : (f : Format) (s depths labels parents ways : List ℕ) → length depths ≡ mostEntries → length labels ≡ mostEntries
-    → length parents ≡ mostEntries → length ways ≡ wayPlaces * mostEntries → Read f s 0 depths labels parents ways
-read-none f s depths labels parents ways a b c d = record {
+pub read-none : (f : Format) (s levels labels parents ways : List ℕ) → length levels ≡ mostEntries → length labels ≡ mostEntries
+    → length parents ≡ mostEntries → length ways ≡ wayPlaces * mostEntries → Read f s 0 levels labels parents ways
+read-none f s levels labels parents ways a b c d = record {
   laid = record {
     level = λ e lt. absurd (not-suc-le-zero lt);
     label = λ e lt. absurd (not-suc-le-zero lt);
     parent-is = λ e lt. absurd (not-suc-le-zero lt);
     way-is = λ e lt. absurd (not-suc-le-zero lt);
   };
-  depths-long = a;
+  levels-long = a;
   labels-long = b;
   parents-long = c;
   ways-long = d;
 }
 
--- what the reading of a shape of n entries asks for
+-- what the reading of a shape of so many entries asks for
 abbrev pub Asked : Format → List ℕ → ℕ → Type 0
 Asked f s n =
     ((n ≡ whole (entryBytes f) s) × (n ≤ mostEntries) × (f .levels ≤ wayPlaces)) × (badEntry f (entries f s) ≡ none)
 
-pub read-all : (f : Format) (s : List ℕ) (i n : ℕ) (depths labels parents ways : List ℕ) → i ≤ n → n ≤ i → Read f s i depths labels parents ways
-    → Laid (shape f s) n (record { levels = depths; labels = labels; parents = parents; ways = ways })
-read-all f s i n depths labels parents ways le ge read =
+pub read-all : (f : Format) (s : List ℕ) (i n : ℕ) (levels labels parents ways : List ℕ) → i ≤ n → n ≤ i → Read f s i levels labels parents ways
+    → Laid (shape f s) n (record { levels = levels; labels = labels; parents = parents; ways = ways })
+read-all f s i n levels labels parents ways le ge read =
     let x = read .laid in
     record {
       level = λ e lt. x .level e (omega arith);
@@ -94,7 +94,7 @@ module _ (f : Format) (s : List ℕ) (n : ℕ) (asked : Asked f s n) (i : ℕ) (
         let (count, few, deep) = asked .0 in
         (omega arith, omega arith, omega arith, λ z. el ∙ e ∙ first-level f s sound i inside z)
 
-    module _ (depths labels parents ws : List ℕ) (read : Read f s i depths labels parents ws) (after : List ℕ) (put : Put ws i l after)
+    module _ (levels labels parents ws : List ℕ) (read : Read f s i levels labels parents ws) (after : List ℕ) (put : Put ws i l after)
         (long : length after ≡ wayPlaces * mostEntries) where
       -- the ways before it stay
       old-way : (e : ℕ) → e < i → wayAt after e (getD (shape f s .levels) e 0) ≡ way (shape f s) e
@@ -130,19 +130,19 @@ module _ (f : Format) (s : List ℕ) (n : ℕ) (asked : Asked f s n) (i : ℕ) (
           way-by after i l (omega (arith, level-read)) (way (shape f s) i) (m ∙ sym level) new-place
 
       pub read-more : (d a p z : ℕ) → d ≡ byte b 0 → z ≡ byte b 1 → a ≡ getD (words (f .levels) b headBytes) (z - 1) 0
-          → p ≡ lastOr 0 (up (wayAt after i l)) → Read f s (i + 1) (set depths i d) (set labels i a) (set parents i p) after
+          → p ≡ lastOr 0 (up (wayAt after i l)) → Read f s (i + 1) (set levels i d) (set labels i a) (set parents i p) after
       read-more d a p z ed ez ea ep =
           let x = read .laid in
           let ea′ = ea ∙ ap₂ (λ w k. getD (words (f .levels) w headBytes) (k - 1) 0) eb (ez ∙ own-byte 1) ∙ sym (label-is f s sound i inside) in
           let in-entries = level-read .0 in
           record {
             laid = record {
-              level = write-more (λ e. getD (shape f s .levels) e 0) depths i d (omega (arith, read .depths-long)) (x .level) (ed ∙ sym el ∙ level);
+              level = write-more (λ e. getD (shape f s .levels) e 0) levels i d (omega (arith, read .levels-long)) (x .level) (ed ∙ sym el ∙ level);
               label = write-more (λ e. getD (shape f s .labels) e 0) labels i a (omega (arith, read .labels-long)) (x .label) ea′;
               parent-is = write-more (parent (shape f s)) parents i p (omega (arith, read .parents-long)) (x .parent-is) (ep ∙ ap (λ w. lastOr 0 (up w)) new-way);
               way-is = below-more (λ e. wayAt after e (getD (shape f s .levels) e 0) ≡ way (shape f s) e) i old-way (ap (wayAt after i) (sym level) ∙ new-way);
             };
-            depths-long = length-set depths i d ∙ read .depths-long;
+            levels-long = length-set levels i d ∙ read .levels-long;
             labels-long = length-set labels i a ∙ read .labels-long;
             parents-long = length-set parents i p ∙ read .parents-long;
             ways-long = long;

@@ -12,7 +12,7 @@ use Rattle.types.specs.Types.{Lists}
 use Rattle.types.specs.declared.list.Types.{Types}
 use Rattle.types.proofs.Ways.{closed, way-whole}
 use Rattle.types.proofs.Few.{few-from}
-use Rattle.shapes.specs.Kinds.{Told}
+use Rattle.shapes.specs.EntryTypes.{Told}
 
 -- no type is empty
 whole-type : (rs : List Row) (v : List ℕ) → Has v (types rs) → 0 < length v

@@ -1,4 +1,6 @@
-pub mod Kinds
+pub mod EntryTypes
 pub mod Ways
-pub mod Work
+pub mod Tests
+pub mod Shape
 pub mod Edges
+pub mod Work

@@ -20,9 +20,9 @@ pub record Put (before : List ℕ) (e l : ℕ) (after : List ℕ) : Type 0 where
   pub above : (k : ℕ) → k + 1 < l → getD after (wayPlaces * e + k) 0 ≡ getD before (wayPlaces * (e - 1) + k) 0
   pub own : getD after (wayPlaces * e + (l - 1)) 0 ≡ e
 
--- each of the n entries of a shape as it was read: level, last label, parent, way
-pub record Laid (s : Shape) (n : ℕ) (r : Ways) : Type 0 where
-  pub level : (e : ℕ) → e < n → getD (r .levels) e 0 ≡ getD (s .levels) e 0
-  pub label : (e : ℕ) → e < n → getD (r .labels) e 0 ≡ getD (s .labels) e 0
-  pub parent-is : (e : ℕ) → e < n → getD (r .parents) e 0 ≡ parent s e
-  pub way-is : (e : ℕ) → e < n → wayAt (r .ways) e (getD (s .levels) e 0) ≡ way s e
+-- each of so many entries of a shape as it was read: level, last label, parent, way
+pub record Laid (s : Shape) (entries : ℕ) (r : Ways) : Type 0 where
+  pub level : (e : ℕ) → e < entries → getD (r .levels) e 0 ≡ getD (s .levels) e 0
+  pub label : (e : ℕ) → e < entries → getD (r .labels) e 0 ≡ getD (s .labels) e 0
+  pub parent-is : (e : ℕ) → e < entries → getD (r .parents) e 0 ≡ parent s e
+  pub way-is : (e : ℕ) → e < entries → wayAt (r .ways) e (getD (s .levels) e 0) ≡ way s e

@@ -1,47 +1,41 @@
--- A table and a shape that pass tests 1 to 7, as the layers above use them. Assumes nothing.
+-- A table and a shape that pass tests 1 to 7, as judging, reshaping and summarising work on them. Assumes nothing.
 use Prim.Native.Nat.{ℕ, _≤_, _<_}
 use mathlib.Core.Path.{_≡_}
 use mathlib.Core.List.{List}
 use lib.ListN.{length, getD}
-use Rattle.paper.specs.Format.{Format, base, mostEntries, mostTypes}
-use Rattle.paper.specs.Tables.{rows, types}
-use Rattle.paper.specs.Closeness.{nodes}
-use Rattle.paper.specs.Shapes.{Shape, entries, shapeOver, kind, parent, way}
-use Rattle.paper.specs.Calls.{_>>=_, Reply, refused, given, reply, tests5-6, tests1-7}
-use Rattle.closest.specs.Node.{Typed}
+use Rattle.paper.specs.Format.{base}
+use Rattle.paper.specs.Tables.{rows}
+use Rattle.paper.specs.Closeness.{nodes, kindsMeet}
+use Rattle.paper.specs.Shapes as Paper
+use Rattle.paper.specs.Calls.{refused, given, tests1-7}
+use Rattle.closest.specs.Runs.{Levelled, Rows}
 use Rattle.shapes.specs.Ways.{wayAt}
-use Rattle.shapes.specs.declared.work.ShapeExamined.{ShapeExamined}
+use Rattle.shapes.specs.Tests.{shapeIn}
+use Rattle.shapes.specs.Edges.{meetingOf}
+use Rattle.shapes.specs.Shape.{levelOf, labelOf, typeOf, parentOf, Shaped}
 use Rattle.shapes.specs.declared.work.Work.{Work}
 
--- number and place of 5 and 6, or the number of entries
-unfoldable pub shapeReply : Format → List ℕ → Reply ℕ
-shapeReply f s = reply 0 do
-  es ← tests5-6 f s
-  given (length es)
+-- the entries of the paper's shape: their number, and of each its level, last label, type number, parent and way
+pub record Holds (s : Paper.Shape) (w : Work) : Type 0 where
+  pub counted : w .shape .entries ≡ length (s .ways)
+  pub level-is : (e : ℕ) → e < w .shape .entries → levelOf (w .shape) e ≡ getD (s .levels) e 0
+  pub label-is : (e : ℕ) → e < w .shape .entries → labelOf (w .shape) e ≡ getD (s .labels) e 0
+  pub type-is : (e : ℕ) → e < w .shape .entries → typeOf (w .shape) e ≡ Paper.kind s e
+  pub parent-is : (e : ℕ) → e < w .shape .entries → parentOf (w .shape) e ≡ Paper.parent s e
+  pub way-is : (e : ℕ) → e < w .shape .entries → wayAt (w .ways) e (levelOf (w .shape) e) ≡ Paper.way s e
 
-abbrev pub shapeExamined : ShapeExamined → Reply ℕ
-shapeExamined r = record { number = r .number; place = r .place; rest = r .entries }
+-- what tests 1 to 7 give where none refuses
+pub record Ready (t s : List ℕ) (w : Work) : Type 0 where
+  pub given-is : tests1-7 base t s ≡ given (record { rows = rows base t; nodes = nodes (rows base t); shape = shapeIn base t s })
+  pub levelled : Levelled base (w .rows) t (w .levels) (w .types)
+  pub rows-are : Rows (w .rows) (w .levels) (w .types)
+  pub shaped : Shaped (nodes (rows base t)) (w .shape)
+  pub shallow : (e : ℕ) → e < w .shape .entries → levelOf (w .shape) e ≤ base .levels
+  pub meets : (e f : ℕ) → e < w .shape .entries → f < w .shape .entries
+      → meetingOf (w .meetings) (w .shape .types) e f ≡ kindsMeet (nodes (rows base t)) (typeOf (w .shape) e) (typeOf (w .shape) f)
+  pub holds : Holds (shapeIn base t s) w
 
--- the shape of the bytes s over the types of the table t
-abbrev pub shapeIn : Format → List ℕ → List ℕ → Shape
-shapeIn f t s = shapeOver (types (rows f t)) (entries f s)
-
--- the entries of a shape as they were read: number, level, last label, parent, type number, way
-pub record Holds (s : Shape) (w : Work) : Type 0 where
-  pub counted : w .entries ≡ length (s .ways)
-  pub few : w .entries ≤ mostEntries
-  pub level : (e : ℕ) → e < w .entries → getD (w .levels) e 0 ≡ getD (s .levels) e 0
-  pub label : (e : ℕ) → e < w .entries → getD (w .labels) e 0 ≡ getD (s .labels) e 0
-  pub parent-is : (e : ℕ) → e < w .entries → getD (w .parents) e 0 ≡ parent s e
-  pub kind-is : (e : ℕ) → e < w .entries → getD (w .kinds) e 0 ≡ kind s e
-  pub way-is : (e : ℕ) → e < w .entries → wayAt (w .ways) e (getD (w .levels) e 0) ≡ way s e
-
--- what tests 1 to 7 say of a table t and a shape s, and where none refuses, the rows' type numbers and the entries
+-- what tests 1 to 7 say of a table t and a shape s
 pub record Prepared (t s : List ℕ) (w : Work) : Type 0 where
   pub refused-is : (w .number ≡ 0 → ⊥) → tests1-7 base t s ≡ refused (w .number) (w .place)
-  pub given-is : w .number ≡ 0 → tests1-7 base t s ≡ given (record { rows = rows base t; nodes = nodes (rows base t); shape = shapeIn base t s })
-  pub typed : w .number ≡ 0 → Typed 6 999 (w .rows) t (w .types)
-  pub few-rows : w .number ≡ 0 → w .rows ≤ 1024
-  pub few-types : w .number ≡ 0 → length (types (rows base t)) ≤ mostTypes
-  pub known : w .number ≡ 0 → (e : ℕ) → e < w .entries → getD (w .kinds) e 0 < length (types (rows base t))
-  pub holds : w .number ≡ 0 → Holds (shapeIn base t s) w
+  pub ready : w .number ≡ 0 → Ready t s w

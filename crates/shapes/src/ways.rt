@@ -1,11 +1,13 @@
 // The entries of a shape: level, last label, parent and way of each.
+use paper::Format;
 ghost use mathlib.Core.Path.{_≡_};
 ghost use mathlib.Core.List.{[]};
 ghost use mathlib.Core.Option.{none};
 ghost use Prim.Native.Nat.{_≤_, _<_};
 ghost use Rattle.paper.specs.Lists.{lastOr, up};
-ghost use Rattle.paper.specs.Format.{format, entryBytes, whole};
-ghost use Rattle.paper.specs.Shapes.{entries, badEntry, shapeOver};
+ghost use Rattle.paper.specs.Format.{mostEntries, entryBytes, whole};
+ghost use Rattle.paper.specs.Shapes as Shapes;
+ghost use Rattle.paper.specs.Shapes.{badEntry, shapeOver};
 ghost use Rattle.shapes.specs.Ways.{wayAt, Put, Laid};
 
 // The way of entry e, of level l, is put behind the ways of the entries before it. Each way has eight places.
@@ -44,30 +46,30 @@ pub struct Ways {
 }
 
 // The entries of a shape that keeps the entry rules.
-pub fn entry_ways(s: &[u8], levels: usize, largest: usize, n: usize) -> Ways
-    requires { ⌜ (n ≡ whole (entryBytes (format levels largest)) (now s)) × (n ≤ 16) × (levels ≤ 8) ⌝ }
-    requires { ⌜ badEntry (format levels largest) (entries (format levels largest) (now s)) ≡ none ⌝ }
-    ensures { λ r. ⌜ Laid (shapeOver [] (entries (format levels largest) (now (s .entry)))) n r ⌝ }
+pub fn entry_ways(shape: &[u8], f: Format, entries: usize) -> Ways
+    requires { ⌜ (entries ≡ whole (entryBytes f) (now shape)) × (entries ≤ mostEntries) × (f .levels ≤ 8) ⌝ }
+    requires { ⌜ badEntry f (Shapes.entries f (now shape)) ≡ none ⌝ }
+    ensures { λ r. ⌜ Laid (shapeOver [] (Shapes.entries f (now (shape .entry)))) entries r ⌝ }
 {
-    let w = 4 + 2 * levels;
-    let mut depths = [0u8; 16];
+    let w = bytes::entry_bytes(f);
+    let mut levels = [0u8; 16];
     let mut labels = [0u16; 16];
     let mut parents = [0u8; 16];
     let mut ways = [0u8; 128];
-    let mut i = 0;
-    while i < n {
-        let e = bytes::record(s, w, i);
-        let l = bytes::wide(e[0]);
-        let size = bytes::wide(e[1]);
-        depths[i] = e[0];
-        labels[i] = tables::row::component(e, levels, size - 1) as u16;
-        let next = with_way(ways, i, l);
+    let mut e = 0;
+    while e < entries {
+        let entry = bytes::record(shape, w, e);
+        let l = bytes::wide(entry[0]);
+        let size = bytes::wide(entry[1]);
+        levels[e] = entry[0];
+        labels[e] = tables::row::component(entry, f, size - 1) as u16;
+        let next = with_way(ways, e, l);
         ways = next;
-        parents[i] = parent_of(ways, i, l);
-        i += 1;
+        parents[e] = parent_of(ways, e, l);
+        e += 1;
     }
     Ways {
-        levels: depths,
+        levels: levels,
         labels: labels,
         parents: parents,
         ways: ways,

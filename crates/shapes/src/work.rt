@@ -1,73 +1,21 @@
-// A table and a shape together: refusals 1 to 7, or what judging, reshaping and summarising work on.
-use crate::entry::bad_entry;
-use crate::kinds::entry_kinds;
-use crate::ways::entry_ways;
-use tables::table::examine;
-use types::list::list_types;
+// A table and a shape as judging, reshaping and summarising work on them.
+use crate::shape::Shape;
+use crate::shape::draw;
+use crate::tests::tests1_7;
+use closest::meet::meetings;
+use closest::meet::row_levels;
 ghost use mathlib.Core.Path.{_≡_};
-ghost use Rattle.paper.specs.Format.{base};
-ghost use Rattle.shapes.specs.Work.{shapeExamined, shapeReply, Prepared};
+ghost use Rattle.shapes.specs.Work.{Prepared};
 
-// What examining a shape by itself answers.
-pub struct ShapeExamined {
-    pub number: usize,
-    pub place: usize,
-    pub entries: usize,
-}
-
-// Refusals 5 and 6, or the number of entries.
-pub fn examine_shape(s: &[u8]) -> ShapeExamined
-    ensures { λ r. ⌜ shapeExamined r ≡ shapeReply base (now (s .entry)) ⌝ }
-{
-    if s.len() == 0 {
-        return ShapeExamined {
-            number: 5,
-            place: 0,
-            entries: 0,
-        };
-    }
-    if 256 < s.len() {
-        return ShapeExamined {
-            number: 5,
-            place: 0,
-            entries: 0,
-        };
-    }
-    if s.len() % 16 != 0 {
-        return ShapeExamined {
-            number: 5,
-            place: 0,
-            entries: 0,
-        };
-    }
-    let n = s.len() / 16;
-    let bad = bad_entry(s, 6, 999, n);
-    if bad < n {
-        return ShapeExamined {
-            number: 6,
-            place: bad,
-            entries: 0,
-        };
-    }
-    ShapeExamined {
-        number: 0,
-        place: 0,
-        entries: n,
-    }
-}
-
-// A refusal, or the number of rows with each row's type number, and the number of entries with the level, last label, parent, type
-// number and way of each.
+// A refusal, or the number of rows with the level and the type number of each, where the types meet, the shape, and the ways of its entries.
 pub struct Work {
     pub number: usize,
     pub place: usize,
     pub rows: usize,
+    pub levels: [u8; 1024],
     pub types: [u8; 1024],
-    pub entries: usize,
-    pub levels: [u8; 16],
-    pub labels: [u16; 16],
-    pub parents: [u8; 16],
-    pub kinds: [u8; 16],
+    pub meetings: [u8; 1024],
+    pub shape: Shape,
     pub ways: [u8; 128],
 }
 
@@ -78,64 +26,51 @@ fn unprepared(number: usize, place: usize) -> Work
         number: number,
         place: place,
         rows: 0,
+        levels: [0u8; 1024],
         types: [0u8; 1024],
-        entries: 0,
-        levels: [0u8; 16],
-        labels: [0u16; 16],
-        parents: [0u8; 16],
-        kinds: [0u8; 16],
+        meetings: [0u8; 1024],
+        shape: Shape {
+            entries: 0,
+            levels: [0u8; 16],
+            labels: [0u16; 16],
+            types: [0u8; 16],
+            parents: [0u8; 16],
+            edges: [0u8; 16],
+            ends: [0u8; 16],
+        },
         ways: [0u8; 128],
     }
 }
 
 // Refusals 1 to 7 in their order, or the work.
-pub fn prepare(t: &[u8], s: &[u8]) -> Work
-    ensures { λ r. ⌜ Prepared (now (t .entry)) (now (s .entry)) r ⌝ }
+pub fn prepare(table: &[u8], shape: &[u8]) -> Work
+    ensures { λ r. ⌜ Prepared (now (table .entry)) (now (shape .entry)) r ⌝ }
 {
-    let table = examine(t);
-    let number = table.number;
-    let place = table.place;
-    let n = table.rows;
+    let read = tests1_7(table, shape);
+    let number = read.number;
+    let place = read.place;
     if number != 0 {
         return unprepared(number, place);
     }
-    let types = list_types(t, 6, 999, n);
-    let over = types.over;
-    let count = types.count;
-    if over < n {
-        return unprepared(4, over);
-    }
-    let shape = examine_shape(s);
-    let shape_number = shape.number;
-    let shape_place = shape.place;
-    let m = shape.entries;
-    if shape_number != 0 {
-        return unprepared(shape_number, shape_place);
-    }
-    let parents = types.parents;
-    let labels = types.labels;
-    let named = entry_kinds(s, 6, 999, m, &parents, &labels, count);
-    let missing = named.place;
-    if missing < m {
-        return unprepared(7, missing);
-    }
-    let laid = entry_ways(s, 6, 999, m);
-    let row_types = types.kinds;
-    let levels = laid.levels;
-    let last_labels = laid.labels;
-    let over_entries = laid.parents;
-    let kinds = named.kinds;
-    let ways = laid.ways;
+    let rows = read.rows;
+    let entries = read.entries;
+    let types = read.row_types;
+    let entry_types = read.types;
+    let entry_levels = read.levels;
+    let labels = read.labels;
+    let parents = read.parents;
+    let ways = read.ways;
+    let levels = row_levels(table, paper::base(), rows);
+    let met = meetings(&levels, &types, rows, entry_types);
+    let drawn = draw(entries, entry_levels, labels, entry_types, parents, &met);
     Work {
         number: 0,
         place: 0,
-        rows: n,
-        types: row_types,
-        entries: m,
+        rows: rows,
         levels: levels,
-        labels: last_labels,
-        parents: over_entries,
-        kinds: kinds,
+        types: types,
+        meetings: met,
+        shape: drawn,
         ways: ways,
     }
 }

@@ -13,7 +13,6 @@ use Rattle.paper.specs.Tables.{rowPart}
 use Rattle.paper.specs.Calls.{readerRow, readerNext}
 use Rattle.bytes.specs.Part.{OwnFrom}
 use Rattle.silmezga.specs.Handed.{readerStart, Handed}
-use Rattle.silmezga.specs.declared.reader.Reader.{Reader}
 
 module _ (f : Format) (t : List ℕ) (at : ℕ) where
   -- ---- at a whole row
@@ -83,12 +82,3 @@ pub all-rows : (f : Format) (t : List ℕ) → handedOut f t (whole (rowBytes f)
 all-rows f t =
     from-place f t (whole (rowBytes f) t) 0 (omega arith)
     ∙ ap (λ k. records (rowBytes f) (whole (rowBytes f) t) (drop k t)) (mul-zero (rowBytes f))
-
--- ---- any two results that a contract allows are equal
--- parts: the same bytes at the same place
-pub handed-unique : (t : RefT (List ℕ)) (at : ℕ) (p o : RefT (List ℕ)) → Handed t at p → Handed t at o → (now p ≡ now o) × (p .ptr ≡ o .ptr)
-handed-unique t at p o a b = (a .0 ∙ sym (b .0), λ i. ((a .1 .0 ∙ sym (b .1 .0)) i, (a .1 .1 ∙ sym (b .1 .1)) i))
-
--- readers, as `make` and `next` give them
-pub reader-unique : (t : RefT (List ℕ)) (at : ℕ) (r o : Reader) → (r .table ≡ t) × (r .at ≡ at) → (o .table ≡ t) × (o .at ≡ at) → r ≡ o
-reader-unique t at r o a b = λ i. record { table = (a .0 ∙ sym (b .0)) i; at = (a .1 ∙ sym (b .1)) i }

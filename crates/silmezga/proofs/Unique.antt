@@ -1,19 +1,96 @@
--- Any two answers that a contract of this crate allows are equal, and what they leave of what was lent. Assumes nothing.
-use Prim.Native.Nat.{ℕ}
+-- The contract of each call, as the root file has it, asks nothing and settles what a caller sees: of any two results that it allows
+-- both are one, and so is what they leave of what was lent. A clause taken away or weakened is refused here. Assumes nothing.
+use Prim.Native.Nat.{ℕ, _*_}
 use mathlib.Core.Path.{_≡_, sym, _∙_, ap}
 use mathlib.Core.List.{List, map}
-use Rattle.paper.specs.Format.{base}
-use Rattle.paper.specs.Calls.{Reply, adorn}
+use lib.ListN.{take}
+use denote.Ref.{RefT, now}
+use Rattle.paper.specs.Format.{base, rowBytes}
+use Rattle.paper.specs.Verdict.{kept}
+use Rattle.paper.specs.Calls.{Reply, adorn, judge}
+use Rattle.paper.specs.Links.{LinksKept}
 use Rattle.adorned.specs.Told.{told}
 use Rattle.adorned.specs.Lent.{adornedTypes}
 use Rattle.adorned.specs.declared.TypeSummary.{TypeSummary}
 use Rattle.adorned.specs.declared.lent.AdornedTypes.{AdornedTypes}
 use Rattle.adorned.proofs.Unique.{told-same}
+use Rattle.tables.proofs.Unique as tables
+use Rattle.judging.proofs.Unique as judging
+use Rattle.reshaping.proofs.Unique as reshaping
+use Rattle.reshaping.specs.declared.reshape.Reshaped.{Reshaped}
+use Rattle.silmezga.proofs.Settles.{part, Asks-nothing, Settles, Walk-asks-nothing, Walk-settles, nothing, two-clauses}
+use Rattle.silmezga.proofs.examine.Reads as examine
+use Rattle.silmezga.proofs.look_up.Reads as look-up
+use Rattle.silmezga.proofs.look_up_refusal.Reads as look-up-refusal
+use Rattle.silmezga.proofs.adorn as adorn-call
+use Rattle.silmezga.proofs.judge.Reads as judge-call
+use Rattle.silmezga.proofs.reshape.Reads as reshape
+use Rattle.silmezga.proofs.summarise.Reads as summarise
 
--- adorning: the answer, and every lent summary after it
+-- ---- examining and looking up
+pub examine-asks : Asks-nothing examine.Asked
+examine-asks κs a = tt
+
+pub examine-settled : Settles examine.Learnt (λ κs r e. r)
+examine-settled κs a r s e f = tables.examine-unique (now (a .0)) r s
+
+pub look-up-asks : Asks-nothing look-up.Asked
+look-up-asks κs a = tt
+
+-- the same bytes at the same place of the caller's table
+pub look-up-settled : Settles look-up.Learnt (λ κs p e. part p)
+look-up-settled κs a p o e f x y = let u = tables.look-up-unique (a .0) (a .1 .0) p o x y in λ i. (u .0 i, u .1 i)
+
+pub look-up-refusal-asks : Asks-nothing look-up-refusal.Asked
+look-up-refusal-asks κs a = tt
+
+pub look-up-refusal-settled : Settles look-up-refusal.Learnt (λ κs r e. r)
+look-up-refusal-settled κs a r s e f = tables.look-up-refusal-unique (now (a .0)) (a .1 .0) r s
+
+-- ---- judging and reshaping
+pub judge-asks : Asks-nothing judge-call.Asked
+judge-asks κs a = tt
+
+pub judge-settled : Settles judge-call.Learnt (λ κs r e. r)
+judge-settled κs a r s e f = judging.judge-unique (now (a .0)) (now (a .1 .0)) r s
+
+pub reshape-asks : Asks-nothing reshape.Asked
+reshape-asks κs a = tt
+
+-- the answer, and every lent byte and place after it
+pub reshape-settled : Settles {X = Reshaped × (List ℕ × List ℕ)} reshape.Learnt (λ κs r e. (r, (now (e .1 .1 .0), now (e .1 .1 .1 .0))))
+reshape-settled κs a r s e f x y =
+    let u = reshaping.reshape-unique (now (a .0)) (now (a .1 .0)) (now (a .1 .1 .0)) (now (a .1 .1 .1 .0)) r s
+    (now (e .1 .1 .0)) (now (f .1 .1 .0)) (now (e .1 .1 .1 .0)) (now (f .1 .1 .1 .0))
+    (x .answer) (y .answer) (x .bytes) (y .bytes) (x .places) (y .places) in
+    λ i. (u .0 i, (u .1 i, u .2 i))
+
+-- demand 3: where the reshape is accepted and the verdict on the same table and shape is 0, what the call leaves keeps the links
+pub reshape-keeps-links : (κs : _) (a : _) (r : Reshaped) (e : _) → reshape.Learnt κs a r e
+    → r .number ≡ 0 → judge base (now (a .0)) (now (a .1 .0)) .rest ≡ kept
+    → LinksKept base (now (a .0)) (now (a .1 .0)) (take (r .lines * rowBytes base) (now (e .1 .1 .0))) (take (r .lines) (now (e .1 .1 .1 .0)))
+reshape-keeps-links κs a r e x = x .links
+
+pub summarise-asks : Asks-nothing summarise.Asked
+summarise-asks κs a = tt
+
+pub summarise-settled : Settles summarise.Learnt (λ κs r e. r)
+summarise-settled κs a r s e f = reshaping.summarise-unique (now (a .0)) (now (a .1 .0)) r s
+
+-- ---- adorning: the answer, and every lent summary after it
 pub adorn-unique : (t : List ℕ) (before after₁ after₂ : List TypeSummary) (a b : AdornedTypes)
     → adornedTypes a ≡ adorn base t (map told before) .reply → adornedTypes b ≡ adorn base t (map told before) .reply
     → map told after₁ ≡ adorn base t (map told before) .summaries → map told after₂ ≡ adorn base t (map told before) .summaries
     → (a ≡ b) × (after₁ ≡ after₂)
 adorn-unique t before after₁ after₂ a b ea eb la lb =
-    (ap {B = AdornedTypes} (λ (r : Reply ℕ). record { number = r .number; place = r .place; types = r .rest }) (ea ∙ sym eb), told-same after₁ after₂ (la ∙ sym lb))
+    let same : a ≡ b = ap {B = AdornedTypes} (λ (r : Reply ℕ). record { number = r .number; place = r .place; types = r .rest }) (ea ∙ sym eb) in
+    (same, told-same after₁ after₂ (la ∙ sym lb))
+
+pub adorn-asks : Walk-asks-nothing adorn-call.ended (λ M 𝓤 H. adorn-call.clauses 𝓤 H)
+adorn-asks M 𝓤 H A mem run κs a g = nothing 𝓤
+
+pub adorn-settled : Walk-settles adorn-call.ended (λ M 𝓤 H. adorn-call.clauses 𝓤 H) {X = AdornedTypes × List TypeSummary} (λ κs r e. (r, now (e .1 .0)))
+adorn-settled M 𝓤 H A mem run κs a g r s e f =
+    two-clauses 𝓤 _ _ _ _ (λ x₀ x₁ y₀ y₁.
+    let u = adorn-unique (now (a .0)) (now (a .1 .0)) (now (e .1 .0)) (now (f .1 .0)) r s x₀ y₀ x₁ y₁ in
+    λ i. (u .0 i, u .1 i))

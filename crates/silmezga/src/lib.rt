@@ -14,17 +14,13 @@ pub use tables::table::Examined;
 pub use tables::table::Refusal;
 ghost use mathlib.Core.Path.{_≡_};
 ghost use mathlib.Core.List.{map};
-ghost use Prim.Native.Nat.{_*_};
-ghost use lib.ListN.{take};
-ghost use Rattle.paper.specs.Format.{base, rowBytes};
-ghost use Rattle.paper.specs.Verdict.{kept};
-ghost use Rattle.paper.specs.Calls.{examine, lookUp, adorn, judge, reshape, summarise};
-ghost use Rattle.paper.specs.Links.{LinksKept};
+ghost use Rattle.paper.specs.Format.{base};
+ghost use Rattle.paper.specs.Calls.{examine, lookUp, adorn, judge, summarise};
 ghost use Rattle.tables.specs.Reply.{examined, HandsBack};
 ghost use Rattle.adorned.specs.Told.{told};
 ghost use Rattle.adorned.specs.Lent.{adornedTypes};
 ghost use Rattle.judging.specs.Judged.{judged, inNumbers};
-ghost use Rattle.reshaping.specs.Reshaped.{reshaped, summarised};
+ghost use Rattle.reshaping.specs.Reshaped.{Reshapes, summarised};
 
 // Examines a table: refusals 1 to 3, or the count of rows.
 pub fn examine(table: &[u8]) -> Examined
@@ -71,13 +67,10 @@ pub fn judge(table: &[u8], shape: &[u8]) -> Judged
 }
 
 // Reshapes a table: refusals 1 to 8, or the new table and its source list, at the front of what was lent; what lies past them stays as it
-// was. The last clause is the buyer's demand: where the verdict on the same table and shape is 0, what the call leaves keeps the links
-// between records, none missing and none made up.
+// was. `Reshapes` says so of the answer and of every lent byte and place, and has the buyer's demand: where the verdict on the same table
+// and shape is 0, what the call leaves keeps the links between records, none missing and none made up.
 pub fn reshape(table: &[u8], shape: &[u8], new: &mut [u8], sources: &mut [u32]) -> Reshaped
-    ensures { λ r. ⌜ reshaped r ≡ reshape base (now (table .entry)) (now (shape .entry)) (now (new .entry)) (now (sources .entry)) .reply ⌝ }
-    ensures { λ _. ⌜ now (new .exit) ≡ reshape base (now (table .entry)) (now (shape .entry)) (now (new .entry)) (now (sources .entry)) .table ⌝ }
-    ensures { λ _. ⌜ now (sources .exit) ≡ reshape base (now (table .entry)) (now (shape .entry)) (now (new .entry)) (now (sources .entry)) .sources ⌝ }
-    ensures { λ r. ⌜ (r .number ≡ 0 → judge base (now (table .entry)) (now (shape .entry)) .rest ≡ kept → LinksKept base (now (table .entry)) (now (shape .entry)) (take (r .lines * rowBytes base) (now (new .exit))) (take (r .lines) (now (sources .exit)))) ⌝ }
+    ensures { λ r. ⌜ Reshapes (now (table .entry)) (now (shape .entry)) (now (new .entry)) (now (sources .entry)) r (now (new .exit)) (now (sources .exit)) ⌝ }
 {
     reshaping::reshape::reshape(table, shape, new, sources)
 }

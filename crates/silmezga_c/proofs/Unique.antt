@@ -1,16 +1,39 @@
--- Any two answers that a contract in numbers allows are equal. The other contracts are word for word those of the calls below, whose laws
--- say it. Assumes nothing.
-use Prim.Native.Nat.{ℕ}
+-- The contract of each exported call, as this crate's source has it, asks nothing and settles what a caller sees: of any two results that
+-- it allows both are one, and so is what they leave of what was lent. Assumes nothing.
+use Prim.Native.Nat.{ℕ, _*_}
 use mathlib.Core.Path.{_≡_, sym, _∙_, ap}
 use mathlib.Core.List.{List}
-use lib.ListN.{getD}
-use Rattle.paper.specs.Format.{base}
+use lib.ListN.{getD, take}
+use denote.Ref.{now}
+use Rattle.paper.specs.Format.{base, rowBytes}
+use Rattle.paper.specs.Verdict.{kept}
 use Rattle.paper.specs.Calls.{Reply, judge}
+use Rattle.paper.specs.Links.{LinksKept}
+use Rattle.adorned.specs.declared.TypeSummary.{TypeSummary}
+use Rattle.adorned.specs.declared.lent.AdornedTypes.{AdornedTypes}
+use Rattle.tables.proofs.Unique as tables
+use Rattle.reshaping.proofs.Unique as reshaping
+use Rattle.reshaping.specs.declared.reshape.Reshaped.{Reshaped}
+use Rattle.silmezga.proofs.Settles.{Asks-nothing, Settles, Walk-asks-nothing, Walk-settles, nothing, two-clauses}
+use Rattle.silmezga.proofs.Unique.{adorn-unique}
 use Rattle.silmezga_c.specs.Told.{LooksUp, inThree, threeNumbers}
 use Rattle.silmezga_c.specs.declared.LookedUp.{LookedUp}
 use Rattle.silmezga_c.specs.declared.JudgedNumbers.{JudgedNumbers}
+use Rattle.silmezga_c.proofs.silmezga_examine.Reads as examine
+use Rattle.silmezga_c.proofs.silmezga_look_up.Reads as look-up
+use Rattle.silmezga_c.proofs.silmezga_adorn as adorn
+use Rattle.silmezga_c.proofs.silmezga_judge.Reads as judge-call
+use Rattle.silmezga_c.proofs.silmezga_reshape.Reads as reshape
+use Rattle.silmezga_c.proofs.silmezga_summarise.Reads as summarise
 
-pub look-up-unique : (t : List ℕ) (i : ℕ) (r s : LookedUp) → LooksUp t i r → LooksUp t i s → r ≡ s
+-- ---- examining and looking up
+pub examine-asks : Asks-nothing examine.Asked
+examine-asks κs a = tt
+
+pub examine-settled : Settles examine.Learnt (λ κs r e. r)
+examine-settled κs a r s e f = tables.examine-unique (now (a .0)) r s
+
+look-up-unique : (t : List ℕ) (i : ℕ) (r s : LookedUp) → LooksUp t i r → LooksUp t i s → r ≡ s
 look-up-unique t i r s a b = λ j. record {
   number = (a .number-is ∙ sym (b .number-is)) j;
   place = (a .place-is ∙ sym (b .place-is)) j;
@@ -18,7 +41,24 @@ look-up-unique t i r s a b = λ j. record {
   length = (a .length-is ∙ sym (b .length-is)) j;
 }
 
-pub judge-unique : (t s : List ℕ) (a b : JudgedNumbers) → inThree a ≡ threeNumbers (judge base t s) → inThree b ≡ threeNumbers (judge base t s) → a ≡ b
+pub look-up-asks : Asks-nothing look-up.Asked
+look-up-asks κs a = tt
+
+pub look-up-settled : Settles look-up.Learnt (λ κs r e. r)
+look-up-settled κs a r s e f = look-up-unique (now (a .0)) (a .1 .0) r s
+
+-- ---- adorning: the answer, and every lent summary after it
+pub adorn-asks : Walk-asks-nothing adorn.ended (λ M 𝓤 H. adorn.clauses 𝓤 H)
+adorn-asks M 𝓤 H A mem run κs a g = nothing 𝓤
+
+pub adorn-settled : Walk-settles adorn.ended (λ M 𝓤 H. adorn.clauses 𝓤 H) {X = AdornedTypes × List TypeSummary} (λ κs r e. (r, now (e .1 .0)))
+adorn-settled M 𝓤 H A mem run κs a g r s e f =
+    two-clauses 𝓤 _ _ _ _ (λ x₀ x₁ y₀ y₁.
+    let u = adorn-unique (now (a .0)) (now (a .1 .0)) (now (e .1 .0)) (now (f .1 .0)) r s x₀ y₀ x₁ y₁ in
+    λ i. (u .0 i, u .1 i))
+
+-- ---- judging
+judge-unique : (t s : List ℕ) (a b : JudgedNumbers) → inThree a ≡ threeNumbers (judge base t s) → inThree b ≡ threeNumbers (judge base t s) → a ≡ b
 judge-unique t s a b p q =
     let e : inThree a ≡ inThree b = p ∙ sym q in
     let at : (k : ℕ) → getD (inThree a .rest) k 0 ≡ getD (inThree b .rest) k 0 = λ k. ap (λ (x : Reply (List ℕ)). getD (x .rest) k 0) e in
@@ -29,3 +69,32 @@ judge-unique t s a b p q =
       first = at 1 i;
       second = at 2 i;
     }
+
+pub judge-asks : Asks-nothing judge-call.Asked
+judge-asks κs a = tt
+
+pub judge-settled : Settles judge-call.Learnt (λ κs r e. r)
+judge-settled κs a r s e f = judge-unique (now (a .0)) (now (a .1 .0)) r s
+
+-- ---- reshaping: the answer, and every lent byte and place after it
+pub reshape-asks : Asks-nothing reshape.Asked
+reshape-asks κs a = tt
+
+pub reshape-settled : Settles {X = Reshaped × (List ℕ × List ℕ)} reshape.Learnt (λ κs r e. (r, (now (e .1 .1 .0), now (e .1 .1 .1 .0))))
+reshape-settled κs a r s e f x y =
+    let u = reshaping.reshape-unique (now (a .0)) (now (a .1 .0)) (now (a .1 .1 .0)) (now (a .1 .1 .1 .0)) r s
+    (now (e .1 .1 .0)) (now (f .1 .1 .0)) (now (e .1 .1 .1 .0)) (now (f .1 .1 .1 .0))
+    (x .answer) (y .answer) (x .bytes) (y .bytes) (x .places) (y .places) in
+    λ i. (u .0 i, (u .1 i, u .2 i))
+
+-- demand 3: where the reshape is accepted and the verdict on the same table and shape is 0, what the call leaves keeps the links
+pub reshape-keeps-links : (κs : _) (a : _) (r : Reshaped) (e : _) → reshape.Learnt κs a r e
+    → r .number ≡ 0 → judge base (now (a .0)) (now (a .1 .0)) .rest ≡ kept
+    → LinksKept base (now (a .0)) (now (a .1 .0)) (take (r .lines * rowBytes base) (now (e .1 .1 .0))) (take (r .lines) (now (e .1 .1 .1 .0)))
+reshape-keeps-links κs a r e x = x .links
+
+pub summarise-asks : Asks-nothing summarise.Asked
+summarise-asks κs a = tt
+
+pub summarise-settled : Settles summarise.Learnt (λ κs r e. r)
+summarise-settled κs a r s e f = reshaping.summarise-unique (now (a .0)) (now (a .1 .0)) r s

@@ -9,16 +9,12 @@ use silmezga::Verdict;
 use tables::table::Examined;
 ghost use mathlib.Core.Path.{_≡_};
 ghost use mathlib.Core.List.{map};
-ghost use Prim.Native.Nat.{_*_};
-ghost use lib.ListN.{take};
-ghost use Rattle.paper.specs.Format.{base, rowBytes};
-ghost use Rattle.paper.specs.Verdict.{kept};
-ghost use Rattle.paper.specs.Calls.{examine, adorn, judge, reshape, summarise};
-ghost use Rattle.paper.specs.Links.{LinksKept};
+ghost use Rattle.paper.specs.Format.{base};
+ghost use Rattle.paper.specs.Calls.{examine, adorn, judge, summarise};
 ghost use Rattle.tables.specs.Reply.{examined};
 ghost use Rattle.adorned.specs.Told.{told};
 ghost use Rattle.adorned.specs.Lent.{adornedTypes};
-ghost use Rattle.reshaping.specs.Reshaped.{reshaped, summarised};
+ghost use Rattle.reshaping.specs.Reshaped.{Reshapes, summarised};
 ghost use Rattle.silmezga_c.specs.Told.{LooksUp, inThree, threeNumbers};
 
 // Refusals 1 to 3, or the count of rows.
@@ -136,10 +132,7 @@ pub extern "C" fn silmezga_reshape(
     new: &mut [u8],
     sources: &mut [u32],
 ) -> Reshaped
-    ensures { λ r. ⌜ reshaped r ≡ reshape base (now (table .entry)) (now (shape .entry)) (now (new .entry)) (now (sources .entry)) .reply ⌝ }
-    ensures { λ _. ⌜ now (new .exit) ≡ reshape base (now (table .entry)) (now (shape .entry)) (now (new .entry)) (now (sources .entry)) .table ⌝ }
-    ensures { λ _. ⌜ now (sources .exit) ≡ reshape base (now (table .entry)) (now (shape .entry)) (now (new .entry)) (now (sources .entry)) .sources ⌝ }
-    ensures { λ r. ⌜ (r .number ≡ 0 → judge base (now (table .entry)) (now (shape .entry)) .rest ≡ kept → LinksKept base (now (table .entry)) (now (shape .entry)) (take (r .lines * rowBytes base) (now (new .exit))) (take (r .lines) (now (sources .exit)))) ⌝ }
+    ensures { λ r. ⌜ Reshapes (now (table .entry)) (now (shape .entry)) (now (new .entry)) (now (sources .entry)) r (now (new .exit)) (now (sources .exit)) ⌝ }
 {
     silmezga::reshape(table, shape, new, sources)
 }

@@ -101,9 +101,17 @@ module _ (p d : List ℕ) (k : ℕ) (l : length d ≡ suc k) (le : suc k ≤ len
       ∙ ap (λ z. z ++ (getD d k 0 ∷ [])) (sym (agree-take k p d (shared→agree k p d h)))
       ∙ ap (λ x. take k p ++ (x ∷ [])) (eqb-true (getD d k 0) (getD p k 0 + 1) q ∙ add-one (getD p k 0)) ∙ sym cut))
 
--- ---- two rows as read: a and b are their levels, m is where they meet
-module _ (f : Format) (x y : List ℕ) (fx : byte x 0 ≤ f .levels) (fy : byte y 0 ≤ f .levels) (pos : 1 ≤ byte y 0)
-    (a b m : ℕ) (ea : a ≡ byte x 0) (eb : b ≡ byte y 0) (em : m ≡ met f x y) where
+-- ---- two rows as read
+-- row y has some level, a and b are the levels of the two, and m is where they meet
+pub record Read (f : Format) (x y : List ℕ) (a b m : ℕ) : Type 0 where
+  pub fits-x : byte x 0 ≤ f .levels
+  pub fits-y : byte y 0 ≤ f .levels
+  pub some-y : 1 ≤ byte y 0
+  pub level-x : a ≡ byte x 0
+  pub level-y : b ≡ byte y 0
+  pub meets : m ≡ met f x y
+
+module _ {f : Format} {x y : List ℕ} {a b m : ℕ} (r : Read f x y a b m) where
   abbrev p : List ℕ
   p = dewey (rowOf f x)
 
@@ -111,27 +119,27 @@ module _ (f : Format) (x y : List ℕ) (fx : byte x 0 ≤ f .levels) (fy : byte 
   d = dewey (rowOf f y)
 
   lp : length p ≡ a
-  lp = dewey-length f x fx ∙ sym ea
+  lp = dewey-length f x (r .fits-x) ∙ sym (r .level-x)
 
   ld : length d ≡ b
-  ld = dewey-length f y fy ∙ sym eb
+  ld = dewey-length f y (r .fits-y) ∙ sym (r .level-y)
 
   pub rows-child-apart : b ≡ a + 1 → m < a → false ≡ follows (dewey (rowOf f x)) (dewey (rowOf f y))
-  rows-child-apart e lt = sym (child-apart p d (omega (arith, lp, ld)) (omega (arith, lp, em)))
+  rows-child-apart e lt = sym (child-apart p d (omega (arith, lp, ld)) (omega (arith, lp, r .meets)))
 
   pub rows-child : b ≡ a + 1 → a ≤ m → (v : ℕ) → v ≡ getD (words (f .levels) y 4) a 0 → eqb v 1 ≡ follows (dewey (rowOf f x)) (dewey (rowOf f y))
   rows-child e le v ev =
-      ap (λ z. eqb z 1) (ev ∙ sym (dewey-at f y fy a (omega arith)) ∙ ap (λ n. getD d n 0) (sym lp))
-      ∙ sym (child-decides p d (omega (arith, lp, ld)) (omega (arith, lp, em)))
+      ap (λ z. eqb z 1) (ev ∙ sym (dewey-at f y (r .fits-y) a (omega arith)) ∙ ap (λ n. getD d n 0) (sym lp))
+      ∙ sym (child-decides p d (omega (arith, lp, ld)) (omega (arith, lp, r .meets)))
 
   pub rows-longer : (b ≡ a + 1 → ⊥) → a < b → false ≡ follows (dewey (rowOf f x)) (dewey (rowOf f y))
   rows-longer ne lt = sym (longer-apart p d (omega (arith, lp, ld)))
 
   pub rows-next-apart : b ≤ a → m < b - 1 → false ≡ follows (dewey (rowOf f x)) (dewey (rowOf f y))
-  rows-next-apart le lt = sym (next-apart p d (b - 1) (omega (arith, ld)) (omega (arith, lp)) (omega (arith, em)))
+  rows-next-apart le lt = sym (next-apart p d (b - 1) (omega (arith, ld)) (omega (arith, lp)) (omega (arith, r .meets)))
 
   pub rows-next : b ≤ a → b - 1 ≤ m → (v u : ℕ) → v ≡ getD (words (f .levels) y 4) (b - 1) 0 → u ≡ getD (words (f .levels) x 4) (b - 1) 0
       → eqb v (u + 1) ≡ follows (dewey (rowOf f x)) (dewey (rowOf f y))
   rows-next le h v u ev eu =
-      ap₂ (λ z c. eqb z (c + 1)) (ev ∙ sym (dewey-at f y fy (b - 1) (omega arith))) (eu ∙ sym (dewey-at f x fx (b - 1) (omega arith)))
-      ∙ sym (next-decides p d (b - 1) (omega (arith, ld)) (omega (arith, lp)) (omega (arith, em)))
+      ap₂ (λ z c. eqb z (c + 1)) (ev ∙ sym (dewey-at f y (r .fits-y) (b - 1) (omega arith))) (eu ∙ sym (dewey-at f x (r .fits-x) (b - 1) (omega arith)))
+      ∙ sym (next-decides p d (b - 1) (omega (arith, ld)) (omega (arith, lp)) (omega (arith, r .meets)))

@@ -12,7 +12,7 @@ use lib.ListN.{length, take, drop, getD, drop-of-length-le}
 use lib.Seq.{drop-drop}
 use borrow.Author.Tests.{lt-ltb, le-ltb}
 use Rattle.paper.specs.Lists.{firstBreak}
-use Rattle.paper.specs.Format.{Format, format, rowBytes, byte, words, records, whole}
+use Rattle.paper.specs.Format.{Format, rowBytes, byte, words, records, whole}
 use Rattle.paper.specs.Tables.{Row, rowOf, rows, dewey, fieldsKept, follows, rowKept, badRow}
 use Rattle.paper.proofs.Calls.{count-rows}
 use Rattle.paper.proofs.Lists.{both}
@@ -43,11 +43,6 @@ rows-from f t i lt = drop-records (rowOf f) (rowBytes f) (whole (rowBytes f) t) 
 
 pub rows-end : (f : Format) (t : List ℕ) (i : ℕ) → whole (rowBytes f) t ≤ i → drop i (rows f t) ≡ []
 rows-end f t i le = drop-of-length-le (rows f t) {i = i} (omega (arith, count-rows f t))
-
--- the width of a row does not depend on the largest label, nor does its Dewey number
-pub dewey-labels : (l a c : ℕ) (b : List ℕ) → dewey (rowOf (format l a) b) ≡ dewey (rowOf (format l c) b)
-unfolding rowOf
-dewey-labels l a c b = refl
 
 -- ---- one row after another
 pub kept-fields : (f : Format) (p : List ℕ) (r : Row) → fieldsKept f r ≡ false → rowKept f p r ≡ false

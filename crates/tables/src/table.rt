@@ -2,12 +2,14 @@
 use crate::row::component;
 use crate::row::fields_kept;
 use crate::row::follows;
+use paper::Format;
 ghost use mathlib.Core.Path.{_≡_};
 ghost use mathlib.Core.List.{[]};
 ghost use Prim.Native.Nat.{_+_, _*_, _≤_, _<_};
 ghost use lib.ListN.{length};
-ghost use Rattle.paper.specs.Format.{format, base, rowBytes, whole, byte};
-ghost use Rattle.paper.specs.Tables.{rowOf, rows, dewey, rowKept, badRow};
+ghost use Rattle.paper.specs.Format.{base, rowBytes, whole, byte};
+ghost use Rattle.paper.specs.Tables as Tables;
+ghost use Rattle.paper.specs.Tables.{rowOf, dewey, rowKept, badRow};
 ghost use Rattle.paper.specs.Calls.{examine, lookUp};
 ghost use Rattle.tables.specs.Place.{placeOf};
 ghost use Rattle.tables.specs.Reply.{examined, HandsBack};
@@ -21,78 +23,79 @@ pub struct Examined {
 }
 
 // Does a table's first row keep the rules?
-fn first_kept(row: &[u8], levels: usize, labels: usize) -> bool
-    requires { ⌜ (length (now row) ≡ rowBytes (format levels labels)) × (levels ≤ 255) ⌝ }
-    ensures { λ r. ⌜ r ≡ rowKept (format levels labels) [] (rowOf (format levels labels) (now (row .entry))) ⌝ }
+fn first_kept(row: &[u8], f: Format) -> bool
+    requires { ⌜ (length (now row) ≡ rowBytes f) × (f .levels ≤ 255) ⌝ }
+    ensures { λ r. ⌜ r ≡ rowKept f [] (rowOf f (now (row .entry))) ⌝ }
 {
-    if !fields_kept(row, levels, labels) {
+    if !fields_kept(row, f) {
         return false;
     }
     if bytes::wide(row[0]) != 1 {
         return false;
     }
-    component(row, levels, 0) == 1
+    component(row, f, 0) == 1
 }
 
 // Does a later row keep the rules after the row before it?
-fn row_kept(before: &[u8], row: &[u8], levels: usize, labels: usize) -> bool
-    requires { ⌜ (length (now before) ≡ rowBytes (format levels labels)) × (length (now row) ≡ rowBytes (format levels labels)) × (levels ≤ 255) × (byte (now before) 0 ≤ levels) ⌝ }
-    ensures { λ r. ⌜ r ≡ rowKept (format levels labels) (dewey (rowOf (format levels labels) (now (before .entry)))) (rowOf (format levels labels) (now (row .entry))) ⌝ }
+fn row_kept(before: &[u8], row: &[u8], f: Format) -> bool
+    requires { ⌜ (length (now before) ≡ rowBytes f) × (length (now row) ≡ rowBytes f) × (f .levels ≤ 255) × (byte (now before) 0 ≤ f .levels) ⌝ }
+    ensures { λ r. ⌜ r ≡ rowKept f (dewey (rowOf f (now (before .entry)))) (rowOf f (now (row .entry))) ⌝ }
 {
-    if !fields_kept(row, levels, labels) {
+    if !fields_kept(row, f) {
         return false;
     }
-    follows(before, row, levels)
+    follows(before, row, f)
 }
 
-// The first row that breaks a rule, n for none.
-pub fn bad_row(t: &[u8], levels: usize, labels: usize, n: usize) -> usize
-    requires { ⌜ (n ≡ whole (rowBytes (format levels labels)) (now t)) × (levels ≤ 255) ⌝ }
-    ensures { λ r. ⌜ (badRow (format levels labels) (rows (format levels labels) (now (t .entry))) ≡ placeOf r n) × (r ≤ n) ⌝ }
+// The first row that breaks a rule, the number of rows for none.
+pub fn bad_row(table: &[u8], f: Format, rows: usize) -> usize
+    requires { ⌜ (rows ≡ whole (rowBytes f) (now table)) × (f .levels ≤ 255) ⌝ }
+    ensures { λ r. ⌜ (badRow f (Tables.rows f (now (table .entry))) ≡ placeOf r rows) × (r ≤ rows) ⌝ }
 {
-    let w = 4 + 2 * levels + 8;
-    if n == 0 {
+    let w = bytes::row_bytes(f);
+    if rows == 0 {
         return 0;
     }
-    if !first_kept(bytes::record(t, w, 0), levels, labels) {
+    if !first_kept(bytes::record(table, w, 0), f) {
         return 0;
     }
     let mut i = 1;
-    while i < n {
+    while i < rows {
         if !row_kept(
-            bytes::record(t, w, i - 1),
-            bytes::record(t, w, i),
-            levels,
-            labels,
+            bytes::record(table, w, i - 1),
+            bytes::record(table, w, i),
+            f,
         ) {
             return i;
         }
         i += 1;
     }
-    n
+    rows
 }
 
 // Refusals 1 to 3, or the number of rows.
-pub fn examine(t: &[u8]) -> Examined
-    ensures { λ r. ⌜ examined r ≡ examine base (now (t .entry)) ⌝ }
+pub fn examine(table: &[u8]) -> Examined
+    ensures { λ r. ⌜ examined r ≡ examine base (now (table .entry)) ⌝ }
 {
-    if 24576 < t.len() {
+    let f = paper::base();
+    let w = bytes::row_bytes(f);
+    if 1024 * w < table.len() {
         return Examined {
             number: 1,
             place: 0,
             rows: 0,
         };
     }
-    if t.len() % 24 != 0 {
+    if table.len() % w != 0 {
         return Examined {
             number: 2,
             place: 0,
             rows: 0,
         };
     }
-    let n = t.len() / 24;
-    let bad = bad_row(t, 6, 999, n);
-    if bad < n {
+    let rows = table.len() / w;
+    let bad = bad_row(table, f, rows);
+    if bad < rows {
         return Examined {
             number: 3,
             place: bad,
@@ -102,7 +105,7 @@ pub fn examine(t: &[u8]) -> Examined
     Examined {
         number: 0,
         place: 0,
-        rows: n,
+        rows: rows,
     }
 }
 
@@ -113,19 +116,19 @@ pub struct Refusal {
 }
 
 // The number and place of a look-up.
-pub fn look_up_refusal(t: &[u8], i: usize) -> Refusal
-    ensures { λ r. ⌜ (r .number ≡ lookUp base (now (t .entry)) i .number) × (r .place ≡ lookUp base (now (t .entry)) i .place) ⌝ }
+pub fn look_up_refusal(table: &[u8], i: usize) -> Refusal
+    ensures { λ r. ⌜ (r .number ≡ lookUp base (now (table .entry)) i .number) × (r .place ≡ lookUp base (now (table .entry)) i .place) ⌝ }
 {
-    let e = examine(t);
-    let number = e.number;
-    let n = e.rows;
+    let examined = examine(table);
+    let number = examined.number;
+    let rows = examined.rows;
     if number != 0 {
         return Refusal {
-            number: e.number,
-            place: e.place,
+            number: examined.number,
+            place: examined.place,
         };
     }
-    if n <= i {
+    if rows <= i {
         return Refusal {
             number: 11,
             place: i,
@@ -138,18 +141,18 @@ pub fn look_up_refusal(t: &[u8], i: usize) -> Refusal
 }
 
 // Row i's own bytes of the caller's table, or an empty part.
-pub fn look_up(t: &[u8], i: usize) -> &[u8]
-    ensures { λ r. ⌜ HandsBack (t .entry) i r ⌝ }
+pub fn look_up(table: &[u8], i: usize) -> &[u8]
+    ensures { λ r. ⌜ HandsBack (table .entry) i r ⌝ }
 {
     let none = 0;
-    let e = examine(t);
-    let number = e.number;
-    let n = e.rows;
+    let examined = examine(table);
+    let number = examined.number;
+    let rows = examined.rows;
     if number != 0 {
-        return &t[none..none];
+        return &table[none..none];
     }
-    if i < n {
-        return bytes::record(t, 24, i);
+    if i < rows {
+        return bytes::record(table, bytes::row_bytes(paper::base()), i);
     }
-    &t[none..none]
+    &table[none..none]
 }

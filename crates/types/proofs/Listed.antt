@@ -90,21 +90,21 @@ module _ (rs : List Row) (i count : ℕ) (ks first parents labels stack : List �
   -- a 65th type begins at row i
   pub lists-full : i < length rs → (mostTypes < length (distinct (ways [] (map step rs))))
       × (place (same (getD (distinct (ways [] (map step rs))) mostTypes [])) (ways [] (map step rs)) ≡ i)
-      → Lists rs (record { count = 64; over = i; kinds = ks; first = first; parents = parents; labels = labels })
+      → Lists rs (record { count = 64; over = i; types = ks; first = first; parents = parents; labels = labels })
   unfolding typeTooMany types rowTypes
   lists-full lt (more, at) =
       let late : length rs ≤ i → ⊥ = λ le. omega arith in
       record {
         over = some-place (typeTooMany rs) i (length rs) lt (rw (lt-ltb mostTypes (length (distinct (ways [] (map step rs)))) more, typeTooMany) (ap {B = Option ℕ} some at));
         count = λ le. absurd (late le);
-        kind = λ le. absurd (late le);
+        typed = λ le. absurd (late le);
         first = λ le. absurd (late le);
         label = λ le. absurd (late le);
         parent = λ le. absurd (late le);
       }
 
   pub lists-end : length rs ≡ i → length rs ≤ length ks → Pass (map step rs) i count ks first parents labels stack
-      → Lists rs (record { count = count; over = i; kinds = ks; first = first; parents = parents; labels = labels })
+      → Lists rs (record { count = count; over = i; types = ks; first = first; parents = parents; labels = labels })
   unfolding typeTooMany types rowTypes kinds
   lists-end e long pass =
       let ws = ways [] (map step rs) in
@@ -114,7 +114,7 @@ module _ (rs : List Row) (i count : ℕ) (ks first parents labels stack : List �
         over = subst (λ m. typeTooMany rs ≡ placeOf i m) (sym e) (none-place (typeTooMany rs) i
             (rw (le-ltb mostTypes (length (distinct ws)) (omega (arith, pass .counted, pass .few, ap length q)), typeTooMany) refl));
         count = λ le. pass .counted ∙ ap length q;
-        kind = λ le. ext-getD 0 (take (length rs) ks) (map (typeNumber (distinct ws)) ws)
+        typed = λ le. ext-getD 0 (take (length rs) ks) (map (typeNumber (distinct ws)) ws)
             (omega (arith, length-take (length rs) ks, length-map ws (typeNumber (distinct ws))))
             (λ j lj. let lt : j < length rs = omega (arith, length-take (length rs) ks) in
             getD-take (length rs) ks j 0 lt ∙ pass .numbered j (omega arith) ∙ ap (λ ts. typeNumber ts (getD ws j [])) q
@@ -205,7 +205,7 @@ module _ (f : Format) (t : List ℕ) (sound : badRow f (rows f t) ≡ none) (i :
         stack-long = length-set stack l count ∙ walk .stack-long;
       }
 
-      pub walk-full : count ≡ mostTypes → Lists (rows f t) (record { count = 64; over = i; kinds = ks; first = first; parents = parents; labels = labels })
+      pub walk-full : count ≡ mostTypes → Lists (rows f t) (record { count = 64; over = i; types = ks; first = first; parents = parents; labels = labels })
       walk-full full =
           lists-full (rows f t) i count ks first parents labels stack in-rows
           (pass-full (map step (rows f t)) i l a in-ways l-is a-is l-pos l-next count p ks first parents labels stack (walk .pass) ep′

@@ -23,7 +23,7 @@ parentOf ts (x ∷ v) = typeNumber ts (x ∷ v)
 pub record Lists (rs : List Row) (t : Types) : Type 0 where
   pub over : typeTooMany rs ≡ placeOf (t .over) (length rs)
   pub count : length rs ≤ t .over → t .count ≡ length (types rs)
-  pub kind : length rs ≤ t .over → take (length rs) (t .kinds) ≡ kinds rs
+  pub typed : length rs ≤ t .over → take (length rs) (t .types) ≡ kinds rs
   pub first : length rs ≤ t .over → (k : ℕ) → k < t .count → getD (t .first) k 0 ≡ place (same (getD (types rs) k [])) (rowTypes rs)
   pub label : length rs ≤ t .over → (k : ℕ) → k < t .count → getD (t .labels) k 0 ≡ lastOr 0 (getD (types rs) k [])
   pub parent : length rs ≤ t .over → (k : ℕ) → k < t .count → getD (t .parents) k 0 ≡ parentOf (types rs) (up (getD (types rs) k []))
@@ -33,3 +33,9 @@ pub record Found (parents labels : List ℕ) (count p a r : ℕ) : Type 0 where
   pub within : r ≤ count
   pub found : r < count → (getD parents r 0 ≡ p) × (getD labels r 0 ≡ a)
   pub passed : (k : ℕ) → k < r → getD parents k 0 ≡ p → getD labels k 0 ≡ a → ⊥
+
+-- r is one of the count listed types with this parent and label, count for none
+pub record FoundNear (parents labels : List ℕ) (count p a r : ℕ) : Type 0 where
+  pub within : r ≤ count
+  pub found : r < count → (getD parents r 0 ≡ p) × (getD labels r 0 ≡ a)
+  pub none : count ≤ r → (k : ℕ) → k < count → getD parents k 0 ≡ p → getD labels k 0 ≡ a → ⊥

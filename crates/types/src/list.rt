@@ -1,18 +1,20 @@
 // The type list of a sound table, in one pass.
+use paper::Format;
 ghost use mathlib.Core.Path.{_≡_};
 ghost use mathlib.Core.Option.{none};
 ghost use Prim.Native.Nat.{_+_, _*_, _≤_, _<_};
 ghost use lib.ListN.{length};
-ghost use Rattle.paper.specs.Format.{format, rowBytes, whole};
-ghost use Rattle.paper.specs.Tables.{rows, badRow};
-ghost use Rattle.types.specs.Types.{Lists, Found};
+ghost use Rattle.paper.specs.Format.{mostRows, rowBytes, whole};
+ghost use Rattle.paper.specs.Tables as Tables;
+ghost use Rattle.paper.specs.Tables.{badRow};
+ghost use Rattle.types.specs.Types.{Lists, Found, FoundNear};
 
 // Each row's type number, and each type's first row, parent type (64 for none) and last label. `over` is the first row of the 65th
 // type, or the number of rows.
 pub struct Types {
     pub count: usize,
     pub over: usize,
-    pub kinds: [u8; 1024],
+    pub types: [u8; 1024],
     pub first: [u16; 64],
     pub parents: [u8; 64],
     pub labels: [u16; 64],
@@ -37,37 +39,57 @@ pub fn find_type(parents: &[u8], labels: &[u16], count: usize, p: u8, a: u16) ->
     count
 }
 
-// The type list of a table that keeps the row rules.
-pub fn list_types(t: &[u8], levels: usize, largest: usize, n: usize) -> Types
-    requires { ⌜ (n ≡ whole (rowBytes (format levels largest)) (now t)) × (n ≤ 1024) × (levels ≤ 8) ⌝ }
-    requires { ⌜ badRow (format levels largest) (rows (format levels largest) (now t)) ≡ none ⌝ }
-    ensures { λ r. ⌜ Lists (rows (format levels largest) (now (t .entry))) r ⌝ }
+// A listed type with this parent and label, count for none. It is looked for at a guess first.
+fn find_near(parents: &[u8], labels: &[u16], count: usize, p: u8, a: u16, guess: usize) -> usize
+    requires { ⌜ (count ≤ length (now parents)) × (count ≤ length (now labels)) ⌝ }
+    ensures { λ r. ⌜ FoundNear (now (parents .entry)) (now (labels .entry)) count p a r ⌝ }
 {
-    let w = 4 + 2 * levels + 8;
-    let mut kinds = [0u8; 1024];
+    if guess < count {
+        if parents[guess] == p {
+            if labels[guess] == a {
+                return guess;
+            }
+        }
+    }
+    find_type(parents, labels, count, p, a)
+}
+
+// The type list of a table that keeps the row rules. What came last after a row of the same type is the guess for a row's type: `after`
+// has it for each type, and for none before the first row.
+pub fn list_types(table: &[u8], f: Format, rows: usize) -> Types
+    requires { ⌜ (rows ≡ whole (rowBytes f) (now table)) × (rows ≤ mostRows) × (f .levels ≤ 8) ⌝ }
+    requires { ⌜ badRow f (Tables.rows f (now table)) ≡ none ⌝ }
+    ensures { λ r. ⌜ Lists (Tables.rows f (now (table .entry))) r ⌝ }
+{
+    let mut types = [0u8; 1024];
     let mut first = [0u16; 64];
     let mut parents = [0u8; 64];
     let mut labels = [0u16; 64];
     let mut stack = [0u8; 9];
     stack[0] = 64;
+    let mut after = [0u8; 65];
+    let mut last = 64;
     let mut count = 0;
     let mut i = 0;
-    while i < n {
-        let row = bytes::record(t, w, i);
+    while i < rows {
+        let row = bytes::record(table, bytes::row_bytes(f), i);
         let l = bytes::wide(row[0]);
         let a = bytes::word(row, 2) as u16;
         let p = stack[l - 1];
-        let k = find_type(&parents, &labels, count, p, a);
+        let guess = bytes::wide(after[last]);
+        let k = find_near(&parents, &labels, count, p, a, guess);
         if k < count {
-            kinds[i] = k as u8;
+            types[i] = k as u8;
             stack[l] = k as u8;
+            after[last] = k as u8;
+            last = k;
             i += 1;
         } else {
             if count == 64 {
                 return Types {
                     count: 64,
                     over: i,
-                    kinds: kinds,
+                    types: types,
                     first: first,
                     parents: parents,
                     labels: labels,
@@ -76,16 +98,18 @@ pub fn list_types(t: &[u8], levels: usize, largest: usize, n: usize) -> Types
             parents[count] = p;
             labels[count] = a;
             first[count] = i as u16;
-            kinds[i] = count as u8;
+            types[i] = count as u8;
             stack[l] = count as u8;
+            after[last] = count as u8;
+            last = count;
             count += 1;
             i += 1;
         }
     }
     Types {
         count: count,
-        over: n,
-        kinds: kinds,
+        over: rows,
+        types: types,
         first: first,
         parents: parents,
         labels: labels,

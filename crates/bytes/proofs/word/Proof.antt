@@ -1,40 +1,30 @@
+-- `word`: two bytes, the low one first. Assumes nothing.
 use Rattle.bytes.proofs.Laws.{word-bytes}
 use borrow.Author.Needs.{needs}
 use Rattle.bytes.proofs.word.Statement.{statement}
 use Rattle.bytes.proofs.word.Tie as tie
-use Rattle.bytes.proofs.word.Reads as reads
-use Rattle.bytes.proofs.word.Lts as lts
-use Rattle.bytes.proofs.wide.Reads as wide-reads
 
--- src/lib.rt:20:10
 shared-slice-read-wide : tie.Need-shared-slice-read-wide
 shared-slice-read-wide c = search needs
 
--- src/lib.rt:20:5
 wide-requires : tie.Need-wide-requires
 wide-requires c κs = search needs
 
--- src/lib.rt:20:31
 add-wide : tie.Need-add-wide
 add-wide c = search needs
 
--- src/lib.rt:20:29
 shared-slice-read-wide-2 : tie.Need-shared-slice-read-wide-2
 shared-slice-read-wide-2 c = search needs
 
--- src/lib.rt:20:24
 wide-requires-2 : tie.Need-wide-requires-2
 wide-requires-2 c κs = search needs
 
--- src/lib.rt:20:18
 mul-result : tie.Need-mul-result
 mul-result c = search needs
 
--- src/lib.rt:20:5
 add-result : tie.Need-add-result
 add-result c = search needs
 
--- src/lib.rt:16:1
 returns : tie.Need-returns
 returns c = (
   word-bytes (c .before .before .before .before .before .args .b .now) (c .before .before .before .before .before .args .i)

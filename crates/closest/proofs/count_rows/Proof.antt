@@ -1,5 +1,7 @@
-use Prim.Native.Nat.{_<_, _≤_, _-_}
+-- `count_rows`: so many of the rows so far are of the type. Assumes nothing.
+use Prim.Native.Nat.{ℕ, _<_, _≤_, _-_}
 use mathlib.Core.Path.{_≡_, sym, _∙_}
+use mathlib.Core.List.{List}
 use lib.ListN.{length, getD, take, length-take}
 use lib.Seq.{getD-take}
 use Rattle.closest.proofs.Counts.{Counting, counting-more, counting-same, counting-end}
@@ -7,82 +9,80 @@ use native.Mathlib.Omega.{arith}
 use borrow.Author.Needs.{needs}
 use Rattle.closest.proofs.count_rows.Statement.{statement}
 use Rattle.closest.proofs.count_rows.Tie as tie
-use Rattle.closest.proofs.count_rows.Reads as reads
-use Rattle.closest.proofs.count_rows.Lts as lts
-use Rattle.bytes.proofs.wide.Reads as wide-reads
 
 abbrev Inv-loop : tie.InvT-loop
-Inv-loop ks n k c₀ i₀ c i = (i ≤ n) × Counting (take n ks) k c i
+Inv-loop types rows k c₀ i₀ c i = (i ≤ rows) × Counting (take rows types) k c i
 
 abbrev μ-loop : tie.MeasureT-loop
-μ-loop ks n k c₀ i₀ c i = n - i
+μ-loop types rows k c₀ i₀ c i = rows - i
 
--- src/lib.rt:38:5
+abbrev begun : tie.At-loop Inv-loop μ-loop → tie.Start Inv-loop μ-loop
+begun l = l .before .before
+
+abbrev turn : tie.After-wide Inv-loop μ-loop → tie.At-loop Inv-loop μ-loop
+turn x = x .before .before .before
+
+-- the rows' type numbers
+abbrev typesOf : tie.At-loop Inv-loop μ-loop → List ℕ
+typesOf l = take (begun l .args .rows) (begun l .args .types .now)
+
+-- row i is one of the rows, and its type number is what is read
+here : (x : tie.After-wide Inv-loop μ-loop) → turn x .loop .i < length (typesOf (turn x))
+here x =
+    let s = begun (turn x) in
+    omega (arith, length-take (s .args .rows) (s .args .types .now), s .pre, x .before .before .loop-test .taken)
+
+type-is : (x : tie.After-wide Inv-loop μ-loop) → x .wide .result ≡ getD (typesOf (turn x)) (turn x .loop .i) 0
+type-is x =
+    let l = turn x in
+    let a = begun l .args in
+    x .wide .ensures .0 ∙ sym (getD-take (a .rows) (a .types .now) (l .loop .i) 0 (x .before .before .loop-test .taken))
+
 loop-holds : tie.Need-loop-holds Inv-loop μ-loop
 loop-holds c = (omega arith, record { inside = omega arith; counted = omega arith; so-far = omega arith })
 
--- src/lib.rt:39:24
 shared-slice-read-wide : tie.Need-shared-slice-read-wide Inv-loop μ-loop
 shared-slice-read-wide c = search needs
 
--- src/lib.rt:39:12
 wide-requires : tie.Need-wide-requires Inv-loop μ-loop
 wide-requires c κs = search needs
 
--- src/lib.rt:40:13
 add-c : tie.Need-add-c Inv-loop μ-loop
-add-c c = omega (arith, c .before .before .before .before .loop .inv .1 .counted)
+add-c c = omega (arith, turn (c .before) .loop .inv .1 .counted)
 
--- src/lib.rt:41:13
 add-i : tie.Need-add-i Inv-loop μ-loop
 add-i c = search needs
 
--- src/lib.rt:38:5
 loop-less : tie.Need-loop-less Inv-loop μ-loop
 loop-less c = search needs
 
--- src/lib.rt:38:5
 loop-again : tie.Need-loop-again Inv-loop μ-loop
 loop-again c =
     let x = c .before in
-    let l = x .before .before .before in
-    let s = l .before .before in
-    let a = s .args in
-    let i = l .loop .i in
-    let ns = take (a .n) (a .ks .now) in
-    let lt : i < length ns = omega (arith, length-take (a .n) (a .ks .now), s .pre, x .before .before .loop-test .taken) in
-    let e : x .wide .result ≡ getD ns i 0 = x .wide .ensures .0 ∙ sym (getD-take (a .n) (a .ks .now) i 0 (x .before .before .loop-test .taken)) in
-    (omega arith, counting-more ns (a .k) (l .loop .c) i (x .wide .result) (l .loop .inv .1) lt e (c .if1 .taken))
+    let l = turn x in
+    let v = l .loop in
+    (omega arith, counting-more (typesOf l) (begun l .args .k) (v .c) (v .i) (x .wide .result) (v .inv .1) (here x) (type-is x) (c .if1 .taken))
 
--- src/lib.rt:43:13
 add-i-2 : tie.Need-add-i-2 Inv-loop μ-loop
 add-i-2 c = search needs
 
--- src/lib.rt:38:5
 loop-less-2 : tie.Need-loop-less-2 Inv-loop μ-loop
 loop-less-2 c = search needs
 
--- src/lib.rt:38:5
 loop-again-2 : tie.Need-loop-again-2 Inv-loop μ-loop
 loop-again-2 c =
     let x = c .before in
-    let l = x .before .before .before in
-    let s = l .before .before in
-    let a = s .args in
-    let i = l .loop .i in
-    let ns = take (a .n) (a .ks .now) in
-    let lt : i < length ns = omega (arith, length-take (a .n) (a .ks .now), s .pre, x .before .before .loop-test .taken) in
-    let e : x .wide .result ≡ getD ns i 0 = x .wide .ensures .0 ∙ sym (getD-take (a .n) (a .ks .now) i 0 (x .before .before .loop-test .taken)) in
-    (omega arith, counting-same ns (a .k) (l .loop .c) i (x .wide .result) (l .loop .inv .1) lt e (c .if1 .left))
+    let l = turn x in
+    let v = l .loop in
+    (omega arith, counting-same (typesOf l) (begun l .args .k) (v .c) (v .i) (x .wide .result) (v .inv .1) (here x) (type-is x) (c .if1 .left))
 
--- src/lib.rt:32:1
 returns : tie.Need-returns Inv-loop μ-loop
 returns c =
     let l = c .before in
-    let s = l .before .before in
-    let a = s .args in (
-      counting-end (take (a .n) (a .ks .now)) (a .k) (l .loop .c) (l .loop .i) (l .loop .inv .1) (omega (arith, length-take (a .n) (a .ks .now), c .loop-test .left)),
-      omega (arith, l .loop .inv .0, l .loop .inv .1 .counted),
+    let a = begun l .args in
+    let v = l .loop in (
+      counting-end (typesOf l) (a .k) (v .c) (v .i) (v .inv .1) (omega (arith, length-take (a .rows) (a .types .now), c .loop-test .left)),
+      omega (arith, v .inv .0, v .inv .1 .counted),
     )
 
 pub count-rows-spec : {M : Type 1} → statement M

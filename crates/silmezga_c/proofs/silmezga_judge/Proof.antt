@@ -1,3 +1,4 @@
+-- `silmezga_c::silmezga_judge` meets its contract. Assumes nothing.
 use mathlib.Core.Path.{sym, _∙_, ap}
 use mathlib.Core.List.{[], _∷_}
 use Rattle.paper.specs.Lists.{padded}
@@ -13,43 +14,33 @@ use Rattle.silmezga_c.proofs.silmezga_judge.Lts as lts
 use Rattle.silmezga.proofs.judge.Reads as judge-reads
 use Rattle.silmezga_c.proofs.in_numbers.Reads as in-numbers-reads
 
--- src/lib.rt:113:9
 judge-requires : tie.Need-judge-requires
 judge-requires c κs = search needs
 
--- src/lib.rt:118:26
 enum-told : tie.Need-enum-told
 enum-told c = search needs
 
--- src/lib.rt:118:26
 in-numbers-requires : tie.Need-in-numbers-requires
 in-numbers-requires c κs = search needs
 
--- src/lib.rt:119:28
 enum-known-verdict : tie.Need-enum-known-verdict
 enum-known-verdict c = search needs
 
--- src/lib.rt:119:44
 in-numbers-requires-2 : tie.Need-in-numbers-requires-2
 in-numbers-requires-2 c κs = search needs
 
--- src/lib.rt:120:26
 enum-known-verdict-2 : tie.Need-enum-known-verdict-2
 enum-known-verdict-2 c = search needs
 
--- src/lib.rt:120:45
 in-numbers-requires-3 : tie.Need-in-numbers-requires-3
 in-numbers-requires-3 c κs = search needs
 
--- src/lib.rt:121:27
 enum-known-verdict-3 : tie.Need-enum-known-verdict-3
 enum-known-verdict-3 c = search needs
 
--- src/lib.rt:121:46
 in-numbers-requires-4 : tie.Need-in-numbers-requires-4
 in-numbers-requires-4 c κs = search needs
 
--- src/lib.rt:109:1
 returns : tie.Need-returns
 returns c =
     let v = c .before .before .before .judge in
@@ -58,7 +49,6 @@ returns c =
     in-three (v .result) (c .in-numbers .result) (judge base (a .table .now) (a .shape .now)) (v .ensures) (t .0) (t .1)
     ((λ i. t .2 i ∷ t .3 i ∷ t .4 i ∷ []) ∙ ap (λ x. padded 3 (numbersOf x)) (sym (c .before .enum-told .given .1)))
 
--- src/lib.rt:109:1
 returns-2 : tie.Need-returns-2
 returns-2 c =
     let v = c .before .before .before .before .judge in
@@ -67,7 +57,6 @@ returns-2 c =
     in-three (v .result) (c .in-numbers2 .result) (judge base (a .table .now) (a .shape .now)) (v .ensures) (t .0) (t .1)
     ((λ i. t .2 i ∷ t .3 i ∷ t .4 i ∷ []) ∙ ap (λ x. padded 3 (numbersOf x)) (sym (c .before .before .verdict .given .1)))
 
--- src/lib.rt:109:1
 returns-3 : tie.Need-returns-3
 returns-3 c =
     let v = c .before .before .before .before .judge in
@@ -76,7 +65,6 @@ returns-3 c =
     in-three (v .result) (c .in-numbers3 .result) (judge base (a .table .now) (a .shape .now)) (v .ensures) (t .0) (t .1)
     ((λ i. t .2 i ∷ t .3 i ∷ t .4 i ∷ []) ∙ ap (λ x. padded 3 (numbersOf x)) (sym (c .before .before .verdict2 .given .1)))
 
--- src/lib.rt:109:1
 returns-4 : tie.Need-returns-4
 returns-4 c =
     let v = c .before .before .before .before .judge in

@@ -1,3 +1,4 @@
+-- `silmezga_c::silmezga_look_up` meets its contract. Assumes nothing.
 use native.Mathlib.Omega.{arith}
 use Rattle.paper.specs.Format.{base}
 use Rattle.tables.proofs.Examine.{examined-refused, examined-given, lookUp-refused, lookUp-past}
@@ -10,15 +11,12 @@ use Rattle.silmezga_c.proofs.silmezga_look_up.Lts as lts
 use Rattle.silmezga.proofs.examine.Reads as examine-reads
 use Rattle.silmezga_c.proofs.no_row.Reads as no-row-reads
 
--- src/lib.rt:54:9
 examine-requires : tie.Need-examine-requires
 examine-requires c κs = search needs
 
--- src/lib.rt:59:9
 no-row-requires : tie.Need-no-row-requires
 no-row-requires c κs = search needs
 
--- src/lib.rt:59:9
 returns : tie.Need-returns
 unfolding base
 returns c =
@@ -29,11 +27,9 @@ returns c =
     (lookUp-refused base (a .table .now) (a .row) (r .number) (r .place) (examined-refused base (a .table .now) (r .number) (r .place) (r .rows) (x .examine .ensures) (c .before .if1 .taken)))
     (c .no-row .ensures)
 
--- src/lib.rt:62:9
 no-row-requires-2 : tie.Need-no-row-requires-2
 no-row-requires-2 c κs = search needs
 
--- src/lib.rt:62:9
 returns-2 : tie.Need-returns-2
 unfolding base
 returns-2 c =
@@ -45,7 +41,6 @@ returns-2 c =
     (lookUp-past base (a .table .now) (a .row) g (omega (arith, n, c .before .if2 .taken)))
     (c .no-row2 .ensures)
 
--- src/lib.rt:67:16
 mul-t8 : tie.Need-mul-t8
 unfolding base
 mul-t8 c =
@@ -55,7 +50,6 @@ mul-t8 c =
     let (g, n) = examined-given base (a .table .now) (r .number) (r .place) (r .rows) (x .examine .ensures) (c .before .if1 .left) in
     omega (arith, start-small (a .table .now) (a .row) g (omega (arith, n, c .if2 .left)))
 
--- src/lib.rt:50:1
 returns-3 : tie.Need-returns-3
 unfolding base
 returns-3 c =

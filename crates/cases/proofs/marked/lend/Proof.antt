@@ -62,10 +62,10 @@ use Rattle.adorned.proofs.lent.AdornedTypes as R
 use Rattle.adorned.proofs.lent.AdornedTypes.Laws as R′
 use Rattle.cases.proofs.marked.Left as L
 use Rattle.cases.proofs.marked.Left.Laws as L′
-use Rattle.silmezga.proofs.adorn as adorn
-use Rattle.silmezga.proofs.adorn.Symbol as adorn-def
-use Rattle.silmezga.proofs.adorn.Symbol.{name as #adorn}
-use Rattle.silmezga.proofs.adorn.Met as adorn-thm
+use Rattle.silmezga_c.proofs.silmezga_adorn as adorn
+use Rattle.silmezga_c.proofs.silmezga_adorn.Symbol as adorn-def
+use Rattle.silmezga_c.proofs.silmezga_adorn.Symbol.{name as #adorn}
+use Rattle.silmezga_c.proofs.silmezga_adorn.Met as adorn-thm
 use Rattle.cases.proofs.marked.marks as marks
 use Rattle.cases.proofs.marked.marks.Symbol as marks-def
 use Rattle.cases.proofs.marked.marks.Symbol.{name as #marks}
@@ -256,4 +256,4 @@ lend-spec 𝓤 H 𝓜 𝓖 𝓡 =
     (tables 𝓤 H 𝓜 𝓡 code.env .C) (tables 𝓤 H 𝓜 𝓡 code.env .Λ) #lend code.function (code.unfolded 𝓤 H 𝓜 𝓡)
     (lend-meets 𝓤 H (𝓖 .A) (givenOf 𝓤 H 𝓜 𝓖) (𝓜 .mem) (𝓡 .run) (tablesOf 𝓤 H 𝓜 (tables 𝓤 H 𝓜 𝓡 code.env))
     (cited 𝓤 H (Marks 𝓤 H (𝓖 .A) (𝓜 .mem) (𝓡 .run)) 𝓜 𝓡 code.env #marks marks-def.routine code.calls-cases·marked·marks (marks-thm.met 𝓤 H 𝓜 𝓖 𝓡))
-    (cited 𝓤 H (Adorn 𝓤 H (𝓖 .A) (𝓜 .mem) (𝓡 .run)) 𝓜 𝓡 code.env #adorn adorn-def.routine code.calls-silmezga·adorn (adorn-thm.met 𝓤 H 𝓜 𝓖 𝓡)))
+    (cited 𝓤 H (Adorn 𝓤 H (𝓖 .A) (𝓜 .mem) (𝓡 .run)) 𝓜 𝓡 code.env #adorn adorn-def.routine code.calls-silmezga-c·silmezga-adorn (adorn-thm.met 𝓤 H 𝓜 𝓖 𝓡)))

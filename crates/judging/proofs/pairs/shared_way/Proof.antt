@@ -1,112 +1,100 @@
-use Prim.Native.Nat.{_-_}
-use Rattle.judging.proofs.Ways.{Along, along-start, along-step, along-stop, along-end, way-within}
+-- `judging::pairs::shared_way` meets its contract: the places before k are alike. Assumes nothing.
+use Prim.Native.Nat.{_-_, _≤_, min}
+use native.Mathlib.Nat.{not-suc-le-zero}
 use native.Mathlib.Omega.{arith}
+use mathlib.Core.Path.{_≡_, _∙_, ap₂}
+use borrow.Author.Count.{below-more}
 use borrow.Author.Needs.{needs}
+use Rattle.shapes.specs.Shape.{levelOf}
+use Rattle.judging.proofs.Ways.{Alike, way-within, shared-apart, shared-whole}
 use Rattle.judging.proofs.pairs.shared_way.Statement.{statement}
 use Rattle.judging.proofs.pairs.shared_way.Tie as tie
-use Rattle.judging.proofs.pairs.shared_way.Reads as reads
-use Rattle.judging.proofs.pairs.shared_way.Lts as lts
-use Rattle.bytes.proofs.wide.Reads as wide-reads
-use Rattle.tables.proofs.row.smaller.Reads as smaller-reads
 
 abbrev Inv-loop : tie.InvT-loop
-Inv-loop n levels ways e f m k₀ k = Along levels ways e f m k
+Inv-loop ways e f m k₀ k = (k ≤ m) × Alike ways e f k
 
 abbrev μ-loop : tie.MeasureT-loop
-μ-loop n levels ways e f m k₀ k = m - k
+μ-loop ways e f m k₀ k = m - k
 
--- src/pairs.rt:27:46
-shared-slice-read-wide : tie.Need-shared-slice-read-wide Inv-loop μ-loop
-shared-slice-read-wide c = search needs
+-- where the walk begins
+abbrev begun : tie.After-smaller Inv-loop μ-loop → tie.Start Inv-loop μ-loop
+begun p = p .before .before .before .before .before .before
 
--- src/pairs.rt:27:34
+-- the smaller of the two levels
+least : (p : tie.After-smaller Inv-loop μ-loop)
+    → let a = begun p .args in p .smaller .result ≡ min (levelOf (a .t1) (a .e)) (levelOf (a .t1) (a .f))
+least p = p .smaller .ensures ∙ ap₂ min (p .before .before .before .wide .ensures .0) (p .before .wide2 .ensures .0)
+
+element-copy-out-wide : tie.Need-element-copy-out-wide Inv-loop μ-loop
+element-copy-out-wide c = search needs
+
 wide-requires : tie.Need-wide-requires Inv-loop μ-loop
 wide-requires c κs = search needs
 
--- src/pairs.rt:27:70
-shared-slice-read-wide-2 : tie.Need-shared-slice-read-wide-2 Inv-loop μ-loop
-shared-slice-read-wide-2 c = search needs
+element-copy-out-wide-2 : tie.Need-element-copy-out-wide-2 Inv-loop μ-loop
+element-copy-out-wide-2 c = search needs
 
--- src/pairs.rt:27:58
 wide-requires-2 : tie.Need-wide-requires-2 Inv-loop μ-loop
 wide-requires-2 c κs = search needs
 
--- src/pairs.rt:27:9
 smaller-requires : tie.Need-smaller-requires Inv-loop μ-loop
 smaller-requires c κs = search needs
 
--- src/pairs.rt:29:5
 loop-holds : tie.Need-loop-holds Inv-loop μ-loop
-loop-holds c =
-    let a = c .before .before .before .before .before .before .before .args in
-    along-start (a .levels .now) (a .ways .now) (a .e) (a .f) (c .smaller .result) (omega arith)
+loop-holds c = (omega arith, λ j lt. absurd (not-suc-le-zero lt))
 
--- src/pairs.rt:30:17
 mul-if1 : tie.Need-mul-if1 Inv-loop μ-loop
 mul-if1 c = search needs
 
--- src/pairs.rt:30:17
 add-if1 : tie.Need-add-if1 Inv-loop μ-loop
 add-if1 c = search needs
 
--- src/pairs.rt:30:12
 shared-slice-read-if1 : tie.Need-shared-slice-read-if1 Inv-loop μ-loop
 shared-slice-read-if1 c =
     let w = c .before .before in
-    let s = w .before .before .before .before .before .before .before .before in
+    let s = begun (w .before) in
     let a = s .args in
-    omega (arith, w .loop .inv .1, way-within (a .n) (a .levels .now) (a .ways .now) (s .pre .0) (a .e) (s .pre .1))
+    omega (arith, least (w .before), way-within (s .pre .0) (a .e) (s .pre .1))
 
--- src/pairs.rt:30:36
 mul-if1-2 : tie.Need-mul-if1-2 Inv-loop μ-loop
 mul-if1-2 c = search needs
 
--- src/pairs.rt:30:36
 add-if1-2 : tie.Need-add-if1-2 Inv-loop μ-loop
 add-if1-2 c = search needs
 
--- src/pairs.rt:30:31
 shared-slice-read-if1-2 : tie.Need-shared-slice-read-if1-2 Inv-loop μ-loop
 shared-slice-read-if1-2 c =
     let w = c .before .before .before in
-    let s = w .before .before .before .before .before .before .before .before in
+    let s = begun (w .before) in
     let a = s .args in
-    omega (arith, w .loop .inv .1, way-within (a .n) (a .levels .now) (a .ways .now) (s .pre .0) (a .f) (s .pre .2))
+    omega (arith, least (w .before), way-within (s .pre .0) (a .f) (s .pre .2))
 
--- src/pairs.rt:31:13
 returns : tie.Need-returns Inv-loop μ-loop
 returns c =
     let w = c .before .before .before .before in
-    let s = w .before .before .before .before .before .before .before .before in
+    let s = begun (w .before) in
     let a = s .args in
-    along-stop (a .n) (a .levels .now) (a .ways .now) (s .pre .0) (a .e) (a .f) (s .pre .1) (s .pre .2) (w .before .smaller .result) (w .loop .k)
-    (w .loop .inv) (c .before .before .before .loop-test .taken) (c .if1 .taken)
+    shared-apart (s .pre .0) (a .e) (a .f) (s .pre .1) (s .pre .2) (w .before .smaller .result) (w .loop .k) (least (w .before)) (w .loop .inv .1)
+    (c .before .before .before .loop-test .taken) (c .if1 .taken)
 
--- src/pairs.rt:33:9
 add-k : tie.Need-add-k Inv-loop μ-loop
 add-k c = search needs
 
--- src/pairs.rt:29:5
 loop-less : tie.Need-loop-less Inv-loop μ-loop
 loop-less c = search needs
 
--- src/pairs.rt:29:5
 loop-again : tie.Need-loop-again Inv-loop μ-loop
 loop-again c =
     let w = c .before .before .before .before in
-    let s = w .before .before .before .before .before .before .before .before in
-    let a = s .args in
-    along-step (a .n) (a .levels .now) (a .ways .now) (s .pre .0) (a .e) (a .f) (s .pre .1) (s .pre .2) (w .before .smaller .result) (w .loop .k)
-    (w .loop .inv) (c .before .before .before .loop-test .taken) (c .if1 .left)
+    (omega (arith, c .before .before .before .loop-test .taken), below-more _ _ (w .loop .inv .1) (c .if1 .left))
 
--- src/pairs.rt:23:1
 returns-2 : tie.Need-returns-2 Inv-loop μ-loop
 returns-2 c =
     let w = c .before in
-    let s = w .before .before .before .before .before .before .before .before in
+    let s = begun (w .before) in
     let a = s .args in
-    along-end (a .n) (a .levels .now) (a .ways .now) (s .pre .0) (a .e) (a .f) (s .pre .1) (s .pre .2) (w .before .smaller .result) (w .loop .k)
-    (w .loop .inv) (c .loop-test .left)
+    shared-whole (s .pre .0) (a .e) (a .f) (s .pre .1) (s .pre .2) (w .before .smaller .result) (w .loop .k) (least (w .before)) (w .loop .inv .1)
+    (w .loop .inv .0) (c .loop-test .left)
 
 pub shared-way-spec : {M : Type 1} → statement M
 shared-way-spec =
@@ -114,9 +102,9 @@ shared-way-spec =
     (tie.spec
     Inv-loop
     μ-loop
-    shared-slice-read-wide
+    element-copy-out-wide
     wide-requires
-    shared-slice-read-wide-2
+    element-copy-out-wide-2
     wide-requires-2
     smaller-requires
     loop-holds

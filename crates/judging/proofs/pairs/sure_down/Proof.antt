@@ -1,132 +1,114 @@
-use Prim.Native.Nat.{_-_}
+-- `judging::pairs::sure_down` meets its contract: the edges so far are full and of other levels. Assumes nothing.
+use Prim.Native.Nat.{_-_, _<_}
+use native.Mathlib.Omega.{arith}
 use mathlib.Core.Path.{_≡_, refl, sym, _∙_}
 use lib.ListN.{drop}
+use borrow.Author.Needs.{needs}
 use borrow.Author.Tests.{not-true, not-false}
+use Rattle.shapes.specs.Shape.{levelOf}
 use Rattle.judging.specs.Pairs.{wayOf, sureOn}
 use Rattle.judging.proofs.Ways.{way-within, way-entry, sure-found, sure-lost, sure-step, sure-end}
-use native.Mathlib.Omega.{arith}
-use borrow.Author.Needs.{needs}
 use Rattle.judging.proofs.pairs.sure_down.Statement.{statement}
 use Rattle.judging.proofs.pairs.sure_down.Tie as tie
-use Rattle.judging.proofs.pairs.sure_down.Reads as reads
-use Rattle.judging.proofs.pairs.sure_down.Lts as lts
-use Rattle.bytes.proofs.wide.Reads as wide-reads
 
 abbrev Inv-loop : tie.InvT-loop
-Inv-loop n levels ways edges full e k l size i₀ i =
-    sureOn edges full l (drop i (wayOf levels ways e)) ≡ sureOn edges full l (drop k (wayOf levels ways e))
+Inv-loop ways e k l shape full size i₀ i =
+    sureOn shape full l (drop i (wayOf shape ways e)) ≡ sureOn shape full l (drop k (wayOf shape ways e))
 
 abbrev μ-loop : tie.MeasureT-loop
-μ-loop n levels ways edges full e k l size i₀ i = size - i
+μ-loop ways e k l shape full size i₀ i = size - i
 
--- src/pairs.rt:76:28
-shared-slice-read-wide : tie.Need-shared-slice-read-wide Inv-loop μ-loop
-shared-slice-read-wide c = search needs
+-- where the walk begins
+abbrev begun : tie.At-loop Inv-loop μ-loop → tie.Start Inv-loop μ-loop
+begun w = w .before .before .before .before
 
--- src/pairs.rt:76:9
+-- what stands on the way is an entry
+entry-few : (c : tie.After-wide2 Inv-loop μ-loop) → c .wide2 .result < 16
+entry-few c =
+    let w = c .before .before .before in
+    let s = begun w in
+    let a = s .args in
+    let in-way : w .loop .i < levelOf (a .t1) (a .e) = omega (arith, w .before .wide .ensures .0) in
+    omega (arith, s .pre .0 .sized .few, way-entry (s .pre .0) (a .e) (s .pre .1) (w .loop .i) (c .wide2 .result) in-way (c .wide2 .ensures .0))
+
+element-copy-out-wide : tie.Need-element-copy-out-wide Inv-loop μ-loop
+element-copy-out-wide c = search needs
+
 wide-requires : tie.Need-wide-requires Inv-loop μ-loop
 wide-requires c κs = search needs
 
--- src/pairs.rt:78:5
 loop-holds : tie.Need-loop-holds Inv-loop μ-loop
 loop-holds c = refl
 
--- src/pairs.rt:79:34
 mul-wide : tie.Need-mul-wide Inv-loop μ-loop
 mul-wide c = search needs
 
--- src/pairs.rt:79:34
 add-wide : tie.Need-add-wide Inv-loop μ-loop
 add-wide c = search needs
 
--- src/pairs.rt:79:29
-shared-slice-read-wide-2 : tie.Need-shared-slice-read-wide-2 Inv-loop μ-loop
-shared-slice-read-wide-2 c =
+shared-slice-read-wide : tie.Need-shared-slice-read-wide Inv-loop μ-loop
+shared-slice-read-wide c =
     let w = c .before .before in
-    let s = w .before .before .before .before .before .before .before in
+    let s = begun w in
     let a = s .args in
-    omega (arith, way-within (a .n) (a .levels .now) (a .ways .now) (s .pre .0) (a .e) (s .pre .1))
+    omega (arith, w .before .wide .ensures .0, way-within (s .pre .0) (a .e) (s .pre .1))
 
--- src/pairs.rt:79:13
 wide-requires-2 : tie.Need-wide-requires-2 Inv-loop μ-loop
 wide-requires-2 c κs = search needs
 
--- src/pairs.rt:80:24
-shared-slice-read-wide-3 : tie.Need-shared-slice-read-wide-3 Inv-loop μ-loop
-shared-slice-read-wide-3 c =
-    let w = c .before .before .before .before in
-    let s = w .before .before .before .before .before .before .before in
-    let a = s .args in
-    omega (
-      arith,
-      way-entry (a .n) (a .levels .now) (a .ways .now) (s .pre .0) (a .e) (s .pre .1) (w .loop .i) (c .before .wide2 .result)
-          (omega arith) (c .before .wide2 .ensures .0),
-    )
+element-copy-out-wide-2 : tie.Need-element-copy-out-wide-2 Inv-loop μ-loop
+element-copy-out-wide-2 c = entry-few c
 
--- src/pairs.rt:80:12
 wide-requires-3 : tie.Need-wide-requires-3 Inv-loop μ-loop
 wide-requires-3 c κs = search needs
 
--- src/pairs.rt:81:13
 returns : tie.Need-returns Inv-loop μ-loop
 returns c =
-    let w = c .before .before .before .before .before .before in
-    let s = w .before .before .before .before .before .before .before in
+    let v = c .before in
+    let d = v .before .before in
+    let w = d .before .before .before in
+    let s = begun w in
     let a = s .args in
-    sym (sure-found (a .n) (a .levels .now) (a .ways .now) (s .pre .0) (a .e) (s .pre .1) (a .edges .now) (w .loop .i) (omega arith) (a .full .now)
-    (c .before .before .before .wide2 .result) (c .before .wide3 .result) (a .l) (c .before .before .before .wide2 .ensures .0)
-    (c .before .wide3 .ensures .0) (c .if1 .taken)) ∙ w .loop .inv
+    sym (sure-found (s .pre .0) (a .e) (s .pre .1) (w .loop .i) (omega (arith, w .before .wide .ensures .0)) (a .t3)
+    (d .wide2 .result) (v .wide3 .result) (a .l) (d .wide2 .ensures .0) (v .wide3 .ensures .0) (c .if1 .taken)) ∙ w .loop .inv
 
--- src/pairs.rt:83:13
-shared-slice-read-if2 : tie.Need-shared-slice-read-if2 Inv-loop μ-loop
-shared-slice-read-if2 c =
-    let w = c .before .before .before .before .before .before .before in
-    let s = w .before .before .before .before .before .before .before in
-    let a = s .args in
-    omega (
-      arith,
-      way-entry (a .n) (a .levels .now) (a .ways .now) (s .pre .0) (a .e) (s .pre .1) (w .loop .i)
-          (c .before .before .before .before .wide2 .result) (omega arith) (c .before .before .before .before .wide2 .ensures .0),
-    )
+array-read-if2 : tie.Need-array-read-if2 Inv-loop μ-loop
+array-read-if2 c = entry-few (c .before .before .before)
 
--- src/pairs.rt:84:13
 returns-2 : tie.Need-returns-2 Inv-loop μ-loop
 returns-2 c =
-    let w = c .before .before .before .before .before .before .before .before in
-    let s = w .before .before .before .before .before .before .before in
+    let v = c .before .before in
+    let d = v .before .before in
+    let w = d .before .before .before in
+    let s = begun w in
     let a = s .args in
-    sym (sure-lost (a .n) (a .levels .now) (a .ways .now) (s .pre .0) (a .e) (s .pre .1) (a .edges .now) (w .loop .i) (omega arith) (a .full .now)
-    (c .before .before .before .before .before .wide2 .result) (c .before .before .before .wide3 .result) (a .l)
-    (c .before .before .before .before .before .wide2 .ensures .0) (c .before .before .before .wide3 .ensures .0) (c .before .before .if1 .left)
+    sym (sure-lost (s .pre .0) (a .e) (s .pre .1) (w .loop .i) (omega (arith, w .before .wide .ensures .0)) (a .t3)
+    (d .wide2 .result) (v .wide3 .result) (a .l) (d .wide2 .ensures .0) (v .wide3 .ensures .0) (c .before .if1 .left)
     (not-true _ (c .if2 .taken))) ∙ w .loop .inv
 
--- src/pairs.rt:86:9
 add-i : tie.Need-add-i Inv-loop μ-loop
 add-i c = search needs
 
--- src/pairs.rt:78:5
 loop-less : tie.Need-loop-less Inv-loop μ-loop
 loop-less c = search needs
 
--- src/pairs.rt:78:5
 loop-again : tie.Need-loop-again Inv-loop μ-loop
 loop-again c =
-    let w = c .before .before .before .before .before .before .before .before in
-    let s = w .before .before .before .before .before .before .before in
+    let v = c .before .before in
+    let d = v .before .before in
+    let w = d .before .before .before in
+    let s = begun w in
     let a = s .args in
-    sym (sure-step (a .n) (a .levels .now) (a .ways .now) (s .pre .0) (a .e) (s .pre .1) (a .edges .now) (w .loop .i) (omega arith) (a .full .now)
-    (c .before .before .before .before .before .wide2 .result) (c .before .before .before .wide3 .result) (a .l)
-    (c .before .before .before .before .before .wide2 .ensures .0) (c .before .before .before .wide3 .ensures .0) (c .before .before .if1 .left)
+    sym (sure-step (s .pre .0) (a .e) (s .pre .1) (w .loop .i) (omega (arith, w .before .wide .ensures .0)) (a .t3)
+    (d .wide2 .result) (v .wide3 .result) (a .l) (d .wide2 .ensures .0) (v .wide3 .ensures .0) (c .before .if1 .left)
     (not-false _ (c .if2 .left))) ∙ w .loop .inv
 
--- src/pairs.rt:63:1
 returns-3 : tie.Need-returns-3 Inv-loop μ-loop
 returns-3 c =
     let w = c .before in
-    let s = w .before .before .before .before .before .before .before in
+    let s = begun w in
     let a = s .args in
-    sym (sure-end (a .n) (a .levels .now) (a .ways .now) (s .pre .0) (a .e) (s .pre .1) (a .edges .now) (w .loop .i) (omega arith) (a .full .now)
-    (a .l)) ∙ w .loop .inv
+    sym (sure-end (s .pre .0) (a .e) (s .pre .1) (w .loop .i) (omega (arith, w .before .wide .ensures .0)) (a .t3) (a .l)) ∙ w .loop .inv
 
 pub sure-down-spec : {M : Type 1} → statement M
 sure-down-spec =
@@ -134,17 +116,17 @@ sure-down-spec =
     (tie.spec
     Inv-loop
     μ-loop
-    shared-slice-read-wide
+    element-copy-out-wide
     wide-requires
     loop-holds
     mul-wide
     add-wide
-    shared-slice-read-wide-2
+    shared-slice-read-wide
     wide-requires-2
-    shared-slice-read-wide-3
+    element-copy-out-wide-2
     wide-requires-3
     returns
-    shared-slice-read-if2
+    array-read-if2
     returns-2
     add-i
     loop-less

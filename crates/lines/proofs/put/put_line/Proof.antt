@@ -1,144 +1,146 @@
-use lib.ListN.{length-set, length-take, length-drop}
-use Rattle.paper.specs.Format.{format}
+-- `put_line`: the parts of the record are written one after the other, and the position over its place in the number. Assumes nothing.
+use Prim.Native.Nat.{_+_, _*_, _≤_}
+use mathlib.Core.Path.{_≡_, ap}
+use lib.ListN.{length, length-set}
+use Rattle.paper.specs.Format.{rowBytes}
 use Rattle.bytes.proofs.Writing.{two-written}
 use Rattle.lines.proofs.Line.{row-within, line-written}
 use native.Mathlib.Omega.{arith}
 use borrow.Author.Needs.{needs}
 use Rattle.lines.proofs.put.put_line.Statement.{statement}
 use Rattle.lines.proofs.put.put_line.Tie as tie
-use Rattle.lines.proofs.put.put_line.Reads as reads
-use Rattle.lines.proofs.put.put_line.Lts as lts
-use Rattle.bytes.proofs.record.Reads as record-reads
-use Rattle.lines.proofs.put.put_number.Reads as put-number-reads
-use Rattle.lines.proofs.put.put_word.Reads as put-word-reads
 
--- src/put.rt:60:17
-mul-w : tie.Need-mul-w
-mul-w c = search needs
+-- The width is a record's, at the row and at the line's place, and the row lies within the table.
+widths : (c : tie.After-row-bytes) → let a = c .before .before .before .args in
+    (c .row-bytes .result * a .r ≡ rowBytes (a .f) * a .r) × (c .row-bytes .result * a .place ≡ rowBytes (a .f) * a .place)
+    × (rowBytes (a .f) * a .r + rowBytes (a .f) ≤ length (a .table .now))
+widths c =
+    let s = c .before .before .before in
+    let e = c .row-bytes .ensures in
+    let within = row-within (s .args .f) (s .args .table .now) (s .args .r) (s .pre .row-in) in
+    (ap (λ w. w * s .args .r) e, ap (λ w. w * s .args .place) e, within)
 
--- src/put.rt:60:13
-add-w : tie.Need-add-w
-add-w c = search needs
+-- each place from the one after it
+abbrev labelled : tie.After-new → tie.After-row-bytes
+labelled c = c .before .before .before .before
 
--- src/put.rt:60:13
-add-w-2 : tie.Need-add-w-2
-add-w-2 c = search needs
+abbrev numbered : tie.After-new2 → tie.After-new
+numbered c = c .before .before .before .before
 
--- src/put.rt:61:14
-mul-at : tie.Need-mul-at
-mul-at c = search needs
+abbrev positioned : tie.After-new3 → tie.After-new2
+positioned c = c .before .before .before .before
 
--- src/put.rt:62:9
-record-requires : tie.Need-record-requires
-record-requires c κs =
-    let s = c .before .before in
-    omega (arith, row-within (format (s .args .levels) (s .args .largest)) (s .args .t .now) (s .args .r) (s .pre .1))
+-- The lent bytes stay as many.
+long : (c : tie.After-new2) → length (c .before .put-number .last .0) ≡ length (labelled (numbered c) .before .before .before .args .new .now)
+long c = omega (arith, c .new2 .given, simp length-set at (numbered c .new .given))
 
--- src/put.rt:63:17
-mul-v : tie.Need-mul-v
-mul-v c = search needs
+row-bytes-requires : tie.Need-row-bytes-requires
+row-bytes-requires c κs = search needs
 
--- src/put.rt:63:13
-add-v : tie.Need-add-v
-add-v c = search needs
+mul-value-at : tie.Need-mul-value-at
+mul-value-at c = omega (arith, widths c)
 
--- src/put.rt:64:5
-slice-write-out : tie.Need-slice-write-out
-slice-write-out c = search needs
+add-value-at : tie.Need-add-value-at
+add-value-at c = omega (arith, widths c)
 
--- src/put.rt:65:9
-add-out : tie.Need-add-out
-add-out c = search needs
+sub-value-at : tie.Need-sub-value-at
+sub-value-at c = search needs
 
--- src/put.rt:65:5
-slice-write-out-2 : tie.Need-slice-write-out-2
-slice-write-out-2 c = simp length-set (omega arith)
+value-at-requires : tie.Need-value-at-requires
+value-at-requires c κs = omega (arith, widths c)
 
--- src/put.rt:66:19
+mul-start : tie.Need-mul-start
+mul-start c = omega (arith, widths (c .before))
+
+slice-write-new : tie.Need-slice-write-new
+slice-write-new c = omega (arith, widths (c .before))
+
+add-new : tie.Need-add-new
+add-new c = omega (arith, widths (c .before))
+
+slice-write-new-2 : tie.Need-slice-write-new-2
+slice-write-new-2 c = simp length-set (omega (arith, widths (c .before)))
+
 add-put-word : tie.Need-add-put-word
-add-put-word c = search needs
+add-put-word c = omega (arith, widths (c .before .before))
 
--- src/put.rt:66:5
 put-word-requires : tie.Need-put-word-requires
-put-word-requires c κs = simp length-set (omega arith)
+put-word-requires c κs = simp length-set (omega (arith, widths (c .before .before)))
 
--- src/put.rt:67:21
 add-put-number : tie.Need-add-put-number
-add-put-number c = search needs
+add-put-number c = omega (arith, widths (labelled (c .before .before)))
 
--- src/put.rt:67:5
 put-number-requires : tie.Need-put-number-requires
-put-number-requires c κs = omega (arith, simp length-set at (c .before .before .out .given))
+put-number-requires c κs = omega (arith, widths (labelled (c .before .before)), simp length-set at (c .before .before .new .given))
 
--- src/put.rt:68:20
-add-put : tie.Need-add-put
-add-put c = search needs
+add-put-word-2 : tie.Need-add-put-word-2
+add-put-word-2 c = omega (arith, widths (labelled (numbered (c .before .before))))
 
--- src/put.rt:68:36
-add-put-2 : tie.Need-add-put-2
-add-put-2 c = search needs
+mul-put-word : tie.Need-mul-put-word
+mul-put-word c = search needs
 
--- src/put.rt:68:28
-sub-put : tie.Need-sub-put
-sub-put c = search needs
+add-put-word-3 : tie.Need-add-put-word-3
+add-put-word-3 c = omega (arith, widths (labelled (numbered (c .before .before))))
 
--- src/put.rt:68:28
-part-put-start : tie.Need-part-put-start
-part-put-start c = search needs
+put-word-requires-2 : tie.Need-put-word-requires-2
+put-word-requires-2 c κs = omega (arith, widths (labelled (numbered (c .before .before))), long (c .before .before))
 
--- src/put.rt:68:28
-part-put-end : tie.Need-part-put-end
-part-put-end c = search needs
+add-put-value : tie.Need-add-put-value
+add-put-value c = omega (arith, widths (labelled (numbered (positioned (c .before .before)))))
 
--- src/put.rt:68:5
-put-requires : tie.Need-put-requires
-put-requires c κs =
-    let n = c .before .before .before in
-    simp (length-take, length-drop) (omega (arith, n .out2 .given, simp length-set at (n .before .before .before .before .out .given)))
+sub-put-value : tie.Need-sub-put-value
+sub-put-value c = search needs
 
--- src/put.rt:46:1
+put-value-requires : tie.Need-put-value-requires
+put-value-requires c κs =
+    let p = c .before .before in
+    omega (arith, widths (labelled (numbered (positioned p))), long (positioned p), p .new3 .given)
+
 same-length : tie.Need-same-length
 same-length c =
-    let n = c .before .before .before .before .before .before in
-    omega (arith, c .before .out3 .given, n .out2 .given, simp length-set at (n .before .before .before .before .out .given))
+    let p = c .before .before .before .before .before in
+    omega (arith, c .before .new4 .given, p .new3 .given, long (positioned p))
 
--- src/put.rt:46:1
 returns : tie.Need-returns
 returns c =
     let v = c .before .before in
-    let n = v .before .before .before .before .before in
-    let w = n .before .before .before .before in
-    let row = w .before .before in
-    let s = row .before .before .before in
+    let p = v .before .before .before in
+    let n = positioned p in
+    let w = numbered n in
+    let m = labelled w in
+    let s = m .before .before .before in
     let a = s .args in
-    line-written (format (a .levels) (a .largest)) (a .t .now) (a .r) (s .pre .1) (a .level) (a .label) (a .number) (omega (arith, s .good, s .pre))
-    (a .out .now) _ (w .put-word .last .0) (n .put-number .last .0) (v .put .last .0) (row .«record» .result .now)
-    _ _ _ _ _ (omega arith) (omega arith) (omega arith) (omega arith) (row .«record» .ensures .0)
-    (two-written (a .out .now) _ _ _ _ _ _ (omega arith) (omega arith) (omega arith)) (w .put-word .ensures) (n .put-number .ensures) (v .put .ensures)
+    let u = widths m in
+    line-written (a .f) (a .table .now) (a .r) (s .pre .row-in)
+    (a .level) (a .label) (a .number) (a .at) (a .position) (omega (arith, s .good, s .pre)) (s .pre .at-in) (omega (arith, s .good, s .pre))
+    (a .new .now) _ (w .before .put-word .last .0) (n .before .put-number .last .0) (p .before .put-word2 .last .0) (v .put-value .last .0) _ _ _ _ _ _ _
+    (omega (arith, u)) (omega (arith, u)) (omega (arith, u)) (omega (arith, u)) (omega (arith, u, m .row-bytes .ensures))
+    (two-written (a .new .now) _ _ _ _ _ _ (omega (arith, u)) (omega arith) (omega arith)) (w .before .put-word .ensures) (n .before .put-number .ensures)
+    (p .before .put-word2 .ensures) (v .put-value .ensures) (w .before .before .before .value-at .ensures) (omega (arith, u, m .row-bytes .ensures))
 
 pub put-line-spec : {M : Type 1} → statement M
 put-line-spec =
     tie.close
     (tie.spec
-    mul-w
-    add-w
-    add-w-2
-    mul-at
-    record-requires
-    mul-v
-    add-v
-    slice-write-out
-    add-out
-    slice-write-out-2
+    row-bytes-requires
+    mul-value-at
+    add-value-at
+    sub-value-at
+    value-at-requires
+    mul-start
+    slice-write-new
+    add-new
+    slice-write-new-2
     add-put-word
     put-word-requires
     add-put-number
     put-number-requires
-    add-put
-    add-put-2
-    sub-put
-    part-put-start
-    part-put-end
-    put-requires
+    add-put-word-2
+    mul-put-word
+    add-put-word-3
+    put-word-requires-2
+    add-put-value
+    sub-put-value
+    put-value-requires
     same-length
     returns)

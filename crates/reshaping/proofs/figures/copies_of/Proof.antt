@@ -1,3 +1,4 @@
+-- `reshaping::figures::copies_of` meets its contract. Assumes nothing.
 use mathlib.Core.Path.{refl}
 use native.Mathlib.Omega.{arith}
 use borrow.Author.Needs.{needs}
@@ -14,63 +15,48 @@ Inv-loop lines rows copies₀ e₀ copies e = (e ≤ 16) × Figured (less lines 
 abbrev μ-loop : tie.MeasureT-loop
 μ-loop lines rows copies₀ e₀ copies e = 16 - e
 
--- src/figures.rt:27:5
 loop-holds : tie.Need-loop-holds Inv-loop μ-loop
 loop-holds c = (omega arith, figured-none (less (c .args .t1) (c .args .t2)))
 
--- src/figures.rt:28:12
 mul-if1 : tie.Need-mul-if1 Inv-loop μ-loop
 mul-if1 c = search needs
 
--- src/figures.rt:28:12
 array-read-if1 : tie.Need-array-read-if1 Inv-loop μ-loop
 array-read-if1 c = search needs
 
--- src/figures.rt:28:22
 mul-if1-2 : tie.Need-mul-if1-2 Inv-loop μ-loop
 mul-if1-2 c = search needs
 
--- src/figures.rt:28:22
 array-read-if1-2 : tie.Need-array-read-if1-2 Inv-loop μ-loop
 array-read-if1-2 c = search needs
 
--- src/figures.rt:29:25
 mul-copies : tie.Need-mul-copies Inv-loop μ-loop
 mul-copies c = search needs
 
--- src/figures.rt:29:25
 array-read-copies : tie.Need-array-read-copies Inv-loop μ-loop
 array-read-copies c = search needs
 
--- src/figures.rt:29:36
 mul-copies-2 : tie.Need-mul-copies-2 Inv-loop μ-loop
 mul-copies-2 c = search needs
 
--- src/figures.rt:29:36
 array-read-copies-2 : tie.Need-array-read-copies-2 Inv-loop μ-loop
 array-read-copies-2 c = search needs
 
--- src/figures.rt:29:25
 sub-copies : tie.Need-sub-copies Inv-loop μ-loop
 sub-copies c = search needs
 
--- src/figures.rt:29:13
 mul-copies-3 : tie.Need-mul-copies-3 Inv-loop μ-loop
 mul-copies-3 c = search needs
 
--- src/figures.rt:29:13
 array-write-copies : tie.Need-array-write-copies Inv-loop μ-loop
 array-write-copies c = search needs
 
--- src/figures.rt:30:13
 add-e : tie.Need-add-e Inv-loop μ-loop
 add-e c = search needs
 
--- src/figures.rt:27:5
 loop-less : tie.Need-loop-less Inv-loop μ-loop
 loop-less c = search needs
 
--- src/figures.rt:27:5
 loop-again : tie.Need-loop-again Inv-loop μ-loop
 loop-again c =
     let i = c .before in
@@ -78,15 +64,12 @@ loop-again c =
     let a = l .before .args in
     (omega (arith, i .loop-test .taken), figured-more (less (a .t1) (a .t2)) (l .loop .e) (l .loop .copies) (l .loop .inv .1) _ (i .loop-test .taken) refl)
 
--- src/figures.rt:32:13
 add-e-2 : tie.Need-add-e-2 Inv-loop μ-loop
 add-e-2 c = search needs
 
--- src/figures.rt:27:5
 loop-less-2 : tie.Need-loop-less-2 Inv-loop μ-loop
 loop-less-2 c = search needs
 
--- src/figures.rt:27:5
 loop-again-2 : tie.Need-loop-again-2 Inv-loop μ-loop
 loop-again-2 c =
     let i = c .before in
@@ -94,7 +77,6 @@ loop-again-2 c =
     let a = l .before .args in
     (omega (arith, i .loop-test .taken), figured-same (less (a .t1) (a .t2)) (l .loop .e) (l .loop .copies) (l .loop .inv .1) (omega (arith, c .if1 .left)))
 
--- src/figures.rt:22:1
 returns : tie.Need-returns Inv-loop μ-loop
 returns c = λ e lt. c .before .loop .inv .1 .filled .at e (omega (arith, c .loop-test .left))
 

@@ -1,72 +1,57 @@
+-- `reshaping::figures::entry_rows` meets its contract. Assumes nothing.
+use Prim.Native.Nat.{_≤_, _-_}
+use native.Mathlib.Omega.{arith}
 use mathlib.Core.Path.{_≡_, _∙_, ap}
 use lib.Dec.{eqb}
 use lib.ListN.{length, take}
-use Rattle.paper.specs.Lists.{keep}
-use native.Mathlib.Omega.{arith}
 use borrow.Author.Needs.{needs}
-use Prim.Native.Nat.{_≤_, _-_}
+use Rattle.paper.specs.Lists.{keep}
 use Rattle.reshaping.proofs.Figured.{Figured, rowsOf, figured-none, figured-more}
 use Rattle.reshaping.proofs.figures.entry_rows.Statement.{statement}
 use Rattle.reshaping.proofs.figures.entry_rows.Tie as tie
-use Rattle.reshaping.proofs.figures.entry_rows.Reads as reads
-use Rattle.reshaping.proofs.figures.entry_rows.Lts as lts
-use Rattle.bytes.proofs.wide.Reads as wide-reads
-use Rattle.closest.proofs.count_rows.Reads as count-rows-reads
 
 abbrev Inv-loop : tie.InvT-loop
-Inv-loop ks n kinds m rows₀ e₀ rows e = (e ≤ m) × Figured (rowsOf ks n kinds) e rows
+Inv-loop types rows shape entries held₀ e₀ held e = (e ≤ entries) × Figured (rowsOf types rows (shape .types)) e held
 
 abbrev μ-loop : tie.MeasureT-loop
-μ-loop ks n kinds m rows₀ e₀ rows e = m - e
+μ-loop types rows shape entries held₀ e₀ held e = entries - e
 
--- src/figures.rt:14:5
 loop-holds : tie.Need-loop-holds Inv-loop μ-loop
-loop-holds c =
-    let a = c .before .before .args in
-    (omega arith, figured-none (rowsOf (a .ks .now) (a .n) (a .kinds .now)))
+loop-holds c = let a = c .before .args in (omega arith, figured-none (rowsOf (a .types .now) (a .rows) (a .t3 .types)))
 
--- src/figures.rt:15:58
-shared-slice-read-wide : tie.Need-shared-slice-read-wide Inv-loop μ-loop
-shared-slice-read-wide c = search needs
+element-copy-out-wide : tie.Need-element-copy-out-wide Inv-loop μ-loop
+element-copy-out-wide c = search needs
 
--- src/figures.rt:15:46
 wide-requires : tie.Need-wide-requires Inv-loop μ-loop
 wide-requires c κs = search needs
 
--- src/figures.rt:15:19
 count-rows-requires : tie.Need-count-rows-requires Inv-loop μ-loop
 count-rows-requires c κs = search needs
 
--- src/figures.rt:15:9
-mul-rows : tie.Need-mul-rows Inv-loop μ-loop
-mul-rows c = search needs
+mul-held : tie.Need-mul-held Inv-loop μ-loop
+mul-held c = search needs
 
--- src/figures.rt:15:9
-array-write-rows : tie.Need-array-write-rows Inv-loop μ-loop
-array-write-rows c = search needs
+array-write-held : tie.Need-array-write-held Inv-loop μ-loop
+array-write-held c = search needs
 
--- src/figures.rt:16:9
 add-e : tie.Need-add-e Inv-loop μ-loop
 add-e c = search needs
 
--- src/figures.rt:14:5
 loop-less : tie.Need-loop-less Inv-loop μ-loop
 loop-less c = search needs
 
--- src/figures.rt:14:5
 loop-again : tie.Need-loop-again Inv-loop μ-loop
 loop-again c =
     let w = c .before in
     let i = w .before .before in
     let l = i .before in
-    let s = l .before .before .before in
+    let s = l .before .before in
     let a = s .args in
-    let g = rowsOf (a .ks .now) (a .n) (a .kinds .now) in
+    let g = rowsOf (a .types .now) (a .rows) (a .t3 .types) in
     let q : c .count-rows .result ≡ g (l .loop .e) =
-    c .count-rows .ensures .0 ∙ ap (λ k. length (keep (λ x. eqb x k) (take (a .n) (a .ks .now)))) (w .wide .ensures .0) in
-    (omega arith, figured-more g (l .loop .e) (l .loop .rows) (l .loop .inv .1) (c .count-rows .result) (omega (arith, s .pre .1, i .loop-test .taken)) q)
+    c .count-rows .ensures .0 ∙ ap (λ k. length (keep (λ x. eqb x k) (take (a .rows) (a .types .now)))) (w .wide .ensures .0) in
+    (omega arith, figured-more g (l .loop .e) (l .loop .held) (l .loop .inv .1) (c .count-rows .result) (omega (arith, s .pre .1, i .loop-test .taken)) q)
 
--- src/figures.rt:8:1
 returns : tie.Need-returns Inv-loop μ-loop
 returns c =
     let l = c .before .loop in
@@ -80,11 +65,11 @@ entry-rows-spec =
     Inv-loop
     μ-loop
     loop-holds
-    shared-slice-read-wide
+    element-copy-out-wide
     wide-requires
     count-rows-requires
-    mul-rows
-    array-write-rows
+    mul-held
+    array-write-held
     add-e
     loop-less
     loop-again

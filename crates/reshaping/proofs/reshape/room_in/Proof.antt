@@ -1,3 +1,4 @@
+-- `reshaping::reshape::room_in` meets its contract. Assumes nothing.
 use native.Mathlib.Omega.{arith}
 use borrow.Author.Needs.{needs}
 use Rattle.reshaping.proofs.reshape.room_in.Statement.{statement}
@@ -6,15 +7,12 @@ use Rattle.reshaping.proofs.reshape.room_in.Reads as reads
 use Rattle.reshaping.proofs.reshape.room_in.Lts as lts
 use Rattle.tables.proofs.row.smaller.Reads as smaller-reads
 
--- src/reshape.rt:26:38
 smaller-requires : tie.Need-smaller-requires
 smaller-requires c κs = search needs
 
--- src/reshape.rt:26:5
 smaller-requires-2 : tie.Need-smaller-requires-2
 smaller-requires-2 c κs = search needs
 
--- src/reshape.rt:23:1
 returns : tie.Need-returns
 returns c = omega (arith, c .smaller2 .ensures, c .before .smaller .ensures)
 

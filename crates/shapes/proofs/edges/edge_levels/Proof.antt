@@ -1,80 +1,70 @@
-use Prim.Native.Nat.{_-_, _≤_, _<_}
+-- `shapes::edges::edge_levels` meets its contract. Assumes nothing.
+use Prim.Native.Nat.{ℕ, _-_, _≤_}
 use native.Mathlib.Omega.{arith}
-use mathlib.Core.Path.{refl, sym, _∙_, ap, subst}
+use mathlib.Core.Path.{refl, _∙_, ap}
+use mathlib.Core.List.{List}
 use lib.ListN.{getD}
-use Rattle.paper.specs.Format.{mostTypes}
-use Rattle.shapes.specs.Edges.{meetingOf}
-use Rattle.shapes.proofs.Filled.{Filled, filled-none, filled-more}
 use borrow.Author.Needs.{needs}
+use Rattle.paper.specs.Format.{mostEntries}
+use Rattle.closest.proofs.Filled.{Filled, filled-none, filled-more}
+use Rattle.shapes.specs.Edges.{meetingOf}
 use Rattle.shapes.proofs.edges.edge_levels.Statement.{statement}
 use Rattle.shapes.proofs.edges.edge_levels.Tie as tie
-use Rattle.shapes.proofs.edges.edge_levels.Reads as reads
-use Rattle.shapes.proofs.edges.edge_levels.Lts as lts
-use Rattle.bytes.proofs.wide.Reads as wide-reads
-use Rattle.shapes.proofs.edges.meeting.Reads as meeting-reads
+
+-- the level of the edge of entry e
+abbrev level : List ℕ → List ℕ → List ℕ → ℕ → ℕ
+level meetings types parents e = meetingOf meetings types (getD parents e 0) e
 
 abbrev Inv-loop : tie.InvT-loop
-Inv-loop meetings kinds parents n edges₀ c₀ edges c = (c ≤ n) × Filled (λ e. meetingOf meetings kinds (getD parents e 0) e) 0 c edges
+Inv-loop meetings types entries parents edges₀ c₀ edges c = (c ≤ entries) × Filled (level meetings types parents) 0 mostEntries c edges
 
 abbrev μ-loop : tie.MeasureT-loop
-μ-loop meetings kinds parents n edges₀ c₀ edges c = n - c
+μ-loop meetings types entries parents edges₀ c₀ edges c = entries - c
 
--- src/edges.rt:38:5
 loop-holds : tie.Need-loop-holds Inv-loop μ-loop
-loop-holds c = let a = c .before .before .before .args in (omega arith, filled-none (λ e. meetingOf (a .meetings .now) (a .kinds .now) (getD (a .parents .now) e 0) e) 0 _ refl)
+loop-holds c = let a = c .before .args in (omega arith, filled-none (level (a .meetings .now) (a .types) (a .t3)) 0 mostEntries _ refl)
 
--- src/edges.rt:39:29
-shared-slice-read-wide : tie.Need-shared-slice-read-wide Inv-loop μ-loop
-shared-slice-read-wide c = let i = c .before in omega (arith, i .before .before .before .before .before .pre .0 .parents-long, i .loop-test .taken)
+array-read-wide : tie.Need-array-read-wide Inv-loop μ-loop
+array-read-wide c = omega (arith, c .loop-test .taken, c .before .before .before .pre .0 .inside .few)
 
--- src/edges.rt:39:13
 wide-requires : tie.Need-wide-requires Inv-loop μ-loop
 wide-requires c κs = search needs
 
--- src/edges.rt:40:20
 meeting-requires : tie.Need-meeting-requires Inv-loop μ-loop
 meeting-requires c κs =
-    let i = c .before .before in
-    let s = i .before .before .before .before .before in
-    let a = s .args in
+    let i = c .before in
+    let s = i .before .before .before in
+    let known = s .pre .0 in
     let e = i .before .loop .c in
-    let q = c .wide .ensures .0 in
-    let under = s .pre .0 .under e (i .loop-test .taken) in
-    let own = s .pre .0 .typed e (i .loop-test .taken) in
-    let above = subst (λ k. getD (a .kinds .now) k 0 < mostTypes) (sym q) (s .pre .0 .typed (getD (a .parents .now) e 0) under) in (
-      (s .pre .1, omega (arith, q, under, s .pre .0 .kinds-long), omega (arith, s .pre .0 .kinds-long, i .loop-test .taken), omega (arith, q, under, s .pre .0 .few), omega (arith, s .pre .0 .few, i .loop-test .taken)),
-      (above, own),
-    )
+    let under = known .inside .under e (i .loop-test .taken) in
+    let above = rw (← (c .wide .ensures .0)) at (known .typed (getD (s .args .t3) e 0) under) in
+    (s .pre .1, omega (arith, c .wide .ensures .0, known .inside .few), omega (arith, known .inside .few), above, known .typed e (i .loop-test .taken))
 
--- src/edges.rt:40:20
 cast-edges : tie.Need-cast-edges Inv-loop μ-loop
 cast-edges c = omega (arith, c .meeting .ensures .1)
 
--- src/edges.rt:40:9
 array-write-edges : tie.Need-array-write-edges Inv-loop μ-loop
-array-write-edges c = let i = c .before .before .before in omega (arith, i .before .before .before .before .before .pre .0 .few, i .loop-test .taken)
+array-write-edges c = array-read-wide (c .before .before)
 
--- src/edges.rt:41:9
 add-c : tie.Need-add-c Inv-loop μ-loop
 add-c c = search needs
 
--- src/edges.rt:38:5
 loop-less : tie.Need-loop-less Inv-loop μ-loop
 loop-less c = search needs
 
--- src/edges.rt:38:5
 loop-again : tie.Need-loop-again Inv-loop μ-loop
 loop-again c =
-    let w = c .before in
-    let i = w .before .before in
-    let s = i .before .before .before .before .before in
-    let a = s .args in
+    let i = c .before .before in
     let l = i .before .loop in
-    (omega (arith, i .loop-test .taken), filled-more (λ e. meetingOf (a .meetings .now) (a .kinds .now) (getD (a .parents .now) e 0) e) 0 (l .c) (l .edges) (c .meeting .result) (omega (arith, s .pre .0 .few, i .loop-test .taken)) (l .inv .1) (c .meeting .ensures .0 ∙ ap (λ p. meetingOf (a .meetings .now) (a .kinds .now) p (l .c)) (w .wide .ensures .0)))
+    let a = i .before .before .before .args in
+    let here = ap (λ p. meetingOf (a .meetings .now) (a .types) p (l .c)) (c .before .wide .ensures .0) in (
+      omega (arith, i .loop-test .taken),
+      filled-more (level (a .meetings .now) (a .types) (a .t3)) 0 mostEntries (l .c) (l .edges) (c .meeting .result)
+          (array-read-wide i) (l .inv .1) (c .meeting .ensures .0 ∙ here),
+    )
 
--- src/edges.rt:32:1
 returns : tie.Need-returns Inv-loop μ-loop
-returns c = let l = c .before .loop in λ e lt. l .inv .1 .at e (omega (arith, c .loop-test .left))
+returns c = λ e lt. c .before .loop .inv .1 .at e (omega (arith, c .loop-test .left))
 
 pub edge-levels-spec : {M : Type 1} → statement M
 edge-levels-spec =
@@ -83,7 +73,7 @@ edge-levels-spec =
     Inv-loop
     μ-loop
     loop-holds
-    shared-slice-read-wide
+    array-read-wide
     wide-requires
     meeting-requires
     cast-edges

@@ -1,94 +1,92 @@
+-- `entry::bad_entry`: the entries so far keep the rules. Assumes nothing.
 use native.Mathlib.Omega.{arith}
 use borrow.Author.Needs.{needs}
 use borrow.Author.Tests.{not-true, not-false}
-use Prim.Native.Nat.{_+_, _*_, _-_}
-use mathlib.Core.Path.{sym, _∙_}
-use Rattle.paper.specs.Format.{format}
-use Rattle.tables.proofs.Rows.{row-in}
+use Prim.Native.Nat.{_-_}
+use mathlib.Core.Path.{_≡_, sym, _∙_, ap}
+use denote.Ref.{now}
+use Rattle.paper.specs.Format.{entryBytes, whole}
+use Rattle.tables.proofs.Rows.{rec, row-in}
 use Rattle.shapes.proofs.Breaks.{Search, search-start, search-stop, search-step, search-end}
 use Rattle.shapes.proofs.entry.bad_entry.Statement.{statement}
 use Rattle.shapes.proofs.entry.bad_entry.Tie as tie
-use Rattle.shapes.proofs.entry.bad_entry.Reads as reads
-use Rattle.shapes.proofs.entry.bad_entry.Lts as lts
-use Rattle.bytes.proofs.record.Reads as record-reads
-use Rattle.bytes.proofs.wide.Reads as wide-reads
-use Rattle.shapes.proofs.entry.entry_kept.Reads as entry-kept-reads
 
 abbrev Inv-loop : tie.InvT-loop
-Inv-loop s levels largest n w before₀ i₀ before i = Search (format levels largest) s before i
+Inv-loop s f entries w before₀ e₀ before e = Search f s before e
 
 abbrev μ-loop : tie.MeasureT-loop
-μ-loop s levels largest n w before₀ i₀ before i = n - i
+μ-loop s f entries w before₀ e₀ before e = entries - e
 
--- src/entry.rt:79:17
-mul-w : tie.Need-mul-w Inv-loop μ-loop
-mul-w c = search needs
+abbrev begun : tie.At-loop Inv-loop μ-loop → tie.Start Inv-loop μ-loop
+begun l = l .before .before .before
 
--- src/entry.rt:79:13
-add-w : tie.Need-add-w Inv-loop μ-loop
-add-w c = search needs
+abbrev turn : tie.After-entry-kept Inv-loop μ-loop → tie.At-loop Inv-loop μ-loop
+turn k = k .before .before .before
 
--- src/entry.rt:82:5
+-- the bytes that are looked at are the entry's
+entry-is : (c : tie.After-record Inv-loop μ-loop) →
+    let l = c .before .before in
+    let a = begun l .args in
+    now (c .«record» .result) ≡ rec (entryBytes (a .f)) (l .loop .e) (a .shape .now)
+entry-is c =
+    let l = c .before .before in
+    c .«record» .ensures .0 ∙ ap (λ w. rec w (l .loop .e) (begun l .args .shape .now)) (l .before .entry-bytes .ensures)
+
+entry-bytes-requires : tie.Need-entry-bytes-requires Inv-loop μ-loop
+entry-bytes-requires c κs = search needs
+
 loop-holds : tie.Need-loop-holds Inv-loop μ-loop
-loop-holds c = let a = c .before .args in search-start (format (a .levels) (a .largest)) (a .s .now)
+loop-holds c = let a = c .before .before .args in search-start (a .f) (a .shape .now)
 
--- src/entry.rt:83:13
 record-requires : tie.Need-record-requires Inv-loop μ-loop
 record-requires c κs =
     let l = c .before in
-    let p = l .before .before in
-    row-in (4 + 2 * p .args .levels) (l .loop .i) (p .args .s .now) (omega (arith, p .pre .0))
+    let s = begun l .args .shape .now in
+    let w = l .before .entry-bytes in
+    row-in (w .result) (l .loop .e) s (omega (arith, begun l .pre .0, ap (λ w. whole w s) (w .ensures)))
 
--- src/entry.rt:84:13
 entry-kept-requires : tie.Need-entry-kept-requires Inv-loop μ-loop
 entry-kept-requires c κs = search needs
 
--- src/entry.rt:85:13
 returns : tie.Need-returns Inv-loop μ-loop
 returns c =
     let k = c .before in
-    let l = k .before .before .before in
-    let p = l .before .before in
+    let l = turn k in
+    let p = begun l in
     let a = p .args in (
-      search-stop (format (a .levels) (a .largest)) (a .s .now) (a .n) (p .pre .0) (l .loop .before) (l .loop .i) (l .loop .inv) (omega arith)
-          (k .before .record .result .now) (k .before .record .ensures .0) (sym (k .entry-kept .ensures) ∙ not-true _ (c .if1 .taken)),
+      search-stop (a .f) (a .shape .now) (a .entries) (p .pre .0) (l .loop .before) (l .loop .e) (l .loop .inv) (omega arith)
+          (now (k .before .«record» .result)) (entry-is (k .before)) (sym (k .entry-kept .ensures) ∙ not-true _ (c .if1 .taken)),
       omega arith,
     )
 
--- src/entry.rt:87:30
 shared-slice-read-wide : tie.Need-shared-slice-read-wide Inv-loop μ-loop
 shared-slice-read-wide c = search needs
 
--- src/entry.rt:87:9
 wide-requires : tie.Need-wide-requires Inv-loop μ-loop
 wide-requires c κs = search needs
 
--- src/entry.rt:88:9
-add-i : tie.Need-add-i Inv-loop μ-loop
-add-i c = search needs
+add-e : tie.Need-add-e Inv-loop μ-loop
+add-e c = search needs
 
--- src/entry.rt:82:5
 loop-less : tie.Need-loop-less Inv-loop μ-loop
 loop-less c = search needs
 
--- src/entry.rt:82:5
 loop-again : tie.Need-loop-again Inv-loop μ-loop
 loop-again c =
     let k = c .before .before .before in
-    let l = k .before .before .before in
-    let p = l .before .before in
+    let l = turn k in
+    let p = begun l in
     let a = p .args in
-    search-step (format (a .levels) (a .largest)) (a .s .now) (a .n) (p .pre .0) (l .loop .before) (l .loop .i) (l .loop .inv) (omega arith)
-    (k .before .record .result .now) (k .before .record .ensures .0) (sym (k .entry-kept .ensures) ∙ not-false _ (c .before .before .if1 .left))
+    search-step (a .f) (a .shape .now) (a .entries) (p .pre .0) (l .loop .before) (l .loop .e) (l .loop .inv) (omega arith)
+    (now (k .before .«record» .result)) (entry-is (k .before)) (sym (k .entry-kept .ensures) ∙ not-false _ (c .before .before .if1 .left))
     (c .wide .result) (c .wide .ensures .0) (omega arith)
 
--- src/entry.rt:75:1
 returns-2 : tie.Need-returns-2 Inv-loop μ-loop
 returns-2 c =
     let l = c .before in
-    let p = l .before .before in
+    let p = begun l in
     let a = p .args in
-    (search-end (format (a .levels) (a .largest)) (a .s .now) (a .n) (p .pre .0) (l .loop .before) (l .loop .i) (l .loop .inv) (omega arith), omega arith)
+    (search-end (a .f) (a .shape .now) (a .entries) (p .pre .0) (l .loop .before) (l .loop .e) (l .loop .inv) (omega arith), omega arith)
 
 pub bad-entry-spec : {M : Type 1} → statement M
 bad-entry-spec =
@@ -96,15 +94,14 @@ bad-entry-spec =
     (tie.spec
     Inv-loop
     μ-loop
-    mul-w
-    add-w
+    entry-bytes-requires
     loop-holds
     record-requires
     entry-kept-requires
     returns
     shared-slice-read-wide
     wide-requires
-    add-i
+    add-e
     loop-less
     loop-again
     returns-2)

@@ -1,3 +1,4 @@
+-- `entry::labels_within`: what is left to look at decides. Assumes nothing.
 use native.Mathlib.Omega.{arith}
 use borrow.Author.Needs.{needs}
 use Prim.Native.Nat.{_-_}
@@ -8,69 +9,58 @@ use Rattle.paper.specs.Format.{words}
 use Rattle.shapes.proofs.Kept.{below, above, within, label-stop, label-step, label-end}
 use Rattle.shapes.proofs.entry.labels_within.Statement.{statement}
 use Rattle.shapes.proofs.entry.labels_within.Tie as tie
-use Rattle.shapes.proofs.entry.labels_within.Reads as reads
-use Rattle.shapes.proofs.entry.labels_within.Lts as lts
-use Rattle.tables.proofs.row.component.Reads as component-reads
 
 abbrev Inv-loop : tie.InvT-loop
-Inv-loop e levels largest size k₀ k =
-    all (λ x. between 1 x largest) (drop k (take size (words levels e 4))) ≡ all (λ x. between 1 x largest) (take size (words levels e 4))
+Inv-loop e f size k₀ k =
+    all (λ x. between 1 x (f .labels)) (drop k (take size (words (f .levels) e 4))) ≡ all (λ x. between 1 x (f .labels)) (take size (words (f .levels) e 4))
 
 abbrev μ-loop : tie.MeasureT-loop
-μ-loop e levels largest size k₀ k = size - k
+μ-loop e f size k₀ k = size - k
 
--- src/entry.rt:16:5
 loop-holds : tie.Need-loop-holds Inv-loop μ-loop
 loop-holds c = search needs
 
--- src/entry.rt:17:13
 component-requires : tie.Need-component-requires Inv-loop μ-loop
 component-requires c κs = search needs
 
--- src/entry.rt:19:13
 returns : tie.Need-returns Inv-loop μ-loop
 returns c =
     let p = c .before in
     let l = p .before .before in
     let a = l .before .before .args in
-    sym (label-stop (a .levels) (a .largest) (a .size) (a .e .now) (omega arith) (l .loop .k)
+    sym (label-stop (a .f) (a .size) (a .entry .now) (omega arith) (l .loop .k)
     (p .component .result) (omega arith) (p .component .ensures .0) (below _ _ _ (c .if1 .taken)))
     ∙ l .loop .inv
 
--- src/entry.rt:22:13
 returns-2 : tie.Need-returns-2 Inv-loop μ-loop
 returns-2 c =
-    let p = c .before .before in
+    let p = c .before .before .before in
     let l = p .before .before in
     let a = l .before .before .args in
-    sym (label-stop (a .levels) (a .largest) (a .size) (a .e .now) (omega arith) (l .loop .k)
+    sym (label-stop (a .f) (a .size) (a .entry .now) (omega arith) (l .loop .k)
     (p .component .result) (omega arith) (p .component .ensures .0) (above _ _ _ (c .if2 .taken)))
     ∙ l .loop .inv
 
--- src/entry.rt:24:9
 add-k : tie.Need-add-k Inv-loop μ-loop
 add-k c = search needs
 
--- src/entry.rt:16:5
 loop-less : tie.Need-loop-less Inv-loop μ-loop
 loop-less c = search needs
 
--- src/entry.rt:16:5
 loop-again : tie.Need-loop-again Inv-loop μ-loop
 loop-again c =
-    let p = c .before .before in
+    let p = c .before .before .before in
     let l = p .before .before in
     let a = l .before .before .args in
-    sym (label-step (a .levels) (a .largest) (a .size) (a .e .now) (omega arith) (l .loop .k)
-    (p .component .result) (omega arith) (p .component .ensures .0) (within _ _ _ (c .before .if1 .left) (c .if2 .left)))
+    sym (label-step (a .f) (a .size) (a .entry .now) (omega arith) (l .loop .k)
+    (p .component .result) (omega arith) (p .component .ensures .0) (within _ _ _ (c .before .before .if1 .left) (c .if2 .left)))
     ∙ l .loop .inv
 
--- src/entry.rt:11:1
 returns-3 : tie.Need-returns-3 Inv-loop μ-loop
 returns-3 c =
     let l = c .before in
     let a = l .before .before .args in
-    sym (label-end (a .levels) (a .largest) (a .size) (a .e .now) (omega arith) (l .loop .k) (c .loop-test .left)) ∙ l .loop .inv
+    sym (label-end (a .f) (a .size) (a .entry .now) (omega arith) (l .loop .k) (c .loop-test .left)) ∙ l .loop .inv
 
 pub labels-within-spec : {M : Type 1} → statement M
 labels-within-spec =

@@ -1,24 +1,19 @@
+-- `entry::level_kept` meets its contract. Assumes nothing.
 use borrow.Author.Needs.{needs}
 use mathlib.Core.Path.{sym}
 use Rattle.shapes.proofs.Kept.{level-first, level-low, level-next}
 use Rattle.shapes.proofs.entry.level_kept.Statement.{statement}
 use Rattle.shapes.proofs.entry.level_kept.Tie as tie
-use Rattle.shapes.proofs.entry.level_kept.Reads as reads
-use Rattle.shapes.proofs.entry.level_kept.Lts as lts
 
--- src/entry.rt:35:9
 returns : tie.Need-returns
 returns c = let a = c .before .args in level-first (a .before) (a .level) (c .if1 .taken)
 
--- src/entry.rt:38:9
 returns-2 : tie.Need-returns-2
 returns-2 c = let a = c .before .before .args in sym (level-low (a .before) (a .level) (c .before .if1 .left) (c .if2 .taken))
 
--- src/entry.rt:40:14
 add-result : tie.Need-add-result
 add-result c = search needs
 
--- src/entry.rt:30:1
 returns-3 : tie.Need-returns-3
 returns-3 c = let a = c .before .before .args in level-next (a .before) (a .level) (c .before .if1 .left) (c .if2 .left)
 

@@ -1,155 +1,162 @@
-use Prim.Native.Nat.{_≤_, _-_}
-use mathlib.Core.Path.{refl}
-use Rattle.paper.specs.Format.{format, entryBytes}
-use Rattle.tables.proofs.Rows.{row-in}
+-- `ways::entry_ways`: the entries so far are read. Assumes nothing.
+use Prim.Native.Nat.{_≤_, _<_, _-_}
+use mathlib.Core.Path.{_≡_, refl, _∙_, ap}
+use denote.Ref.{now}
+use Rattle.paper.specs.Format.{mostEntries, entryBytes, whole}
+use Rattle.tables.proofs.Rows.{rec, row-in}
+use Rattle.shapes.specs.Ways.{wayPlaces}
 use Rattle.shapes.proofs.Reading.{Read, read-none, size-read, level-read, read-more, read-all}
 use native.Mathlib.Omega.{arith}
 use borrow.Author.Needs.{needs}
 use Rattle.shapes.proofs.ways.entry_ways.Statement.{statement}
 use Rattle.shapes.proofs.ways.entry_ways.Tie as tie
-use Rattle.shapes.proofs.ways.entry_ways.Reads as reads
-use Rattle.shapes.proofs.ways.entry_ways.Lts as lts
-use Rattle.bytes.proofs.record.Reads as record-reads
-use Rattle.bytes.proofs.wide.Reads as wide-reads
-use Rattle.shapes.proofs.ways.parent_of.Reads as parent-of-reads
-use Rattle.shapes.proofs.ways.with_way.Reads as with-way-reads
-use Rattle.tables.proofs.row.component.Reads as component-reads
 
 abbrev Inv-loop : tie.InvT-loop
-Inv-loop s levels largest n w depths₀ labels₀ parents₀ ways₀ i₀ depths labels parents ways i =
-    (i ≤ n) × Read (format levels largest) s i depths labels parents ways
+Inv-loop s f entries w levels₀ labels₀ parents₀ ways₀ e₀ levels labels parents ways e = (e ≤ entries) × Read f s e levels labels parents ways
 
 abbrev μ-loop : tie.MeasureT-loop
-μ-loop s levels largest n w depths₀ labels₀ parents₀ ways₀ i₀ depths labels parents ways i = n - i
+μ-loop s f entries w levels₀ labels₀ parents₀ ways₀ e₀ levels labels parents ways e = entries - e
 
--- src/ways.rt:53:17
-mul-w : tie.Need-mul-w Inv-loop μ-loop
-mul-w c = search needs
+abbrev begun : tie.At-loop Inv-loop μ-loop → tie.Start Inv-loop μ-loop
+begun l = l .before .before .before
 
--- src/ways.rt:53:13
-add-w : tie.Need-add-w Inv-loop μ-loop
-add-w c = search needs
+abbrev turn : tie.After-record Inv-loop μ-loop → tie.At-loop Inv-loop μ-loop
+turn r = r .before .before
 
--- src/ways.rt:59:5
+-- where the entry's bytes are read, before its level and its size
+abbrev levelled : tie.After-wide Inv-loop μ-loop → tie.After-record Inv-loop μ-loop
+levelled w = w .before .before
+
+abbrev sized : tie.After-wide2 Inv-loop μ-loop → tie.After-wide Inv-loop μ-loop
+sized z = z .before .before
+
+-- entry e is one of the entries, and the bytes that are read are its own
+here : (r : tie.After-record Inv-loop μ-loop) → turn r .loop .e < begun (turn r) .args .entries
+here r = r .before .loop-test .taken
+
+entry-is : (r : tie.After-record Inv-loop μ-loop) →
+    let l = turn r in
+    let a = begun l .args in
+    now (r .«record» .result) ≡ rec (entryBytes (a .f)) (l .loop .e) (a .shape .now)
+entry-is r =
+    let l = turn r in
+    r .«record» .ensures .0 ∙ ap (λ w. rec w (l .loop .e) (begun l .args .shape .now)) (l .before .entry-bytes .ensures)
+
+-- its size and its level are those of an entry that keeps the rules
+size-fits : (z : tie.After-wide2 Inv-loop μ-loop) →
+    let size = z .wide2 .result in
+    (1 ≤ size) × (size ≤ begun (turn (levelled (sized z))) .args .f .levels)
+size-fits z =
+    let r = levelled (sized z) in
+    let l = turn r in
+    let s = begun l in
+    let a = s .args in
+    size-read (a .f) (a .shape .now) (a .entries) (s .pre) (l .loop .e) (here r) (now (r .«record» .result)) (entry-is r)
+    (z .wide2 .result) (z .wide2 .ensures .0)
+
+level-fits : (w : tie.After-wide Inv-loop μ-loop) →
+    let e = turn (levelled w) .loop .e in
+    let l = w .wide .result in
+    (e < mostEntries) × (1 ≤ l) × (l ≤ wayPlaces) × (e ≡ 0 → l ≡ 1)
+level-fits w =
+    let r = levelled w in
+    let l = turn r in
+    let s = begun l in
+    let a = s .args in
+    level-read (a .f) (a .shape .now) (a .entries) (s .pre) (l .loop .e) (here r) (now (r .«record» .result)) (entry-is r)
+    (w .wide .result) (w .wide .ensures .0)
+
+entry-bytes-requires : tie.Need-entry-bytes-requires Inv-loop μ-loop
+entry-bytes-requires c κs = search needs
+
 loop-holds : tie.Need-loop-holds Inv-loop μ-loop
 loop-holds c =
-    let a = c .before .args in
-    (omega arith, read-none (format (a .levels) (a .largest)) (a .s .now) _ _ _ _ refl refl refl refl)
+    let a = c .before .before .args in
+    (omega arith, read-none (a .f) (a .shape .now) _ _ _ _ refl refl refl refl)
 
--- src/ways.rt:60:13
 record-requires : tie.Need-record-requires Inv-loop μ-loop
 record-requires c κs =
-    let s = c .before .before .before in
-    let a = s .args in
-    row-in (entryBytes (format (a .levels) (a .largest))) (c .before .loop .i) (a .s .now) (omega (arith, s .pre .0 .0))
+    let l = c .before in
+    let s = begun l .args .shape .now in
+    let w = l .before .entry-bytes in
+    row-in (w .result) (l .loop .e) s (omega (arith, begun l .pre .0 .0, ap (λ w. whole w s) (w .ensures), c .loop-test .taken))
 
--- src/ways.rt:61:29
 shared-slice-read-wide : tie.Need-shared-slice-read-wide Inv-loop μ-loop
 shared-slice-read-wide c = search needs
 
--- src/ways.rt:61:13
 wide-requires : tie.Need-wide-requires Inv-loop μ-loop
 wide-requires c κs = search needs
 
--- src/ways.rt:62:32
 shared-slice-read-wide-2 : tie.Need-shared-slice-read-wide-2 Inv-loop μ-loop
 shared-slice-read-wide-2 c = search needs
 
--- src/ways.rt:62:13
 wide-requires-2 : tie.Need-wide-requires-2 Inv-loop μ-loop
 wide-requires-2 c κs = search needs
 
--- src/ways.rt:63:21
-shared-slice-read-depths : tie.Need-shared-slice-read-depths Inv-loop μ-loop
-shared-slice-read-depths c = search needs
+shared-slice-read-levels : tie.Need-shared-slice-read-levels Inv-loop μ-loop
+shared-slice-read-levels c = search needs
 
--- src/ways.rt:63:9
-array-write-depths : tie.Need-array-write-depths Inv-loop μ-loop
-array-write-depths c = search needs
+array-write-levels : tie.Need-array-write-levels Inv-loop μ-loop
+array-write-levels c = search needs
 
--- src/ways.rt:64:55
 sub-component : tie.Need-sub-component Inv-loop μ-loop
-sub-component c =
-    let r = c .before .before .before .before .before in
-    let l = r .before .before in
-    let s = l .before .before in
-    let a = s .args in
-    omega (arith, size-read (format (a .levels) (a .largest)) (a .s .now) (a .n) (s .pre) (l .loop .i) (omega (arith, r .before .loop-test .taken)) (r .record .result .now) (r .record .ensures .0) (c .before .wide2 .result) (c .before .wide2 .ensures .0))
+sub-component c = omega (arith, size-fits (c .before))
 
--- src/ways.rt:64:21
 component-requires : tie.Need-component-requires Inv-loop μ-loop
 component-requires c κs =
-    let r = c .before .before .before .before .before in
-    let l = r .before .before in
-    let s = l .before .before in
-    let a = s .args in
-    let z = size-read (format (a .levels) (a .largest)) (a .s .now) (a .n) (s .pre) (l .loop .i) (omega (arith, r .before .loop-test .taken)) (r .record .result .now) (r .record .ensures .0) (c .before .wide2 .result) (c .before .wide2 .ensures .0) in
-    (omega (arith, r .record .ensures .1), omega arith, omega (arith, s .pre .0 .2))
+    let r = levelled (sized (c .before)) in
+    let l = turn r in
+    let size = size-fits (c .before) in
+    (omega (arith, r .«record» .ensures .1, l .before .entry-bytes .ensures), omega arith, omega (arith, begun l .pre .0 .2))
 
--- src/ways.rt:64:21
 cast-labels : tie.Need-cast-labels Inv-loop μ-loop
 cast-labels c = search needs
 
--- src/ways.rt:64:9
 mul-labels : tie.Need-mul-labels Inv-loop μ-loop
 mul-labels c = search needs
 
--- src/ways.rt:64:9
 array-write-labels : tie.Need-array-write-labels Inv-loop μ-loop
 array-write-labels c = search needs
 
--- src/ways.rt:65:13
 with-way-requires : tie.Need-with-way-requires Inv-loop μ-loop
-with-way-requires c κs =
-    let r = c .before .before .before .before .before .before in
-    let l = r .before .before in
-    let s = l .before .before in
-    let a = s .args in
-    let w = c .before .before .before .before in
-    level-read (format (a .levels) (a .largest)) (a .s .now) (a .n) (s .pre) (l .loop .i) (omega (arith, r .before .loop-test .taken)) (r .record .result .now) (r .record .ensures .0) (w .wide .result) (w .wide .ensures .0)
+with-way-requires c κs = level-fits (sized (c .before .before))
 
--- src/ways.rt:67:22
 parent-of-requires : tie.Need-parent-of-requires Inv-loop μ-loop
-parent-of-requires c κs =
-    let r = c .before .before .before .before .before .before .before in
-    let l = r .before .before in
-    let s = l .before .before in
-    let a = s .args in
-    let w = c .before .before .before .before .before in
-    let (inside, lo, hi, first) = level-read (format (a .levels) (a .largest)) (a .s .now) (a .n) (s .pre) (l .loop .i) (omega (arith, r .before .loop-test .taken)) (r .record .result .now) (r .record .ensures .0) (w .wide .result) (w .wide .ensures .0) in
-    (inside, lo, hi)
+parent-of-requires c κs = let (inside, lo, hi, first) = level-fits (sized (c .before .before .before)) in (inside, lo, hi)
 
--- src/ways.rt:67:9
 array-write-parents : tie.Need-array-write-parents Inv-loop μ-loop
 array-write-parents c = search needs
 
--- src/ways.rt:68:9
-add-i : tie.Need-add-i Inv-loop μ-loop
-add-i c = search needs
+add-e : tie.Need-add-e Inv-loop μ-loop
+add-e c = search needs
 
--- src/ways.rt:59:5
 loop-less : tie.Need-loop-less Inv-loop μ-loop
 loop-less c = search needs
 
--- src/ways.rt:59:5
 loop-again : tie.Need-loop-again Inv-loop μ-loop
 loop-again c =
-    let r = c .before .before .before .before .before .before .before .before in
-    let l = r .before .before in
-    let s = l .before .before in
-    let a = s .args in
+    let y = c .before .with-way in
     let x = c .before .before in
-    let w = x .before .before in
-    let v = w .before .before in
-    (omega arith, read-more (format (a .levels) (a .largest)) (a .s .now) (a .n) (s .pre) (l .loop .i) (omega (arith, r .before .loop-test .taken)) (r .record .result .now) (r .record .ensures .0) (v .wide .result) (v .wide .ensures .0) (l .loop .depths) (l .loop .labels) (l .loop .parents) (l .loop .ways) (l .loop .inv .1) (c .before .with-way .result) (c .before .with-way .ensures) (omega (arith, c .before .with-way .ok)) _ _ _ (w .wide2 .result) refl (w .wide2 .ensures .0) (x .component .ensures .0) (c .parent-of .ensures))
+    let z = x .before .before in
+    let w = sized z in
+    let r = levelled w in
+    let l = turn r in
+    let s = begun l in
+    let a = s .args in
+    let v = l .loop in (
+      omega (arith, here r),
+      read-more (a .f) (a .shape .now) (a .entries) (s .pre) (v .e) (here r) (now (r .«record» .result)) (entry-is r) (w .wide .result) (w .wide .ensures .0)
+          (v .levels) (v .labels) (v .parents) (v .ways) (v .inv .1) (y .result) (y .ensures) (omega (arith, y .ok)) _ _ _ (z .wide2 .result)
+          refl (z .wide2 .ensures .0) (x .component .ensures .0) (c .parent-of .ensures),
+    )
 
--- src/ways.rt:48:1
 returns : tie.Need-returns Inv-loop μ-loop
 returns c =
     let l = c .before in
-    let s = l .before .before in
-    let a = s .args in
-    read-all (format (a .levels) (a .largest)) (a .s .now) (l .loop .i) (a .n) (l .loop .depths) (l .loop .labels) (l .loop .parents) (l .loop .ways) (l .loop .inv .0) (omega (arith, c .loop-test .left)) (l .loop .inv .1)
+    let a = begun l .args in
+    let v = l .loop in
+    read-all (a .f) (a .shape .now) (v .e) (a .entries) (v .levels) (v .labels) (v .parents) (v .ways) (v .inv .0)
+    (omega (arith, c .loop-test .left)) (v .inv .1)
 
 pub entry-ways-spec : {M : Type 1} → statement M
 entry-ways-spec =
@@ -157,16 +164,15 @@ entry-ways-spec =
     (tie.spec
     Inv-loop
     μ-loop
-    mul-w
-    add-w
+    entry-bytes-requires
     loop-holds
     record-requires
     shared-slice-read-wide
     wide-requires
     shared-slice-read-wide-2
     wide-requires-2
-    shared-slice-read-depths
-    array-write-depths
+    shared-slice-read-levels
+    array-write-levels
     sub-component
     component-requires
     cast-labels
@@ -175,7 +181,7 @@ entry-ways-spec =
     with-way-requires
     parent-of-requires
     array-write-parents
-    add-i
+    add-e
     loop-less
     loop-again
     returns)

@@ -1,11 +1,10 @@
+-- `ways::with_way`: the way of the entry before is copied so far. Assumes nothing.
 use Prim.Native.Nat.{_+_, _-_, _≤_}
 use Rattle.shapes.proofs.Places.{Copied, later, copied-none, copied-more, copied-put}
 use native.Mathlib.Omega.{arith}
 use borrow.Author.Needs.{needs}
 use Rattle.shapes.proofs.ways.with_way.Statement.{statement}
 use Rattle.shapes.proofs.ways.with_way.Tie as tie
-use Rattle.shapes.proofs.ways.with_way.Reads as reads
-use Rattle.shapes.proofs.ways.with_way.Lts as lts
 
 abbrev Inv-loop : tie.InvT-loop
 Inv-loop e l all₀ k₀ all k = (k + 1 ≤ l) × Copied all₀ e k all
@@ -13,53 +12,41 @@ Inv-loop e l all₀ k₀ all k = (k + 1 ≤ l) × Copied all₀ e k all
 abbrev μ-loop : tie.MeasureT-loop
 μ-loop e l all₀ k₀ all k = l - k
 
--- src/ways.rt:19:5
 loop-holds : tie.Need-loop-holds Inv-loop μ-loop
 loop-holds c = let a = c .args in (omega arith, copied-none (a .ways) (a .e))
 
--- src/ways.rt:19:11
 add-loop : tie.Need-add-loop Inv-loop μ-loop
 add-loop c = search needs
 
--- src/ways.rt:20:35
 sub-all : tie.Need-sub-all Inv-loop μ-loop
 sub-all c =
     let s = c .before .before in
     later (s .args .e) (s .args .l) (s .pre .3) (omega arith)
 
--- src/ways.rt:20:30
 mul-all : tie.Need-mul-all Inv-loop μ-loop
 mul-all c = search needs
 
--- src/ways.rt:20:30
 add-all : tie.Need-add-all Inv-loop μ-loop
 add-all c = search needs
 
--- src/ways.rt:20:26
 array-read-all : tie.Need-array-read-all Inv-loop μ-loop
 array-read-all c = search needs
 
--- src/ways.rt:20:13
 mul-all-2 : tie.Need-mul-all-2 Inv-loop μ-loop
 mul-all-2 c = search needs
 
--- src/ways.rt:20:13
 add-all-2 : tie.Need-add-all-2 Inv-loop μ-loop
 add-all-2 c = search needs
 
--- src/ways.rt:20:9
 array-write-all : tie.Need-array-write-all Inv-loop μ-loop
 array-write-all c = search needs
 
--- src/ways.rt:21:9
 add-k : tie.Need-add-k Inv-loop μ-loop
 add-k c = search needs
 
--- src/ways.rt:19:5
 loop-less : tie.Need-loop-less Inv-loop μ-loop
 loop-less c = search needs
 
--- src/ways.rt:19:5
 loop-again : tie.Need-loop-again Inv-loop μ-loop
 loop-again c =
     let l = c .before in
@@ -68,27 +55,21 @@ loop-again c =
     let pos : 1 ≤ a .e = later (a .e) (a .l) (s .pre .3) (omega arith) in
     (omega arith, copied-more (a .ways) (a .e) (l .loop .k) (l .loop .all) (l .loop .inv .1) pos (omega arith) (omega arith))
 
--- src/ways.rt:23:28
 cast-all : tie.Need-cast-all Inv-loop μ-loop
 cast-all c = search needs
 
--- src/ways.rt:23:9
 mul-all-3 : tie.Need-mul-all-3 Inv-loop μ-loop
 mul-all-3 c = search needs
 
--- src/ways.rt:23:18
 sub-all-2 : tie.Need-sub-all-2 Inv-loop μ-loop
 sub-all-2 c = search needs
 
--- src/ways.rt:23:9
 add-all-3 : tie.Need-add-all-3 Inv-loop μ-loop
 add-all-3 c = search needs
 
--- src/ways.rt:23:5
 array-write-all-2 : tie.Need-array-write-all-2 Inv-loop μ-loop
 array-write-all-2 c = search needs
 
--- src/ways.rt:13:1
 returns : tie.Need-returns Inv-loop μ-loop
 returns c =
     let l = c .before in

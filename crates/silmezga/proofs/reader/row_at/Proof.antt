@@ -1,3 +1,4 @@
+-- `silmezga::reader::row_at` meets its contract. Assumes nothing.
 use native.Mathlib.Omega.{arith}
 use Rattle.paper.specs.Format.{base}
 use Rattle.silmezga.proofs.Reading.{row-handed, end-handed}

@@ -1,30 +1,24 @@
+-- `row::component` meets its contract. Assumes nothing.
 use mathlib.Core.Path.{sym, _∙_}
 use Rattle.tables.proofs.Laws.{words-at}
 use native.Mathlib.Omega.{arith}
 use borrow.Author.Needs.{needs}
 use Rattle.tables.proofs.row.component.Statement.{statement}
 use Rattle.tables.proofs.row.component.Tie as tie
-use Rattle.tables.proofs.row.component.Reads as reads
-use Rattle.tables.proofs.row.component.Lts as lts
-use Rattle.bytes.proofs.word.Reads as word-reads
 
--- src/row.rt:18:26
 mul-word : tie.Need-mul-word
 mul-word c = search needs
 
--- src/row.rt:18:22
 add-word : tie.Need-add-word
 add-word c = search needs
 
--- src/row.rt:18:5
 word-requires : tie.Need-word-requires
 word-requires c κs = search needs
 
--- src/row.rt:14:1
 returns : tie.Need-returns
 returns c =
     let a = c .before .before .args in
-    (c .word .ensures .0 ∙ sym (words-at (a .levels) (a .row .now) 4 (a .k) (omega arith)), c .word .ensures .1)
+    (c .word .ensures .0 ∙ sym (words-at (a .f .levels) (a .row .now) 4 (a .k) (omega arith)), c .word .ensures .1)
 
 pub component-spec : {M : Type 1} → statement M
 component-spec = tie.close (tie.spec mul-word add-word word-requires returns)

@@ -1,3 +1,4 @@
+-- `row::zeros_from`: what is left to look at decides. Assumes nothing.
 use Prim.Native.Nat.{_-_, _<_}
 use mathlib.Core.Path.{_≡_, sym, _∙_}
 use lib.Dec.{eqb}
@@ -10,57 +11,47 @@ use native.Mathlib.Omega.{arith}
 use borrow.Author.Needs.{needs}
 use Rattle.tables.proofs.row.zeros_from.Statement.{statement}
 use Rattle.tables.proofs.row.zeros_from.Tie as tie
-use Rattle.tables.proofs.row.zeros_from.Reads as reads
-use Rattle.tables.proofs.row.zeros_from.Lts as lts
-use Rattle.tables.proofs.row.component.Reads as component-reads
 
 abbrev Inv-loop : tie.InvT-loop
-Inv-loop row levels k i₀ i = all (eqb 0) (drop i (words levels row 4)) ≡ all (eqb 0) (drop k (words levels row 4))
+Inv-loop row f k i₀ i = all (eqb 0) (drop i (words (f .levels) row 4)) ≡ all (eqb 0) (drop k (words (f .levels) row 4))
 
 abbrev μ-loop : tie.MeasureT-loop
-μ-loop row levels k i₀ i = levels - i
+μ-loop row f k i₀ i = f .levels - i
 
--- src/row.rt:27:5
 loop-holds : tie.Need-loop-holds Inv-loop μ-loop
 loop-holds c = search needs
 
--- src/row.rt:28:12
 component-requires : tie.Need-component-requires Inv-loop μ-loop
 component-requires c κs = search needs
 
--- src/row.rt:29:13
 returns : tie.Need-returns Inv-loop μ-loop
 returns c =
-    let l = c .before .before .before in
+    let l = c .before .before .before .before in
     let a = l .before .before .args in
-    let ws = words (a .levels) (a .row .now) 4 in
-    let lt : l .loop .i < length ws = omega (arith, length-words (a .levels) (a .row .now) 4) in
-    sym (zeros-stop ws (l .loop .i) (c .before .component .result) lt (c .before .component .ensures .0) (c .if1 .taken)) ∙ l .loop .inv
+    let ws = words (a .f .levels) (a .row .now) 4 in
+    let lt : l .loop .i < length ws = omega (arith, length-words (a .f .levels) (a .row .now) 4) in
+    sym (zeros-stop ws (l .loop .i) (c .before .component .result) lt (c .before .component .ensures .0) (c .if2 .taken)) ∙ l .loop .inv
 
--- src/row.rt:31:9
 add-i : tie.Need-add-i Inv-loop μ-loop
 add-i c = search needs
 
--- src/row.rt:27:5
 loop-less : tie.Need-loop-less Inv-loop μ-loop
 loop-less c = search needs
 
--- src/row.rt:27:5
 loop-again : tie.Need-loop-again Inv-loop μ-loop
 loop-again c =
-    let l = c .before .before .before in
+    let l = c .before .before .before .before in
     let a = l .before .before .args in
-    let ws = words (a .levels) (a .row .now) 4 in
-    let lt : l .loop .i < length ws = omega (arith, length-words (a .levels) (a .row .now) 4) in
-    sym (zeros-step ws (l .loop .i) (c .before .component .result) lt (c .before .component .ensures .0) (c .if1 .left)) ∙ l .loop .inv
+    let ws = words (a .f .levels) (a .row .now) 4 in
+    let lt : l .loop .i < length ws = omega (arith, length-words (a .f .levels) (a .row .now) 4) in
+    sym (zeros-step ws (l .loop .i) (c .before .component .result) lt (c .before .component .ensures .0) (c .if2 .left)) ∙ l .loop .inv
 
--- src/row.rt:22:1
 returns-2 : tie.Need-returns-2 Inv-loop μ-loop
 returns-2 c =
-    let l = c .before in
+    let l = c .before .before in
     let a = l .before .before .args in
-    let ws = words (a .levels) (a .row .now) 4 in
-    sym (zeros-end ws (l .loop .i) (omega (arith, length-words (a .levels) (a .row .now) 4))) ∙ l .loop .inv
+    let ws = words (a .f .levels) (a .row .now) 4 in
+    sym (zeros-end ws (l .loop .i) (omega (arith, length-words (a .f .levels) (a .row .now) 4))) ∙ l .loop .inv
 
 pub zeros-from-spec : {M : Type 1} → statement M
 zeros-from-spec =

@@ -1,41 +1,103 @@
-use Rattle.paper.specs.Format.{base, whole}
+-- `table::examine`: each test decides one refusal. Assumes nothing.
+use Prim.Native.Nat.{ℕ, _*_, _/_, _%_, _≤_}
+use native.Mathlib.Omega.{arith}
+use mathlib.Core.Path.{_≡_, sym, _∙_, ap, subst}
+use mathlib.Core.List.{List}
+use lib.ListN.{length}
+use Rattle.paper.specs.Format.{Format, base, rowBytes}
+use Rattle.paper.specs.Tables as Tables
+use Rattle.paper.specs.Tables.{badRow}
+use Rattle.paper.specs.Calls as Calls
+use Rattle.bytes.proofs.Laws.{base-levels}
+use Rattle.tables.specs.Place.{placeOf}
 use Rattle.tables.proofs.Examine.{refused-1, refused-2, refused-3, accepted, examine-refused, examine-accepted}
 use borrow.Author.Needs.{needs}
 use Rattle.tables.proofs.table.examine.Statement.{statement}
 use Rattle.tables.proofs.table.examine.Tie as tie
-use Rattle.tables.proofs.table.examine.Reads as reads
-use Rattle.tables.proofs.table.examine.Lts as lts
-use Rattle.tables.proofs.table.bad_row.Reads as bad-row-reads
 
--- src/table.rt:73:9
+-- the table that is lent
+abbrev lent : tie.After-row-bytes → List ℕ
+lent c = c .before .before .before .args .table .now
+
+-- the width is that of the base's rows
+width : (c : tie.After-row-bytes) → c .row-bytes .result ≡ rowBytes base
+width c = c .row-bytes .ensures ∙ ap (λ (f : Format). rowBytes f) (c .before .base .ensures)
+
+-- the table is not too long
+short : (c : tie.Else1) → length (lent (c .before)) ≤ 1024 * rowBytes base
+short c = omega (arith, width (c .before), c .if1 .left)
+
+-- and has whole rows
+whole-rows : (c : tie.Else2) → length (lent (c .before .before)) % rowBytes base ≡ 0
+whole-rows c = subst (λ w. length (lent (c .before .before)) % w ≡ 0) (width (c .before .before)) (c .if2 .left)
+
+-- the row that breaks a rule is one of the base
+bad-is : (c : tie.After-bad-row) →
+    let w = c .before .before .before in
+    badRow base (Tables.rows base (lent w)) ≡ placeOf (c .bad-row .result) (length (lent w) / w .row-bytes .result)
+bad-is c =
+    let w = c .before .before .before in
+    subst (λ f. badRow f (Tables.rows f (lent w)) ≡ placeOf (c .bad-row .result) (length (lent w) / w .row-bytes .result)) (w .before .base .ensures)
+    (c .bad-row .ensures .0)
+
+base-requires : tie.Need-base-requires
+base-requires c κs = search needs
+
+row-bytes-requires : tie.Need-row-bytes-requires
+row-bytes-requires c κs = omega (arith, base-levels (c .base .result) (c .base .ensures))
+
+mul-if1 : tie.Need-mul-if1
+unfolding base
+mul-if1 c = omega (arith, width c)
+
 returns : tie.Need-returns
-unfolding base
-returns c = examine-refused base (c .before .before .args .t .now) 1 0 (refused-1 base (c .before .before .args .t .now) (c .if1 .taken))
+returns c = let t = lent (c .before) in examine-refused base t 1 0 (refused-1 base t (omega (arith, width (c .before), c .if1 .taken)))
 
--- src/table.rt:76:9
+rem-if2 : tie.Need-rem-if2
+unfolding base
+rem-if2 c = omega (arith, width (c .before))
+
 returns-2 : tie.Need-returns-2
-unfolding base
-returns-2 c = examine-refused base (c .before .before .before .args .t .now) 2 0 (refused-2 base (c .before .before .before .args .t .now) (c .before .if1 .left) (c .if2 .taken))
+returns-2 c =
+    let w = c .before .before in
+    let t = lent w in
+    examine-refused base t 2 0 (refused-2 base t (short (c .before)) (subst (λ w. length t % w ≡ 0 → ⊥) (width w) (c .if2 .taken)))
 
--- src/table.rt:79:9
+div-rows : tie.Need-div-rows
+unfolding base
+div-rows c = omega (arith, width (c .before .before))
+
 bad-row-requires : tie.Need-bad-row-requires
-bad-row-requires c κs = search needs
+bad-row-requires c κs =
+    let w = c .before .before in
+    (ap (λ n. length (lent w) / n) (w .row-bytes .ensures), omega (arith, base-levels (w .before .base .result) (w .before .base .ensures)))
 
--- src/table.rt:81:9
 returns-3 : tie.Need-returns-3
-unfolding base
 returns-3 c =
     let b = c .before in
-    examine-refused base (c .before .before .before .before .before .args .t .now) 3 (b .bad-row .result)
-    (refused-3 base (c .before .before .before .before .before .args .t .now) (b .before .before .if1 .left) (b .before .if2 .left) (b .bad-row .result) (whole 24 (c .before .before .before .before .before .args .t .now)) (b .bad-row .ensures .0) (c .if3 .taken))
+    let t = lent (b .before .before .before) in
+    examine-refused base t 3 (b .bad-row .result)
+    (refused-3 base t (short (b .before .before)) (whole-rows (b .before)) (b .bad-row .result) _ (bad-is b) (c .if3 .taken))
 
--- src/table.rt:69:1
 returns-4 : tie.Need-returns-4
-unfolding base
 returns-4 c =
     let b = c .before in
-    examine-accepted base (c .before .before .before .before .before .args .t .now)
-    (accepted base (c .before .before .before .before .before .args .t .now) (b .before .before .if1 .left) (b .before .if2 .left) (b .bad-row .result) (whole 24 (c .before .before .before .before .before .args .t .now)) (b .bad-row .ensures .0) (c .if3 .left))
+    let w = b .before .before .before in
+    let t = lent w in
+    subst (λ n. record { number = 0; place = 0; rest = length t / n } ≡ Calls.examine base t) (sym (width w))
+    (examine-accepted base t (accepted base t (short (b .before .before)) (whole-rows (b .before)) (b .bad-row .result) _ (bad-is b) (c .if3 .left)))
 
 pub examine-spec : {M : Type 1} → statement M
-examine-spec = tie.close (tie.spec returns returns-2 bad-row-requires returns-3 returns-4)
+examine-spec =
+    tie.close
+    (tie.spec
+    base-requires
+    row-bytes-requires
+    mul-if1
+    returns
+    rem-if2
+    returns-2
+    div-rows
+    bad-row-requires
+    returns-3
+    returns-4)

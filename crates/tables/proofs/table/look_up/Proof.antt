@@ -1,83 +1,99 @@
+-- `table::look_up`: what each branch hands back. Assumes nothing.
+use Prim.Native.Nat.{ℕ, _+_, _*_, _≤_}
 use native.Mathlib.Omega.{arith}
-use Rattle.paper.specs.Format.{base}
+use mathlib.Core.Path.{_≡_, sym, _∙_, ap, subst}
+use lib.ListN.{length, take, drop}
+use denote.Ref.{now}
+use Rattle.paper.specs.Format.{Format, base, rowBytes, whole}
+use Rattle.paper.specs.Tables as Tables
+use Rattle.paper.specs.Calls.{given, tests1-3}
+use Rattle.bytes.specs.Part.{OwnFrom}
+use Rattle.bytes.proofs.Laws.{base-levels}
 use Rattle.tables.proofs.Examine.{examined-refused, examined-given, lookUp-refused, lookUp-past, lookUp-row}
 use Rattle.tables.proofs.Rows.{row-in}
 use Rattle.tables.proofs.Back.{nothing-back, row-back}
 use borrow.Author.Needs.{needs}
 use Rattle.tables.proofs.table.look_up.Statement.{statement}
 use Rattle.tables.proofs.table.look_up.Tie as tie
-use Rattle.tables.proofs.table.look_up.Reads as reads
-use Rattle.tables.proofs.table.look_up.Lts as lts
-use Rattle.bytes.proofs.record.Reads as record-reads
-use Rattle.tables.proofs.table.examine.Reads as examine-reads
 
--- src/table.rt:136:9
+abbrev begun : tie.After-examine → tie.Start
+begun x = x .before .before
+
+-- the table is accepted, and its rows are counted
+accepted : (c : tie.Else1) →
+    let t = begun (c .before) .args .table .now in
+    (tests1-3 base t ≡ given (Tables.rows base t)) × (c .before .examine .result .rows ≡ whole (rowBytes base) t)
+accepted c =
+    let x = c .before in
+    let r = x .examine .result in
+    examined-given base (begun x .args .table .now) (r .number) (r .place) (r .rows) (x .examine .ensures) (c .if1 .left)
+
+-- the width is that of the base's rows
+width : (c : tie.After-row-bytes) → c .row-bytes .result ≡ rowBytes base
+width c = c .row-bytes .ensures ∙ ap (λ (f : Format). rowBytes f) (c .before .base .ensures)
+
 examine-requires : tie.Need-examine-requires
 examine-requires c κs = search needs
 
--- src/table.rt:140:16
 sub-result : tie.Need-sub-result
 sub-result c = search needs
 
--- src/table.rt:140:16
 part-result-start : tie.Need-part-result-start
 part-result-start c = search needs
 
--- src/table.rt:140:16
 part-result-end : tie.Need-part-result-end
 part-result-end c = search needs
 
--- src/table.rt:140:9
 returns : tie.Need-returns
-unfolding base
 returns c =
     let x = c .before .before in
-    let a = x .before .before .args in
+    let a = begun x .args in
     let r = x .examine .result in
-    nothing-back (a .t) (a .i) (r .number) (r .place) (c .before .if1 .taken)
-    (lookUp-refused base (a .t .now) (a .i) (r .number) (r .place) (examined-refused base (a .t .now) (r .number) (r .place) (r .rows) (x .examine .ensures) (c .before .if1 .taken)))
+    let t = a .table .now in
+    let refusal = c .before .if1 .taken in
+    nothing-back (a .table) (a .i) (r .number) (r .place) refusal
+    (lookUp-refused base t (a .i) (r .number) (r .place) (examined-refused base t (r .number) (r .place) (r .rows) (x .examine .ensures) refusal))
 
--- src/table.rt:143:9
+base-requires : tie.Need-base-requires
+base-requires c κs = search needs
+
+row-bytes-requires : tie.Need-row-bytes-requires
+row-bytes-requires c κs = omega (arith, base-levels (c .base .result) (c .base .ensures))
+
 record-requires : tie.Need-record-requires
-unfolding base
 record-requires c κs =
-    let x = c .before .before in
-    let a = x .before .before .args in
-    let r = x .examine .result in
-    let (g, n) = examined-given base (a .t .now) (r .number) (r .place) (r .rows) (x .examine .ensures) (c .before .if1 .left) in
-    row-in 24 (a .i) (a .t .now) (omega (arith, n))
+    let i = c .before .before in
+    let a = begun (i .before .before) .args in
+    subst (λ w. w * a .i + w ≤ length (a .table .now)) (sym (width c))
+    (row-in (rowBytes base) (a .i) (a .table .now) (omega (arith, i .if2 .taken, accepted (i .before) .1)))
 
--- src/table.rt:143:9
 returns-2 : tie.Need-returns-2
-unfolding base
 returns-2 c =
-    let x = c .before .before .before in
-    let a = x .before .before .args in
-    let r = x .examine .result in
-    let (g, n) = examined-given base (a .t .now) (r .number) (r .place) (r .rows) (x .examine .ensures) (c .before .before .if1 .left) in
-    row-back (a .t) (a .i) (c .record .result) (c .record .ensures .0) (c .record .ensures .2) (lookUp-row base (a .t .now) (a .i) g (omega (arith, n)))
+    let w = c .before in
+    let i = w .before .before in
+    let a = begun (i .before .before) .args in
+    let t = a .table .now in
+    let r = c .«record» in
+    let (g, n) = accepted (i .before) in
+    row-back (a .table) (a .i) (r .result) (subst (λ w. now (r .result) ≡ take w (drop (w * a .i) t)) (width w) (r .ensures .0))
+    (subst (λ w. OwnFrom (a .table) (w * a .i) (r .result)) (width w) (r .ensures .2))
+    (lookUp-row base t (a .i) g (omega (arith, i .if2 .taken, n)))
 
--- src/table.rt:145:5
 sub-result-2 : tie.Need-sub-result-2
 sub-result-2 c = search needs
 
--- src/table.rt:145:5
 part-result-start-2 : tie.Need-part-result-start-2
 part-result-start-2 c = search needs
 
--- src/table.rt:145:5
 part-result-end-2 : tie.Need-part-result-end-2
 part-result-end-2 c = search needs
 
--- src/table.rt:132:1
 returns-3 : tie.Need-returns-3
-unfolding base
 returns-3 c =
-    let x = c .before .before .before in
-    let a = x .before .before .args in
-    let r = x .examine .result in
-    let (g, n) = examined-given base (a .t .now) (r .number) (r .place) (r .rows) (x .examine .ensures) (c .before .before .if1 .left) in
-    nothing-back (a .t) (a .i) 11 (a .i) (λ e. omega (arith, e)) (lookUp-past base (a .t .now) (a .i) g (omega (arith, n)))
+    let i = c .before in
+    let a = begun (i .before .before) .args in
+    let (g, n) = accepted (i .before) in
+    nothing-back (a .table) (a .i) 11 (a .i) (λ e. omega (arith, e)) (lookUp-past base (a .table .now) (a .i) g (omega (arith, i .if2 .left, n)))
 
 pub look-up-spec : {M : Type 1} → statement M
 look-up-spec =
@@ -88,6 +104,8 @@ look-up-spec =
     part-result-start
     part-result-end
     returns
+    base-requires
+    row-bytes-requires
     record-requires
     returns-2
     sub-result-2

@@ -1,3 +1,4 @@
+-- `table::look_up_refusal`: each test decides one refusal. Assumes nothing.
 use Prim.Native.Nat.{ℕ}
 use native.Mathlib.Omega.{arith}
 use mathlib.Core.Path.{sym, ap}
@@ -8,44 +9,39 @@ use Rattle.tables.proofs.Examine.{examined-refused, examined-given, loo
 use borrow.Author.Needs.{needs}
 use Rattle.tables.proofs.table.look_up_refusal.Statement.{statement}
 use Rattle.tables.proofs.table.look_up_refusal.Tie as tie
-use Rattle.tables.proofs.table.look_up_refusal.Reads as reads
-use Rattle.tables.proofs.table.look_up_refusal.Lts as lts
-use Rattle.tables.proofs.table.examine.Reads as examine-reads
 
--- src/table.rt:119:9
 examine-requires : tie.Need-examine-requires
 examine-requires c κs = search needs
 
--- src/table.rt:123:9
 returns : tie.Need-returns
 unfolding base
 returns c =
     let x = c .before in
     let a = x .before .before .args in
     let r = x .examine .result in
-    let e = lookUp-refused base (a .t .now) (a .i) (r .number) (r .place) (examined-refused base (a .t .now) (r .number) (r .place) (r .rows) (x .examine .ensures) (c .if1 .taken)) in
+    let t = a .table .now in
+    let refusal = examined-refused base t (r .number) (r .place) (r .rows) (x .examine .ensures) (c .if1 .taken) in
+    let e = lookUp-refused base t (a .i) (r .number) (r .place) refusal in
     (sym (ap (λ (r : Reply (List ℕ)). r .number) e), sym (ap (λ (r : Reply (List ℕ)). r .place) e))
 
--- src/table.rt:126:9
 returns-2 : tie.Need-returns-2
 unfolding base
 returns-2 c =
     let x = c .before .before in
     let a = x .before .before .args in
     let r = x .examine .result in
-    let (g, n) = examined-given base (a .t .now) (r .number) (r .place) (r .rows) (x .examine .ensures) (c .before .if1 .left) in
-    let e = lookUp-past base (a .t .now) (a .i) g (omega (arith, n)) in
+    let (g, n) = examined-given base (a .table .now) (r .number) (r .place) (r .rows) (x .examine .ensures) (c .before .if1 .left) in
+    let e = lookUp-past base (a .table .now) (a .i) g (omega (arith, n)) in
     (sym (ap (λ (r : Reply (List ℕ)). r .number) e), sym (ap (λ (r : Reply (List ℕ)). r .place) e))
 
--- src/table.rt:116:1
 returns-3 : tie.Need-returns-3
 unfolding base
 returns-3 c =
     let x = c .before .before in
     let a = x .before .before .args in
     let r = x .examine .result in
-    let (g, n) = examined-given base (a .t .now) (r .number) (r .place) (r .rows) (x .examine .ensures) (c .before .if1 .left) in
-    let e = lookUp-row base (a .t .now) (a .i) g (omega (arith, n)) in
+    let (g, n) = examined-given base (a .table .now) (r .number) (r .place) (r .rows) (x .examine .ensures) (c .before .if1 .left) in
+    let e = lookUp-row base (a .table .now) (a .i) g (omega (arith, n)) in
     (sym (ap (λ (r : Reply (List ℕ)). r .number) e), sym (ap (λ (r : Reply (List ℕ)). r .place) e))
 
 pub look-up-refusal-spec : {M : Type 1} → statement M

@@ -1,0 +1,90 @@
+-- `meet::meetings`: after i turns the array holds how deep the first i rows meet the wanted types. Assumes nothing.
+use Prim.Native.Nat.{_-_, _≤_}
+use native.Mathlib.Omega.{arith}
+use mathlib.Core.Path.{_≡_, refl, subst}
+use Rattle.closest.specs.Deepest.{Meetings}
+use Rattle.closest.proofs.Deepest.{zeros-at}
+use Rattle.closest.proofs.Meetings.{Walked, walked-none, walked-more}
+use borrow.Author.Needs.{needs}
+use Rattle.closest.proofs.meet.meetings.Statement.{statement}
+use Rattle.closest.proofs.meet.meetings.Tie as tie
+
+abbrev Inv-loop : tie.InvT-loop
+Inv-loop levels types rows wanted deepest₀ near₀ i₀ deepest near i = (i ≤ rows) × Walked levels types wanted i near deepest
+
+abbrev μ-loop : tie.MeasureT-loop
+μ-loop levels types rows wanted deepest₀ near₀ i₀ deepest near i = rows - i
+
+abbrev begun : tie.At-loop Inv-loop μ-loop → tie.Start Inv-loop μ-loop
+begun l = l .before .before .before
+
+abbrev turn : tie.After-shared-slice-known4 Inv-loop μ-loop → tie.At-loop Inv-loop μ-loop
+turn c = c .before .before .before
+
+loop-holds : tie.Need-loop-holds Inv-loop μ-loop
+loop-holds c =
+    let a = c .before .before .args in
+    (omega arith, walked-none (a .levels .now) (a .types .now) (a .wanted) _ _ refl (zeros-at 16) (zeros-at 1024))
+
+shared-slice-read-k : tie.Need-shared-slice-read-k Inv-loop μ-loop
+shared-slice-read-k c = search needs
+
+shared-slice-read-onward : tie.Need-shared-slice-read-onward Inv-loop μ-loop
+shared-slice-read-onward c = search needs
+
+onward-requires : tie.Need-onward-requires Inv-loop μ-loop
+onward-requires c κs = let l = turn c in begun l .pre .level-some (l .loop .i) (omega arith)
+
+slice-aggregate-deepen : tie.Need-slice-aggregate-deepen Inv-loop μ-loop
+slice-aggregate-deepen c = search needs
+
+wide-requires : tie.Need-wide-requires Inv-loop μ-loop
+wide-requires c κs = search needs
+
+mul-deepen : tie.Need-mul-deepen Inv-loop μ-loop
+mul-deepen c = search needs
+
+deepen-requires : tie.Need-deepen-requires Inv-loop μ-loop
+deepen-requires c κs =
+    let l = turn (c .before .before .before) in
+    omega (arith, begun l .pre .type-few (l .loop .i) (omega arith), c .wide .ensures .0, l .loop .inv .1 .long)
+
+add-i : tie.Need-add-i Inv-loop μ-loop
+add-i c = search needs
+
+loop-less : tie.Need-loop-less Inv-loop μ-loop
+loop-less c = search needs
+
+loop-again : tie.Need-loop-again Inv-loop μ-loop
+loop-again c =
+    let d = c .before in
+    let w = d .before in
+    let o = w .before .before in
+    let l = turn (o .before) in
+    (omega arith, walked-more (l .loop .inv .1) (o .onward .result) (o .onward .ensures) _ _ (w .wide .ensures .0) (d .deepen .ensures) (omega arith))
+
+returns : tie.Need-returns Inv-loop μ-loop
+returns c =
+    let l = c .before in
+    let a = begun l .args in
+    let q : l .loop .i ≡ a .rows = omega arith in
+    subst (λ n. Meetings n (a .levels .now) (a .types .now) (a .wanted) (l .loop .deepest)) q (l .loop .inv .1 .deeps)
+
+pub meetings-spec : {M : Type 1} → statement M
+meetings-spec =
+    tie.close
+    (tie.spec
+    Inv-loop
+    μ-loop
+    loop-holds
+    shared-slice-read-k
+    shared-slice-read-onward
+    onward-requires
+    slice-aggregate-deepen
+    wide-requires
+    mul-deepen
+    deepen-requires
+    add-i
+    loop-less
+    loop-again
+    returns)

@@ -1,0 +1,72 @@
+-- `meet::row_levels`: the first byte of each row so far stands in its place. Assumes nothing.
+use Prim.Native.Nat.{_-_, _≤_}
+use native.Mathlib.Omega.{arith}
+use mathlib.Core.Path.{refl, ap}
+use Rattle.paper.specs.Format.{mostRows, byte}
+use Rattle.closest.proofs.Filled.{Filled, filled-none, filled-more}
+use Rattle.closest.proofs.Meetings.{firstByte, row-inside, levels-read}
+use borrow.Author.Needs.{needs}
+use Rattle.closest.proofs.meet.row_levels.Statement.{statement}
+use Rattle.closest.proofs.meet.row_levels.Tie as tie
+
+abbrev Inv-loop : tie.InvT-loop
+Inv-loop table rows w levels₀ i₀ levels i = (i ≤ rows) × Filled (firstByte w table) 0 mostRows i levels
+
+abbrev μ-loop : tie.MeasureT-loop
+μ-loop table rows w levels₀ i₀ levels i = rows - i
+
+abbrev begun : tie.At-loop Inv-loop μ-loop → tie.Start Inv-loop μ-loop
+begun l = l .before .before .before
+
+row-bytes-requires : tie.Need-row-bytes-requires Inv-loop μ-loop
+row-bytes-requires c κs = search needs
+
+loop-holds : tie.Need-loop-holds Inv-loop μ-loop
+loop-holds c = (omega arith, filled-none _ 0 mostRows _ refl)
+
+record-requires : tie.Need-record-requires Inv-loop μ-loop
+record-requires c κs =
+    let l = c .before in
+    let a = begun l .args in
+    row-inside (a .f) (a .rows) (a .table .now) (begun l .pre) _ (l .before .row-bytes .ensures) (l .loop .i) (c .loop-test .taken)
+
+shared-slice-read-levels : tie.Need-shared-slice-read-levels Inv-loop μ-loop
+shared-slice-read-levels c = search needs
+
+array-write-levels : tie.Need-array-write-levels Inv-loop μ-loop
+array-write-levels c = search needs
+
+add-i : tie.Need-add-i Inv-loop μ-loop
+add-i c = search needs
+
+loop-less : tie.Need-loop-less Inv-loop μ-loop
+loop-less c = search needs
+
+loop-again : tie.Need-loop-again Inv-loop μ-loop
+loop-again c =
+    let l = c .before .before .before in
+    let first = ap (λ b. byte b 0) (c .before .«record» .ensures .0) in
+    (omega arith, filled-more _ 0 mostRows (l .loop .i) (l .loop .levels) _ (omega arith) (l .loop .inv .1) first)
+
+returns : tie.Need-returns Inv-loop μ-loop
+returns c =
+    let l = c .before in
+    let a = begun l .args in
+    let wide = l .before .row-bytes .ensures in
+    levels-read (a .f) (a .rows) (a .table .now) (begun l .pre) _ wide (l .loop .i) (l .loop .levels) (omega arith) (l .loop .inv .1)
+
+pub row-levels-spec : {M : Type 1} → statement M
+row-levels-spec =
+    tie.close
+    (tie.spec
+    Inv-loop
+    μ-loop
+    row-bytes-requires
+    loop-holds
+    record-requires
+    shared-slice-read-levels
+    array-write-levels
+    add-i
+    loop-less
+    loop-again
+    returns)

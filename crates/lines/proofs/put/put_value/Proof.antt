@@ -1,0 +1,61 @@
+-- `put_value`: what is still to be written are the bytes from place k on. Assumes nothing.
+use Prim.Native.Nat.{_+_, _-_, _≤_}
+use lib.ListN.{drop, drop-of-length-le}
+use Rattle.bytes.proofs.Writing.{Writing, all-left, all-written, byte-written}
+use native.Mathlib.Omega.{arith}
+use borrow.Author.Needs.{needs}
+use Rattle.lines.proofs.put.put_value.Statement.{statement}
+use Rattle.lines.proofs.put.put_value.Tie as tie
+
+abbrev Inv-loop : tie.InvT-loop
+Inv-loop new₀ at value k₀ new k = (k ≤ 8) × Writing new₀ at value new (at + k) (drop k value)
+
+abbrev μ-loop : tie.MeasureT-loop
+μ-loop new₀ at value k₀ new k = 8 - k
+
+loop-holds : tie.Need-loop-holds Inv-loop μ-loop
+loop-holds c = (omega arith, all-left (c .args .new .now) (c .args .at) _ _ (omega arith))
+
+array-read-new : tie.Need-array-read-new Inv-loop μ-loop
+array-read-new c = search needs
+
+add-new : tie.Need-add-new Inv-loop μ-loop
+add-new c = search needs
+
+slice-write-new : tie.Need-slice-write-new Inv-loop μ-loop
+slice-write-new c = search needs
+
+add-k : tie.Need-add-k Inv-loop μ-loop
+add-k c = search needs
+
+loop-less : tie.Need-loop-less Inv-loop μ-loop
+loop-less c = search needs
+
+loop-again : tie.Need-loop-again Inv-loop μ-loop
+loop-again c =
+    let l = c .before in
+    (omega arith, byte-written (l .loop .k) (l .before .args .t3) (l .loop .inv .1) (omega (arith, l .before .good)))
+
+same-length : tie.Need-same-length Inv-loop μ-loop
+same-length c = search needs
+
+returns : tie.Need-returns Inv-loop μ-loop
+returns c =
+    let l = c .before in
+    all-written (l .loop .inv .1) (drop-of-length-le (l .before .args .t3) {i = l .loop .k} (omega (arith, l .before .good)))
+
+pub put-value-spec : {M : Type 1} → statement M
+put-value-spec =
+    tie.close
+    (tie.spec
+    Inv-loop
+    μ-loop
+    loop-holds
+    array-read-new
+    add-new
+    slice-write-new
+    add-k
+    loop-less
+    loop-again
+    same-length
+    returns)
