@@ -1,7 +1,7 @@
 /*
- * Holds the four calls to the plain program on every tape, then measures both. A round takes a batch of each call on each tape, so that a
- * time in which the machine is busy falls on all of them alike. Prints a line for each tape and call, with tabs between: tape, rows, call,
- * nanoseconds of Silmezga, nanoseconds of the plain program, the answer.
+ * Holds the four calls to the former and the plain program on every tape, then measures the three. A round takes a batch of each call of
+ * each program on each tape, so that a time in which the machine is busy falls on all of them alike. Prints a line for each tape and call,
+ * with tabs between: tape, rows, call, nanoseconds of Silmezga, of the former program and of the plain one, the answer.
  */
 #define _POSIX_C_SOURCE 199309L
 #include <stdio.h>
@@ -9,10 +9,11 @@
 #include <string.h>
 #include <time.h>
 
+#include "former.h"
 #include "plain.h"
 #include "tapes.h"
 
-enum { ROUNDS = 11, CALLS = 4, TAPES = 14, LINES = SILMEZGA_MOST_LINES };
+enum { ROUNDS = 11, PROGRAMS = 3, CALLS = 4, KINDS = 8, SIZES = 4, TAPES = KINDS * SIZES, LINES = SILMEZGA_MOST_LINES };
 
 static const double batch_seconds = 0.002;
 static const char *const calls[] = {"examine", "judge", "reshape", "summarise"};
@@ -27,64 +28,61 @@ typedef struct {
 } answers;
 
 typedef struct {
-    size_t times_ours, times_plain;    /* calls in a batch */
-    double ours[ROUNDS], plain[ROUNDS];    /* seconds a call */
+    size_t times;             /* calls in a batch */
+    double seconds[ROUNDS];   /* a call */
 } figures;
-
-static answers ours, plain;
-static tape tapes[TAPES];
-static figures all[TAPES][CALLS];
 
 /* The four calls of a program. */
 typedef struct {
+    const char *name;
     silmezga_examined (*examine)(const uint8_t *, size_t);
     silmezga_judged (*judge)(const uint8_t *, size_t, const uint8_t *, size_t);
     silmezga_reshaped (*reshape)(const uint8_t *, size_t, const uint8_t *, size_t, uint8_t *, size_t, uint32_t *, size_t);
     silmezga_summary (*summarise)(const uint8_t *, size_t, const uint8_t *, size_t);
 } program;
 
-static const program calls_ours = {silmezga_examine, silmezga_judge, silmezga_reshape, silmezga_summarise};
-static const program calls_plain = {plain_examine, plain_judge, plain_reshape, plain_summarise};
+static const program programs[PROGRAMS] = {
+    {"Silmezga", silmezga_examine, silmezga_judge, silmezga_reshape, silmezga_summarise},
+    {"the former program", former_examine, former_judge, former_reshape, former_summarise},
+    {"the plain program", plain_examine, plain_judge, plain_reshape, plain_summarise}
+};
 
-static void make_call(const program *p, answers *a, const tape *t, int call)
+static answers given[PROGRAMS];
+static tape tapes[TAPES];
+static figures all[TAPES][CALLS][PROGRAMS];
+
+/* Makes a call of program p; its answer goes to its place in `given`. */
+static void make_call(int p, const tape *t, int call)
 {
+    const program *made = &programs[p];
+    answers *a = &given[p];
     switch (call) {
     case 0:
-        a->examined = p->examine(t->table, t->table_len);
+        a->examined = made->examine(t->table, t->table_len);
         break;
     case 1:
-        a->judged = p->judge(t->table, t->table_len, t->shape, t->shape_len);
+        a->judged = made->judge(t->table, t->table_len, t->shape, t->shape_len);
         break;
     case 2:
-        a->reshaped = p->reshape(t->table, t->table_len, t->shape, t->shape_len, a->new_table, sizeof a->new_table, a->sources, LINES);
+        a->reshaped = made->reshape(t->table, t->table_len, t->shape, t->shape_len, a->new_table, sizeof a->new_table, a->sources, LINES);
         break;
     default:
-        a->summary = p->summarise(t->table, t->table_len, t->shape, t->shape_len);
+        a->summary = made->summarise(t->table, t->table_len, t->shape, t->shape_len);
     }
 }
 
-static void call_ours(const tape *t, int call)
-{
-    make_call(&calls_ours, &ours, t, call);
-}
-
-static void call_plain(const tape *t, int call)
-{
-    make_call(&calls_plain, &plain, t, call);
-}
-
-/* Both leave the same answers, and the same in every lent byte and place. */
+/* All leave the same answers, and the same in every lent byte and place. */
 static void compare(const tape *t)
 {
-    int call;
-    memset(&ours, 0xa5, sizeof ours);
-    memset(&plain, 0xa5, sizeof plain);
+    int call, p;
+    memset(given, 0xa5, sizeof given);
     for (call = 0; call < CALLS; call++) {
-        call_ours(t, call);
-        call_plain(t, call);
-        if (memcmp(&ours, &plain, sizeof ours) != 0) {
-            fprintf(stderr, "%s, %zu rows: %s and the plain program differ\n", t->name, t->rows, calls[call]);
-            exit(1);
+        for (p = 0; p < PROGRAMS; p++) {
+            make_call(p, t, call);
+            if (memcmp(&given[0], &given[p], sizeof given[0]) != 0) {
+                fprintf(stderr, "%s, %zu rows: %s of Silmezga and of %s differ\n", t->name, t->rows, calls[call], programs[p].name);
+                exit(1);
+            }
         }
     }
 }
@@ -96,21 +94,21 @@ static double seconds(void)
     return (double)now.tv_sec + 1e-9 * (double)now.tv_nsec;
 }
 
-static double batch(void (*one)(const tape *, int), const tape *t, int call, size_t times)
+static double batch(int p, const tape *t, int call, size_t times)
 {
     double began = seconds();
     size_t i;
     for (i = 0; i < times; i++) {
-        one(t, call);
+        make_call(p, t, call);
     }
     return seconds() - began;
 }
 
 /* How many calls take about as long as a batch is to take. */
-static size_t times_for(void (*one)(const tape *, int), const tape *t, int call)
+static size_t times_for(int p, const tape *t, int call)
 {
     size_t times = 1;
-    while (batch(one, t, call, times) < batch_seconds) {
+    while (batch(p, t, call, times) < batch_seconds) {
         times *= 2;
     }
     return times;
@@ -141,27 +139,29 @@ static void print_answer(int call)
 {
     switch (call) {
     case 0:
-        printf("%zu rows", ours.examined.rows);
+        printf("%zu rows", given[0].examined.rows);
         break;
     case 1:
-        printf("verdict %zu", ours.judged.verdict);
+        printf("verdict %zu", given[0].judged.verdict);
         break;
     case 2:
-        print_lines(ours.reshaped.number, ours.reshaped.lines, "");
+        print_lines(given[0].reshaped.number, given[0].reshaped.lines, "");
         break;
     default:
-        print_lines(ours.summary.number, ours.summary.lines[0], " of entry 0");
+        print_lines(given[0].summary.number, given[0].summary.lines[0], " of entry 0");
     }
 }
 
 static void print_figures(void)
 {
-    int i, call;
+    int i, call, p;
     for (i = 0; i < TAPES; i++) {
         compare(&tapes[i]);
         for (call = 0; call < CALLS; call++) {
-            figures *f = &all[i][call];
-            printf("%s\t%zu\t%s\t%.0f\t%.0f\t", tapes[i].name, tapes[i].rows, calls[call], 1e9 * median(f->ours), 1e9 * median(f->plain));
+            printf("%s\t%zu\t%s\t", tapes[i].name, tapes[i].rows, calls[call]);
+            for (p = 0; p < PROGRAMS; p++) {
+                printf("%.0f\t", 1e9 * median(all[i][call][p].seconds));
+            }
             print_answer(call);
             printf("\n");
         }
@@ -170,38 +170,37 @@ static void print_figures(void)
 
 static void measure(int round)
 {
-    int i, call;
+    int i, call, p;
     for (i = 0; i < TAPES; i++) {
         for (call = 0; call < CALLS; call++) {
-            figures *f = &all[i][call];
-            f->ours[round] = batch(call_ours, &tapes[i], call, f->times_ours) / (double)f->times_ours;
-            f->plain[round] = batch(call_plain, &tapes[i], call, f->times_plain) / (double)f->times_plain;
+            for (p = 0; p < PROGRAMS; p++) {
+                figures *f = &all[i][call][p];
+                f->seconds[round] = batch(p, &tapes[i], call, f->times) / (double)f->times;
+            }
         }
     }
 }
 
 static void make_tapes(void)
 {
-    tape *t = tapes;
-    size_t rows;
-    for (rows = 128; rows <= 1024; rows *= 2) {
-        make_book(t++, rows);
-        make_fan(t++, rows);
-        make_sixteen(t++, rows);
+    static void (*const make[KINDS])(tape *, size_t) = {make_book,   make_fan,      make_sixteen,    make_64_types,
+                                                        make_random, make_one_tree, make_many_lines, make_vain_searches};
+    int i;
+    for (i = 0; i < TAPES; i++) {
+        make[i % KINDS](&tapes[i], (size_t)128 << i / KINDS);
     }
-    make_many_lines(t++);
-    make_vain_searches(t++);
 }
 
 int main(void)
 {
-    int i, call, round;
+    int i, call, p, round;
     make_tapes();
     for (i = 0; i < TAPES; i++) {
         compare(&tapes[i]);
         for (call = 0; call < CALLS; call++) {
-            all[i][call].times_ours = times_for(call_ours, &tapes[i], call);
-            all[i][call].times_plain = times_for(call_plain, &tapes[i], call);
+            for (p = 0; p < PROGRAMS; p++) {
+                all[i][call][p].times = times_for(p, &tapes[i], call);
+            }
         }
     }
     for (round = 0; round < ROUNDS; round++) {

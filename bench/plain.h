@@ -1,6 +1,6 @@
 /*
- * The comparison: examining, judging, reshaping and summarising as a plain, fast C program does them, with nothing proved. It answers in
- * the structs of silmezga.h, so that the two can be held to each other.
+ * The best plain C that we can write: examining, judging, reshaping and summarising by better algorithms than those of former.h, field by
+ * field. Nothing is proved. It answers in the structs of silmezga.h, so that it can be held to the library.
  */
 #ifndef PLAIN_H
 #define PLAIN_H

@@ -2,45 +2,65 @@
 import sys
 
 CALLS = "examine", "judge", "reshape", "summarise"
-GROWING = "book", "fan", "sixteen"
+PROGRAMS = "Silmezga", "former", "plain"
+USUAL = "book", "fan", "sixteen", "64 types", "random", "one tree"
 HOSTILE = "many lines", "vain searches"
+TAPES = USUAL + HOSTILE
 MANY_LINES = sum(341 ** level for level in range(1, 7))
+
+# The largest ratio that is wanted at 1,024 rows, by call and tape, and the largest growth from 128 rows to 1,024.
+BARS = {
+    "judge": {"book": 1.0, "fan": 1.0, "sixteen": 1.6},
+    "reshape": {"book": 1.0, "fan": 1.0, "sixteen": 1.6, "many lines": 1.0, "vain searches": 1.0},
+    "summarise": {tape: 1.2 if tape == "sixteen" else 1.0 for tape in TAPES},
+}
+MOST_GROWTH = 9.0
 
 ABOUT = """# Bench
 
 Written by `bench/run`; the figures are from its last run, on the machine beside them. Each is the processor time of one call: the median
-of 11 rounds, in each of which every call is measured on every tape by a batch of at least 2 ms. The plain program (`bench/plain.c`) is
-fast C with nothing proved: one linear pass for types, ancestors and a 64-bit set of the types below each row. Both are compiled for
-x86-64 at -O3, Silmezga by the kit, the plain program by {compiler}. Before a tape is measured, every answer and
-every lent byte and place of the two are held to each other; the run stops if any differs.
+of 11 rounds, in each of which every call is measured on every tape by a batch of about 2 ms or more. All are compiled for x86-64 at -O3,
+Silmezga by the kit, the others by {compiler}. Before a tape is measured, every answer and every lent byte and
+place of the three are held to each other; the run stops if any differs.
+
+Silmezga stands beside two programs in plain C, with nothing proved. `bench/former.c` is the one that the bars were set on: one linear pass
+over the table, sets of types, and lines that are walked to be counted. `bench/plain.c` is the best plain C that we can write: better
+algorithms, and no machine-word tricks.
+
+{passed}
 
 | tape | what it is | shape |
 |---|---|---|
 | book | a portfolio of lessees with three leases of three assets each | lease[lessee asset] |
 | fan | a portfolio with one lessee, all leases under it, an asset each | lease[lessee asset] |
 | sixteen | the book | 16 entries on 6 levels: lease[lessee lease[lease[..]] ..] |
+| 64 types | trees of 64 rows, each of its own type: as many types as there may be | 8 entries on 3 levels, over types of 4 levels |
+| random | a forest of a fixed seed: 6 levels, two labels on each but the first | 8 entries on 4 levels, over the most frequent types |
+| one tree | one root, 6 levels, two rows below most rows | 6 entries, one below the other: the levels upside down |
 | many lines | hostile: 1,024 rows that ask for {many:,} lines | 6 entries, one below the other |
-| vain searches | hostile: 4,068 lines that just fit, nearly each with 14 searches of its tree that find nothing | 16 entries |
+| vain searches | hostile: 4 lines a row, which just fit, nearly each with 14 searches of its tree that find nothing | 16 entries |
 """
 
 GOES = """
 ## Where the time goes
 
-Silmezga finds the rows closest to a line's own row in the run around it, which it walks row by row: back to the run's start, then on to
-its end. The plain program reads both ends from tables. So reshaping and summarising cost Silmezga at most the lines times the entries
-beneath each times the rows of a run, and the lines are at most 4,096. On the book runs are short. On the fan a run is the whole table,
-so the cost grows with the square of the rows. Asking for many lines costs little, because counting stops at the room. The vain searches
-are the dearest tape we know of: many lines, many entries, long runs, nothing found. With 16 entries there is besides a walk along all
-rows for each entry, to find where types meet, and a tally of 16 numbers that goes by value from line to line.
+Silmezga names a run, the rows that agree to a level, by its first row. Lines are counted by runs, in at most two walks of all rows for each
+entry, however many lines there are. When lines are written, the first and the next closest row are looked up, and each line asks every
+child entry for them. A row's type is tried first where it was last found after a row of the same type, and else searched for among the
+types listed so far.
+
+`bench/plain.c` is quicker because it does less. It numbers the labels, so that a type is looked up. It lists the rows of each type, and
+the rows of the ancestor type that an edge's two types share cut their lists into runs, so that the lines of an entry are counted by a walk
+of these three lists and not of all rows. And beneath a line it walks only the child entries that have lines.
 """
 
 
 def read(path):
-    """Nanoseconds of both and the answer, by tape, rows and call."""
+    """The nanoseconds of each program, and the answer, by tape, rows and call."""
     figures = {}
     for line in open(path):
-        tape, rows, call, ours, plain, answer = line.rstrip("\n").split("\t")
-        figures[tape, int(rows), call] = float(ours), float(plain), answer
+        tape, rows, call, *measured, answer = line.rstrip("\n").split("\t")
+        figures[tape, int(rows), call] = dict(zip(PROGRAMS, map(float, measured)), answer=answer)
     return figures
 
 
@@ -60,36 +80,80 @@ def table(head, rows):
 
 
 def beside(figures, machine, wanted):
-    """A row for each tape and call: both times, their ratio and the answer."""
+    """A row for each tape and call: the times, the ratios to the two programs, and the answer."""
     rows = []
     for tape, n in wanted:
         for call in CALLS:
-            ours, plain, answer = figures[tape, n, call]
-            rows.append([tape, f"{n:,}", call, time(ours), time(plain), times(ours / plain), answer, machine])
-    return table(["tape", "rows", "call", "Silmezga", "plain", "ratio", "answer", "machine"], rows)
+            found = figures[tape, n, call]
+            measured = [time(found["Silmezga"])]
+            for program in PROGRAMS[1:]:
+                measured += [time(found[program]), times(found["Silmezga"] / found[program])]
+            rows.append([tape, f"{n:,}", call] + measured + [found["answer"], machine])
+    return table(["tape", "rows", "call", "Silmezga", "former", "ratio to former", "plain", "ratio to plain", "answer", "machine"], rows)
+
+
+def grown(figures, tape, call, program):
+    """The time at 1,024 rows over that at 128."""
+    return figures[tape, 1024, call][program] / figures[tape, 128, call][program]
 
 
 def growth(figures, machine):
-    """A row for each tape and call: the time at 1,024 rows over that at 128."""
+    """A row for each tape and call: the growth of each program."""
+    rows = [[tape, call] + [times(grown(figures, tape, call, p)) for p in PROGRAMS] + [machine] for tape in TAPES for call in CALLS]
+    return table(["tape", "call", *PROGRAMS, "machine"], rows)
+
+
+def held(found, bar):
+    return [times(found), "pass" if found <= bar else "MISS"]
+
+
+def ratio_bars(figures, machine):
+    """A row for each bar on a ratio: the most that is wanted, and for each program what was measured and whether the bar is passed."""
     rows = []
-    for tape in GROWING:
-        for call in CALLS:
-            small, large = figures[tape, 128, call], figures[tape, 1024, call]
-            rows.append([tape, call, times(large[0] / small[0]), times(large[1] / small[1]), machine])
-    return table(["tape", "call", "Silmezga", "plain", "machine"], rows)
+    for call in BARS:
+        for tape, bar in BARS[call].items():
+            found = figures[tape, 1024, call]
+            row = [tape, call, times(bar)]
+            for program in PROGRAMS[1:]:
+                row += held(found["Silmezga"] / found[program], bar)
+            rows.append(row + [machine])
+    return rows
+
+
+def growth_bars(figures, machine):
+    """A row for each tape: the call of Silmezga that grows most, the most that is wanted, and whether the bar is passed."""
+    rows = []
+    for tape in TAPES:
+        most, call = max((grown(figures, tape, call, "Silmezga"), call) for call in CALLS)
+        rows.append([tape, call, times(MOST_GROWTH)] + held(most, MOST_GROWTH) + [machine])
+    return rows
+
+
+def passed(ratios, growths):
+    """How many bars are passed, in a sentence."""
+    former, plain, own = [sum(row[at] == "pass" for row in rows) for rows, at in ((ratios, 4), (ratios, 6), (growths, 4))]
+    return (f"Of the {len(ratios)} bars on ratios Silmezga passes {former} against the former program, on which they were set, and {plain} "
+            f"against the best plain C.\nOf the {len(growths)} bars on its own growth it passes {own}.")
+
+
+def section(title, rows):
+    return ["## " + title, ""] + rows + [""]
 
 
 def main():
     path, machine, compiler, page = sys.argv[1:]
     figures = read(path)
-    parts = ["## At 1,024 rows", ""] + beside(figures, machine, [(tape, 1024) for tape in GROWING])
-    parts += ["", "## Growth from 128 to 1,024 rows, 8 times as many", ""] + growth(figures, machine)
-    parts += ["", "## Hostile tables", ""] + beside(figures, machine, [(tape, 1024) for tape in HOSTILE])
-    parts += ["", "## The other sizes", ""] + beside(figures, machine, [(tape, n) for tape in GROWING for n in (128, 256, 512)])
+    ratios, growths = ratio_bars(figures, machine), growth_bars(figures, machine)
+    parts = section("Bars: ratios at 1,024 rows", table(["tape", "call", "at most", "to former", "", "to plain", "", "machine"], ratios))
+    parts += section("Bars: greatest growth, 128 to 1,024 rows", table(["tape", "call", "at most", "Silmezga", "", "machine"], growths))
+    parts += section("At 1,024 rows", beside(figures, machine, [(tape, 1024) for tape in USUAL]))
+    parts += section("Growth from 128 to 1,024 rows, 8 times as many", growth(figures, machine))
+    parts += section("Hostile tables", beside(figures, machine, [(tape, 1024) for tape in HOSTILE]))
+    parts += section("The other sizes", beside(figures, machine, [(tape, n) for tape in TAPES for n in (128, 256, 512)]))
     text = "\n".join(parts)
     print(text)
     with open(page, "w") as out:
-        out.write(ABOUT.format(compiler=compiler, many=MANY_LINES) + "\n" + text + "\n" + GOES)
+        out.write(ABOUT.format(compiler=compiler, many=MANY_LINES, passed=passed(ratios, growths)) + "\n" + text + GOES)
 
 
 main()

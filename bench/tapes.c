@@ -105,12 +105,112 @@ void make_sixteen(tape *t, size_t rows)
     }
 }
 
-void make_many_lines(tape *t)
+/* Trees of 64 rows, a row of each type: 3 types below the root, 4 below each of them, 4 below each of those. */
+void make_64_types(tape *t, size_t rows)
+{
+    static const unsigned asset[] = {1, 4, 13, 23}, first[] = {1, 4, 13, 20}, second[] = {1, 4, 13, 21};
+    static const unsigned cousin[] = {1, 4, 10}, uncle[] = {1, 2};
+    size_t i;
+    start(t, "64 types");
+    for (i = 0; t->rows < rows; i++) {
+        unsigned at = i % 64;
+        if (at == 0) {
+            add_row(t, 1, 1);
+        } else if (at % 21 == 1) {
+            add_row(t, 2, 2 + at / 21);
+        } else if ((at - 2) % 21 % 5 == 0) {
+            add_row(t, 3, 10 + (at - 2) % 21 / 5);
+        } else {
+            add_row(t, 4, 19 + (at - 2) % 21 % 5);
+        }
+    }
+    add_entry(t, 1, 4, asset);
+    add_entry(t, 2, 3, asset);
+    add_entry(t, 3, 4, first);
+    add_entry(t, 3, 4, second);
+    add_entry(t, 2, 2, asset);
+    add_entry(t, 3, 3, cousin);
+    add_entry(t, 2, 1, asset);
+    add_entry(t, 3, 2, uncle);
+}
+
+/* A number below `most`, the next of a fixed row of numbers. */
+static unsigned draw(uint32_t *seed, unsigned most)
+{
+    *seed = *seed * 1664525u + 1013904223u;
+    return (unsigned)((uint64_t)(*seed >> 8) * most >> 24);
+}
+
+/* Of two labels a level there are at most 63 types, the root's being one. A type is told by its level and the choices on the way to it. */
+static unsigned type_code(const unsigned *labels, unsigned level)
+{
+    unsigned code = 1, k;
+    for (k = 1; k < level; k++) {
+        code = 2 * code + labels[k] % 2;
+    }
+    return code;
+}
+
+/* An entry of the type that has the most rows in `count`; that type is then out. */
+static void add_most_frequent(tape *t, unsigned level, unsigned *count)
+{
+    unsigned type[SILMEZGA_MOST_LEVELS] = {PORTFOLIO}, best = 1, code, size = 1, k;
+    for (code = 2; code < 64; code++) {
+        best = count[code] > count[best] ? code : best;
+    }
+    count[best] = 0;
+    while (best >> size != 0) {
+        size++;
+    }
+    for (k = 1; k < size; k++) {
+        type[k] = LESSEE + (best >> (size - 1 - k) & 1);
+    }
+    add_entry(t, level, size, type);
+}
+
+void make_random(tape *t, size_t rows)
+{
+    static const unsigned levels[] = {1, 2, 3, 2, 3, 2, 3, 4};
+    unsigned labels[SILMEZGA_MOST_LEVELS] = {PORTFOLIO}, count[64] = {0}, level = 0, e;
+    uint32_t seed = 5;
+    start(t, "random");
+    while (t->rows < rows) {
+        unsigned deepest = level < SILMEZGA_MOST_LEVELS ? level + 1 : level;
+        level = level == 0 || draw(&seed, 24) == 0 ? 1 : 2 + draw(&seed, deepest - 1);
+        labels[level - 1] = level == 1 ? PORTFOLIO : LESSEE + draw(&seed, 2);
+        add_row(t, level, labels[level - 1]);
+        if (t->rows <= 128) {
+            count[type_code(labels, level)]++;
+        }
+    }
+    for (e = 0; e < 8; e++) {
+        add_most_frequent(t, levels[e], count);
+    }
+}
+
+/* One root over trees of 32 rows, two rows below each row down to level 6, and one row more there. */
+void make_one_tree(tape *t, size_t rows)
+{
+    static const unsigned type[] = {1, 2, 3, 4, 5, 6};
+    static const unsigned below[] = {2, 3, 4, 5, 6, 6, 5, 6, 6, 4, 5, 6, 6, 5, 6, 6, 3, 4, 5, 6, 6, 5, 6, 6, 4, 5, 6, 6, 5, 6, 6, 6};
+    unsigned level;
+    start(t, "one tree");
+    add_row(t, 1, 1);
+    while (t->rows < rows) {
+        level = below[(t->rows - 1) % 32];
+        add_row(t, level, level);
+    }
+    for (level = 1; level <= 6; level++) {
+        add_entry(t, level, 7 - level, type);
+    }
+}
+
+void make_many_lines(tape *t, size_t rows)
 {
     unsigned i, e;
     start(t, "many lines");
     add_row(t, 1, PORTFOLIO);
-    for (i = 0; i < 1023; i++) {
+    for (i = 0; t->rows < rows; i++) {
         add_row(t, 2, LESSEE + i % 3);
     }
     for (e = 0; e < 6; e++) {
@@ -120,7 +220,7 @@ void make_many_lines(tape *t)
     }
 }
 
-void make_vain_searches(tape *t)
+void make_vain_searches(tape *t, size_t rows)
 {
     static const unsigned lessee[] = {PORTFOLIO, LESSEE}, asset[] = {PORTFOLIO, ASSET}, payment[] = {PORTFOLIO, PAYMENT};
     unsigned i;
@@ -129,7 +229,7 @@ void make_vain_searches(tape *t)
     for (i = 0; i < 4; i++) {
         add_row(t, 2, LESSEE);
     }
-    for (i = 0; i < 1016; i++) {
+    while (t->rows < rows - 3) {
         add_row(t, 2, ASSET);
     }
     add_row(t, 1, PORTFOLIO);

@@ -12,7 +12,9 @@ typedef struct {
     uint8_t shape[SILMEZGA_MOST_SHAPE_BYTES];
 } tape;
 
-/* Books of leases, 128 to 1,024 rows: lessees of three leases of three assets each, to lease[lessee asset]. */
+/* Each of 128 to 1,024 rows. */
+
+/* Books of leases: lessees of three leases of three assets each, to lease[lessee asset]. */
 void make_book(tape *t, size_t rows);
 
 /* One lessee with all leases, an asset each: the rows of one run are nearly the whole table. To lease[lessee asset]. */
@@ -21,10 +23,19 @@ void make_fan(tape *t, size_t rows);
 /* The book again, to a shape of 16 entries on 6 levels. */
 void make_sixteen(tape *t, size_t rows);
 
-/* Hostile: 1,024 rows that ask for some 10^15 lines. */
-void make_many_lines(tape *t);
+/* 64 types, as many as there may be, to a shape of 8 entries over the last of them. */
+void make_64_types(tape *t, size_t rows);
 
-/* Hostile: 1,024 rows whose 4,068 lines just fit, and of which nearly each asks for 14 searches of a whole tree that find nothing. */
-void make_vain_searches(tape *t);
+/* A random forest of a fixed seed, to a shape of 8 entries over the types most frequent in its first 128 rows. */
+void make_random(tape *t, size_t rows);
+
+/* One tree of six levels, to a shape of 6 entries that has the levels upside down. */
+void make_one_tree(tape *t, size_t rows);
+
+/* Hostile: rows that ask for some 10^15 lines where they are 1,024, for some 10^9 where they are 128. */
+void make_many_lines(tape *t, size_t rows);
+
+/* Hostile: 4 lines a row, which just fit, and of which nearly each asks for 14 searches of a whole tree that find nothing. */
+void make_vain_searches(tape *t, size_t rows);
 
 #endif
