@@ -59,5 +59,6 @@ samples =
 
 -- every sample is printed as it should be
 pub samples-hold : map (λ (p : List ℕ × List ℕ). p .0) samples ≡ map (λ (p : List ℕ × List ℕ). p .1) samples
-unfolding opened row table entry A portfolio lessee lease asset digitsIn decimal signedText followed parted names nameOf nameText refusedText verdictText deweyText lineText linesText listingText printed lineOf samples
+unfolding opened row table entry A portfolio lessee lease asset digitsIn decimal signedText followed parted names nameOf nameText refusedText
+    verdictText deweyText lineText linesText listingText printed lineOf samples
 samples-hold = refl
