@@ -17,18 +17,30 @@ use Rattle.listing.specs.Listing.{deweyText}
 use Rattle.listing.specs.Put.{Put}
 use Rattle.listing.proofs.Putting.{put-then, put-as}
 
--- One number more, with its byte before it.
-pub followed-more : (c : ℕ) (xs : List ℕ) (k : ℕ) → k < length xs
-    → followed c (map decimal (take (k + 1) xs)) ≡ followed c (map decimal (take k xs)) ++ (c ∷ decimal (getD xs k 0))
+-- One number more, with its byte before it; `said` is the text of a number.
+pub followed-more : (said : ℕ → List ℕ) (c : ℕ) (xs : List ℕ) (k : ℕ) → k < length xs
+    → followed c (map said (take (k + 1) xs)) ≡ followed c (map said (take k xs)) ++ (c ∷ said (getD xs k 0))
 unfolding followed
-followed-more c xs k lt = rw (add-one k) (go xs k lt)
+followed-more said c xs k lt = rw (add-one k) (go xs k lt)
   where
-    go : (xs : List ℕ) (k : ℕ) → k < length xs → followed c (map decimal (take (suc k) xs)) ≡ followed c (map decimal (take k xs)) ++ (c ∷ decimal (getD xs k 0))
+    go : (xs : List ℕ) (k : ℕ) → k < length xs
+        → followed c (map said (take (suc k) xs)) ≡ followed c (map said (take k xs)) ++ (c ∷ said (getD xs k 0))
     go [] k lt = absurd (omega arith)
-    go (x ∷ xs) zero lt = append-nil (c ∷ decimal x)
+    go (x ∷ xs) zero lt = append-nil (c ∷ said x)
     go (x ∷ xs) (suc k) lt =
-        ap (λ l. (c ∷ decimal x) ++ l) (go xs k (omega arith))
-        ∙ sym (append-assoc (c ∷ decimal x) (followed c (map decimal (take k xs))) (c ∷ decimal (getD xs k 0)))
+        ap (λ l. (c ∷ said x) ++ l) (go xs k (omega arith))
+        ∙ sym (append-assoc (c ∷ said x) (followed c (map said (take k xs))) (c ∷ said (getD xs k 0)))
+
+-- the first k of n numbers that a record holds from a byte on, the byte c before each
+abbrev pub leading : (ℕ → List ℕ) → ℕ → ℕ → List ℕ → ℕ → ℕ → List ℕ
+leading said c n b from k = followed c (map said (take k (words n b from)))
+
+-- The next of them is put.
+pub leading-put : {l l' l'' : List ℕ} {at i j : ℕ} (said : ℕ → List ℕ) (c n : ℕ) (b : List ℕ) (from k x : ℕ) → k < n → x ≡ word b (from + 2 * k)
+    → Put l at (leading said c n b from k) l' i → Put l' i (c ∷ said x) l'' j → Put l at (leading said c n b from (k + 1)) l'' j
+leading-put said c n b from k x lt e before next =
+    let more = followed-more said c (words n b from) k (omega (arith, length-words n b from)) in
+    put-as (put-then before next) (sym (more ∙ ap (λ y. leading said c n b from k ++ (c ∷ said y)) (words-at n b from k lt ∙ sym e)))
 
 -- A Dewey number is its first component, and the others with a dot before each.
 pub dewey-parts : (l n w : ℕ) (ws : List ℕ) → length ws ≡ 5 → n ≡ min l 6 → 1 ≤ n
@@ -51,11 +63,4 @@ no-components (suc l) n ws en none = absurd (omega arith)
 
 -- the first k components after the first
 abbrev pub further : ℕ → List ℕ → List ℕ
-further k row = followed dot (map decimal (take k (words 5 row 6)))
-
--- The next of them is put.
-pub further-put : {l l' l'' : List ℕ} {at i j : ℕ} (row : List ℕ) (k x : ℕ) → k < 5 → x ≡ word row (6 + 2 * k)
-    → Put l at (further k row) l' i → Put l' i (dot ∷ decimal x) l'' j → Put l at (further (k + 1) row) l'' j
-further-put row k x lt e before next =
-    let more = followed-more dot (words 5 row 6) k (omega (arith, length-words 5 row 6)) in
-    put-as (put-then before next) (sym (more ∙ ap (λ y. further k row ++ (dot ∷ decimal y)) (words-at 5 row 6 k lt ∙ sym e)))
+further k row = leading decimal dot 5 row 6 k

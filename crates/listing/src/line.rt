@@ -15,9 +15,9 @@ ghost use Rattle.listing.specs.Text.{dot, decimal, signedText, followed}
 ghost use Rattle.listing.specs.Listing.{deweyText, lineText};
 ghost use Rattle.listing.specs.Put.{Put};
 
-// The components of a row's Dewey number after the first, n of them, each with a dot before it.
-fn put_further(out: &mut [u8], at: usize, row: &[u8], n: usize) -> usize
-    requires { ⌜ (at + 105 ≤ length (now out)) × (length (now row) ≡ 24) × (n ≤ 5) ⌝ }
+// The numbers of a record's list after the first, n of them, each with a dot before it: components of a row's Dewey number.
+pub fn put_further(out: &mut [u8], at: usize, row: &[u8], n: usize) -> usize
+    requires { ⌜ (at + 105 ≤ length (now out)) × (16 ≤ length (now row)) × (n ≤ 5) ⌝ }
     ensures { λ r. ⌜ Put (now (out .entry)) at (followed dot (map decimal (take n (words 5 (now (row .entry)) 6)))) (now (out .exit)) r × (r ≤ at + 105) ⌝ }
 {
     let mut p = at;
@@ -30,7 +30,7 @@ fn put_further(out: &mut [u8], at: usize, row: &[u8], n: usize) -> usize
 }
 
 // A row's Dewey number: as many components as its level, a dot between them.
-fn put_dewey(out: &mut [u8], at: usize, row: &[u8]) -> usize
+pub fn put_dewey(out: &mut [u8], at: usize, row: &[u8]) -> usize
     requires { ⌜ (at + 125 ≤ length (now out)) × (length (now row) ≡ 24) ⌝ }
     ensures { λ r. ⌜ Put (now (out .entry)) at (deweyText (dewey (rowOf base (now (row .entry))))) (now (out .exit)) r × (r ≤ at + 125) ⌝ }
 {
@@ -43,7 +43,7 @@ fn put_dewey(out: &mut [u8], at: usize, row: &[u8]) -> usize
 }
 
 // A row's value, signed. Below 0 its size is what the bits lack of 2^64, which holds of the least value too.
-fn put_value(out: &mut [u8], at: usize, row: &[u8]) -> usize
+pub fn put_value(out: &mut [u8], at: usize, row: &[u8]) -> usize
     requires { ⌜ (at + 21 ≤ length (now out)) × (length (now row) ≡ 24) ⌝ }
     ensures { λ r. ⌜ Put (now (out .entry)) at (signedText (signed (rowOf base (now (row .entry)) .value))) (now (out .exit)) r × (r ≤ at + 21) ⌝ }
 {

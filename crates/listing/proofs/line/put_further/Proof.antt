@@ -2,10 +2,10 @@
 use Prim.Native.Nat.{_+_, _*_, _-_, _≤_}
 use mathlib.Core.Path.{_≡_, refl, ap}
 use lib.ListN.{length}
-use Rattle.listing.specs.Text.{followed}
+use Rattle.listing.specs.Text.{dot, decimal, followed}
 use Rattle.listing.specs.Put.{Put}
 use Rattle.listing.proofs.Putting.{as-long, put-none, put-as}
-use Rattle.listing.proofs.Dewey.{further, further-put}
+use Rattle.listing.proofs.Dewey.{further, leading-put}
 use native.Mathlib.Omega.{arith}
 use borrow.Author.Needs.{needs}
 use Rattle.listing.proofs.line.put_further.Statement.{statement}
@@ -44,7 +44,9 @@ loop-again c =
     let a = c .before .before in
     let w = a .before in
     let l = w .before .before .before in
-    let put = further-put (l .before .before .before .args .row .now) (l .loop .k) (w .word .result) (omega arith) (w .word .ensures .0) (l .loop .inv .3) (a .put-after .ensures .0) in
+    let row = l .before .before .before .args .row .now in
+    let said = leading-put decimal dot 5 row 6 (l .loop .k) (w .word .result) (omega arith) (w .word .ensures .0) in
+    let put = said (l .loop .inv .3) (a .put-after .ensures .0) in
     (omega arith, omega (arith, a .put-after .ensures .1), as-long put, put)
 
 same-length : tie.Need-same-length Inv-loop μ-loop

@@ -1,0 +1,46 @@
+-- `entry::put_entry_fields`: the first fields, the labels, and the end of the line. Assumes nothing.
+use Rattle.io.proofs.Counting.{counts}
+use Rattle.paper.specs.Format.{base}
+use Rattle.paper.specs.Shapes.{entryOf}
+use Rattle.listing.proofs.Putting.{put-then, put-last}
+use Rattle.facts.specs.Facts.{joined, told, entryFields}
+use Rattle.facts.proofs.Telling.{room}
+use borrow.Author.Needs.{needs}
+use Rattle.facts.proofs.entry.put_entry_fields.Statement.{statement}
+use Rattle.facts.proofs.entry.put_entry_fields.Tie as tie
+
+put-entry-head-requires : tie.Need-put-entry-head-requires
+put-entry-head-requires c κs = search needs
+
+slice-aggregate-put-bytes : tie.Need-slice-aggregate-put-bytes
+slice-aggregate-put-bytes c = search needs
+
+put-bytes-requires : tie.Need-put-bytes-requires
+put-bytes-requires c κs = search needs
+
+put-six-requires : tie.Need-put-six-requires
+put-six-requires c κs = search needs
+
+put-byte-requires : tie.Need-put-byte-requires
+put-byte-requires c κs = search needs
+
+returns : tie.Need-returns
+unfolding base entryOf joined told entryFields
+returns c =
+    let l = c .before .before in
+    let w = l .before .before in
+    let head = w .before .before .before in
+    let labels = put-then (w .put-bytes .ensures) (put-last (l .put-six .ensures .0)) in
+    let whole = put-then (put-then (head .put-entry-head .ensures .0) labels) (c .put-byte .ensures) in
+    (whole, counts (c .put-byte .result) (c .put-byte .last .0) (room (put-byte-requires (c .before) (c .put-byte .lifetimes)) (c .put-byte .ensures)))
+
+pub put-entry-fields-spec : {M : Type 1} → statement M
+put-entry-fields-spec =
+    tie.close
+    (tie.spec
+    put-entry-head-requires
+    slice-aggregate-put-bytes
+    put-bytes-requires
+    put-six-requires
+    put-byte-requires
+    returns)

@@ -1,0 +1,85 @@
+-- `entry::put_entry_head`: the entry's fields, one after the other. Assumes nothing.
+use Prim.Native.Nat.{_≤_}
+use native.Mathlib.Omega.{arith}
+use Rattle.paper.specs.Format.{base}
+use Rattle.paper.specs.Shapes.{entryOf}
+use Rattle.listing.specs.Text.{ascii}
+use Rattle.listing.proofs.Putting.{put-then, put-last}
+use Rattle.facts.specs.Facts.{joined, entryHead}
+use Rattle.facts.proofs.Telling.{put-number-as}
+use borrow.Author.Needs.{needs}
+use Rattle.facts.proofs.entry.put_entry_head.Statement.{statement}
+use Rattle.facts.proofs.entry.put_entry_head.Tie as tie
+
+slice-aggregate-put-named : tie.Need-slice-aggregate-put-named
+slice-aggregate-put-named c = search needs
+
+put-named-requires : tie.Need-put-named-requires
+put-named-requires c κs = search needs
+
+slice-aggregate-put-named-2 : tie.Need-slice-aggregate-put-named-2
+slice-aggregate-put-named-2 c = search needs
+
+shared-slice-read-wide : tie.Need-shared-slice-read-wide
+shared-slice-read-wide c = search needs
+
+wide-requires : tie.Need-wide-requires
+wide-requires c κs = search needs
+
+put-named-requires-2 : tie.Need-put-named-requires-2
+put-named-requires-2 c κs = search needs
+
+slice-aggregate-put-named-3 : tie.Need-slice-aggregate-put-named-3
+slice-aggregate-put-named-3 c = search needs
+
+shared-slice-read-wide-2 : tie.Need-shared-slice-read-wide-2
+shared-slice-read-wide-2 c = search needs
+
+wide-requires-2 : tie.Need-wide-requires-2
+wide-requires-2 c κs = search needs
+
+put-named-requires-3 : tie.Need-put-named-requires-3
+put-named-requires-3 c κs = search needs
+
+slice-aggregate-put-named-4 : tie.Need-slice-aggregate-put-named-4
+slice-aggregate-put-named-4 c = search needs
+
+word-requires : tie.Need-word-requires
+word-requires c κs = search needs
+
+put-named-requires-4 : tie.Need-put-named-requires-4
+put-named-requires-4 c κs = search needs
+
+returns : tie.Need-returns
+unfolding base entryOf joined entryHead
+returns c =
+    let word = c .before in
+    let third = word .before .before .before in
+    let wide2 = third .before in
+    let second = wide2 .before .before .before .before in
+    let wide = second .before in
+    let first = wide .before .before .before .before in
+    let d = put-last (put-number-as (ascii ", zero bytes ") (word .word .ensures .0) (c .put-named4 .ensures .0)) in
+    let b = put-number-as (ascii ", length of its type ") (wide2 .wide2 .ensures .0) (third .put-named3 .ensures .0) in
+    let a = put-number-as (ascii ": level ") (wide .wide .ensures .0) (second .put-named2 .ensures .0) in
+    let near : second .put-named2 .result ≤ 54 = omega (arith, first .put-named .ensures .1, second .put-named2 .ensures .1) in
+    (put-then (first .put-named .ensures .0) (put-then a (put-then b d)), omega (arith, near, third .put-named3 .ensures .1, c .put-named4 .ensures .1))
+
+pub put-entry-head-spec : {M : Type 1} → statement M
+put-entry-head-spec =
+    tie.close
+    (tie.spec
+    slice-aggregate-put-named
+    put-named-requires
+    slice-aggregate-put-named-2
+    shared-slice-read-wide
+    wide-requires
+    put-named-requires-2
+    slice-aggregate-put-named-3
+    shared-slice-read-wide-2
+    wide-requires-2
+    put-named-requires-3
+    slice-aggregate-put-named-4
+    word-requires
+    put-named-requires-4
+    returns)

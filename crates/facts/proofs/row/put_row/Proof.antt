@@ -1,0 +1,75 @@
+-- `row::put_row`: the parts, one after the other. Assumes nothing.
+use Rattle.io.proofs.Counting.{counts}
+use Rattle.paper.specs.Tables.{rowOf}
+use Rattle.listing.proofs.Putting.{put-then, put-last}
+use Rattle.facts.specs.Facts.{joined, told, rowText}
+use Rattle.facts.proofs.Telling.{room}
+use borrow.Author.Needs.{needs}
+use Rattle.facts.proofs.row.put_row.Statement.{statement}
+use Rattle.facts.proofs.row.put_row.Tie as tie
+
+slice-aggregate-put-named : tie.Need-slice-aggregate-put-named
+slice-aggregate-put-named c = search needs
+
+put-named-requires : tie.Need-put-named-requires
+put-named-requires c κs = search needs
+
+slice-aggregate-put-bytes : tie.Need-slice-aggregate-put-bytes
+slice-aggregate-put-bytes c = search needs
+
+put-bytes-requires : tie.Need-put-bytes-requires
+put-bytes-requires c κs = search needs
+
+put-dewey-requires : tie.Need-put-dewey-requires
+put-dewey-requires c κs = search needs
+
+put-byte-requires : tie.Need-put-byte-requires
+put-byte-requires c κs = search needs
+
+put-labels-requires : tie.Need-put-labels-requires
+put-labels-requires c κs = search needs
+
+slice-aggregate-put-bytes-2 : tie.Need-slice-aggregate-put-bytes-2
+slice-aggregate-put-bytes-2 c = search needs
+
+put-bytes-requires-2 : tie.Need-put-bytes-requires-2
+put-bytes-requires-2 c κs = search needs
+
+put-value-requires : tie.Need-put-value-requires
+put-value-requires c κs = search needs
+
+put-byte-requires-2 : tie.Need-put-byte-requires-2
+put-byte-requires-2 c κs = search needs
+
+returns : tie.Need-returns
+unfolding joined told rowText
+returns c =
+    let v = c .before .before in
+    let w = v .before .before in
+    let l = w .before .before .before in
+    let m = l .before .before in
+    let d = m .before .before in
+    let t = d .before .before in
+    let n = t .before .before .before in
+    let value = put-then (w .put-bytes2 .ensures) (put-last (v .put-value .ensures .0)) in
+    let labels = put-then (m .put-byte .ensures) (put-then (l .put-labels .ensures .0) value) in
+    let number = put-then (t .put-bytes .ensures) (put-then (d .put-dewey .ensures .0) labels) in
+    let whole = put-then (put-then (n .put-named .ensures .0) number) (c .put-byte2 .ensures) in
+    (whole, counts (c .put-byte2 .result) (c .put-byte2 .last .0) (room (put-byte-requires-2 (c .before) (c .put-byte2 .lifetimes)) (c .put-byte2 .ensures)))
+
+pub put-row-spec : {M : Type 1} → statement M
+put-row-spec =
+    tie.close
+    (tie.spec
+    slice-aggregate-put-named
+    put-named-requires
+    slice-aggregate-put-bytes
+    put-bytes-requires
+    put-dewey-requires
+    put-byte-requires
+    put-labels-requires
+    slice-aggregate-put-bytes-2
+    put-bytes-requires-2
+    put-value-requires
+    put-byte-requires-2
+    returns)

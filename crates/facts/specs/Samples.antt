@@ -1,0 +1,35 @@
+-- Facts of rows and entries, proved by computation. Assumes nothing.
+use Prim.Native.Nat.{ℕ, _-_, _^_}
+use mathlib.Core.Path.{_≡_, refl}
+use mathlib.Core.List.{List, [], _∷_, _++_, map}
+use Rattle.paper.specs.Opened.{opened}
+use Rattle.paper.specs.Samples.{row, entry, portfolio, lessee, lease, asset}
+use Rattle.listing.specs.Text.{ascii, digitsIn, decimal, signedText, followed, parted}
+use Rattle.listing.specs.Names.{names, nameOf, nameText}
+use Rattle.listing.specs.Listing.{deweyText}
+use Rattle.facts.specs.Facts.{joined, told, labelsText, entryText, rowText, rowHead, rowFields, entryHead, entryFields}
+
+-- a level 7, and labels that are not there
+wrongEntry : List ℕ
+wrongEntry = 7 ∷ 2 ∷ 1 ∷ 2 ∷ 1 ∷ 0 ∷ 21 ∷ 0 ∷ 231 ∷ 3 ∷ 0 ∷ 0 ∷ 0 ∷ 0 ∷ 0 ∷ 1 ∷ []
+
+-- what the definitions say, beside what is to be told
+pub samples : List (List ℕ × List ℕ)
+samples =
+    (entryText 1 (entry 2 lease), ascii "entry 1: portfolio lessee lease\n")
+    ∷ (entryText 15 (entry 1 (21 ∷ 999 ∷ [])), ascii "entry 15: 21 999\n")
+    ∷ (entryText 0 wrongEntry, ascii "entry 0: portfolio 21\n")
+    ∷ (rowText 8 (row (1 ∷ 2 ∷ 1 ∷ []) 3 800) (entry 1 lease), ascii "row 8: 1.2.1, portfolio lessee lease, value 800\n")
+    ∷ (rowText 0 (row (1 ∷ []) 1 (2 ^ 64 - 1)) (entry 1 portfolio), ascii "row 0: 1, portfolio, value -1\n")
+    ∷ (
+      rowFields 3 (9 ∷ 4 ∷ 5 ∷ 1 ∷ 0 ∷ 0 ∷ 2 ∷ 1 ∷ 0 ∷ 0 ∷ 0 ∷ 0 ∷ 0 ∷ 0 ∷ 7 ∷ 0 ∷ 1 ∷ 0 ∷ 0 ∷ 0 ∷ 0 ∷ 0 ∷ 0 ∷ 128 ∷ []),
+      ascii "row 3: level 9, zero byte 4, label 261, number 0.258.0.0.0.7, value -9223372036854775807\n",
+    )
+    ∷ (entryFields 2 wrongEntry, ascii "entry 2: level 7, length of its type 2, zero bytes 513, labels 1.21.999.0.0.256\n")
+    ∷ []
+
+-- every sample is told as it should be
+pub samples-hold : map (λ (p : List ℕ × List ℕ). p .0) samples ≡ map (λ (p : List ℕ × List ℕ). p .1) samples
+unfolding opened row entry portfolio lessee lease asset digitsIn decimal signedText followed parted names nameOf nameText deweyText
+    joined told labelsText entryText rowText rowHead rowFields entryHead entryFields wrongEntry samples
+samples-hold = refl

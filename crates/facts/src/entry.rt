@@ -1,0 +1,95 @@
+// An entry of a shape: its type by label names, or its fields as they stand.
+use listing::line::put_further;
+use listing::names::put_name;
+use listing::put::put_byte;
+use listing::put::put_bytes;
+use listing::put::put_number;
+use tables::row::smaller;
+ghost use mathlib.Core.Path.{_≡_};
+ghost use mathlib.Core.List.{_++_, map};
+ghost use Prim.Native.Nat.{_+_, _≤_};
+ghost use lib.ListN.{length, take};
+ghost use Rattle.io.specs.Counts.{Counts};
+ghost use Rattle.paper.specs.Format.{words};
+ghost use Rattle.listing.specs.Text.{ascii, space, decimal, followed};
+ghost use Rattle.listing.specs.Names.{nameText};
+ghost use Rattle.listing.specs.Listing.{deweyText};
+ghost use Rattle.listing.specs.Put.{Put};
+ghost use Rattle.facts.specs.Facts.{labelsText, entryText, entryHead, entryFields};
+
+// The names of the first n labels of an entry's record, a space before each.
+fn put_names(out: &mut [u8], at: usize, entry: &[u8], n: usize) -> usize
+    requires { ⌜ (at + 126 ≤ length (now out)) × (length (now entry) ≡ 16) × (n ≤ 6) ⌝ }
+    ensures { λ r. ⌜ Put (now (out .entry)) at (followed space (map nameText (take n (words 6 (now (entry .entry)) 4)))) (now (out .exit)) r × (r ≤ at + 126) ⌝ }
+{
+    let mut p = at;
+    let mut k = 0;
+    while k < n {
+        let gap = put_byte(out, p, b' ');
+        p = put_name(out, gap, bytes::word(entry, 4 + 2 * k));
+        k += 1;
+    }
+    p
+}
+
+// The names of the labels of an entry's type.
+pub fn put_labels(out: &mut [u8], at: usize, entry: &[u8]) -> usize
+    requires { ⌜ (at + 126 ≤ length (now out)) × (length (now entry) ≡ 16) ⌝ }
+    ensures { λ r. ⌜ Put (now (out .entry)) at (labelsText (now (entry .entry))) (now (out .exit)) r × (r ≤ at + 126) ⌝ }
+{
+    let n = smaller(bytes::wide(entry[1]), 6);
+    put_names(out, at, entry, n)
+}
+
+// A text, and a number after it.
+pub fn put_named(out: &mut [u8], at: usize, text: &[u8], n: usize) -> usize
+    requires { ⌜ at + length (now text) + 20 ≤ length (now out) ⌝ }
+    ensures { λ r. ⌜ Put (now (out .entry)) at (now (text .entry) ++ decimal n) (now (out .exit)) r × (r ≤ at + length (now (text .entry)) + 20) ⌝ }
+{
+    let p = put_bytes(out, at, text);
+    put_number(out, p, n)
+}
+
+// The six numbers that a record holds from byte 4 on, a dot between them.
+pub fn put_six(out: &mut [u8], at: usize, held: &[u8]) -> usize
+    requires { ⌜ (at + 125 ≤ length (now out)) × (16 ≤ length (now held)) ⌝ }
+    ensures { λ r. ⌜ Put (now (out .entry)) at (deweyText (words 6 (now (held .entry)) 4)) (now (out .exit)) r × (r ≤ at + 125) ⌝ }
+{
+    let first = put_number(out, at, bytes::word(held, 4));
+    put_further(out, first, held, 5)
+}
+
+// An entry's number and the labels of its type, at the front of the buffer.
+pub fn put_entry(out: &mut [u8; 512], e: usize, entry: &[u8]) -> usize
+    requires { ⌜ length (now entry) ≡ 16 ⌝ }
+    ensures { λ r. ⌜ Put (now (out .entry)) 0 (entryText e (now (entry .entry))) (now (out .exit)) r ⌝ }
+    ensures { λ r. ⌜ Counts r (now (out .exit)) ⌝ }
+{
+    let number = put_named(out, 0, b"entry ", e);
+    let gap = put_byte(out, number, b':');
+    let labels = put_labels(out, gap, entry);
+    put_byte(out, labels, b'\n')
+}
+
+// The fields that an entry has before its labels, at the front of the buffer.
+fn put_entry_head(out: &mut [u8; 512], e: usize, entry: &[u8]) -> usize
+    requires { ⌜ length (now entry) ≡ 16 ⌝ }
+    ensures { λ r. ⌜ Put (now (out .entry)) 0 (entryHead e (now (entry .entry))) (now (out .exit)) r × (r ≤ 128) ⌝ }
+{
+    let number = put_named(out, 0, b"entry ", e);
+    let level = put_named(out, number, b": level ", bytes::wide(entry[0]));
+    let size = put_named(out, level, b", length of its type ", bytes::wide(entry[1]));
+    put_named(out, size, b", zero bytes ", bytes::word(entry, 2))
+}
+
+// An entry's fields as they stand, at the front of the buffer.
+pub fn put_entry_fields(out: &mut [u8; 512], e: usize, entry: &[u8]) -> usize
+    requires { ⌜ length (now entry) ≡ 16 ⌝ }
+    ensures { λ r. ⌜ Put (now (out .entry)) 0 (entryFields e (now (entry .entry))) (now (out .exit)) r ⌝ }
+    ensures { λ r. ⌜ Counts r (now (out .exit)) ⌝ }
+{
+    let head = put_entry_head(out, e, entry);
+    let word = put_bytes(out, head, b", labels ");
+    let labels = put_six(out, word, entry);
+    put_byte(out, labels, b'\n')
+}

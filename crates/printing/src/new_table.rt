@@ -1,0 +1,94 @@
+// The listing: a refusal, or the verdict and a line for each line of the new table.
+use crate::out::print;
+use crate::out::tell;
+use crate::told::tell_refused;
+use crate::told::tell_verdict;
+use listing::answers::put_refused;
+use listing::answers::put_verdict;
+use listing::line::put_line;
+use silmezga::Verdict;
+use silmezga::reader::handed;
+ghost use mathlib.Core.Path.{_≡_};
+ghost use lib.ListN.{length};
+
+// Prints a refusal, and tells it, with what it names, where that is wanted.
+pub fn print_refused(table: &[u8], shape: &[u8], number: usize, place: usize, told: bool) -> bool {
+    let mut text = [0u8; 256];
+    let n = put_refused(&mut text, number, place);
+    if !print(&text[..n]) {
+        return false;
+    }
+    if !told {
+        return true;
+    }
+    if !tell(&text[..n]) {
+        return false;
+    }
+    tell_refused(table, shape, number, place)
+}
+
+// Prints a verdict, and tells it, with what it names, where that is wanted.
+fn print_verdict(table: &[u8], shape: &[u8], v: Verdict, told: bool) -> bool {
+    let mut text = [0u8; 256];
+    let n = put_verdict(&mut text, v);
+    if !print(&text[..n]) {
+        return false;
+    }
+    if !told {
+        return true;
+    }
+    if !tell(&text[..n]) {
+        return false;
+    }
+    tell_verdict(table, shape, v)
+}
+
+fn print_line(row: &[u8], source: u32) -> bool
+    requires { ⌜ length (now row) ≡ 24 ⌝ }
+{
+    let mut text = [0u8; 256];
+    let n = put_line(&mut text, row, source);
+    print(&text[..n])
+}
+
+// The lines of a new table, in order, each written as soon as its text is made.
+fn print_lines(table: &[u8], sources: &[u32], lines: usize) -> bool {
+    if sources.len() < lines {
+        return false;
+    }
+    let mut i = 0;
+    while i < lines {
+        let row = handed(table, i);
+        if row.len() != 24 {
+            return false;
+        }
+        if !print_line(row, sources[i]) {
+            return false;
+        }
+        i += 1;
+    }
+    true
+}
+
+// Reshapes a table into what is lent, and prints the listing.
+fn print_reshaped(source: &[u8], shape: &[u8], table: &mut [u8], sources: &mut [u32], told: bool) -> bool {
+    let r = silmezga::reshape(source, shape, table, sources);
+    let number = r.number;
+    let place = r.place;
+    if number != 0 {
+        return print_refused(source, shape, number, place, told);
+    }
+    let j = silmezga::judge(source, shape);
+    let v = j.verdict;
+    if !print_verdict(source, shape, v, told) {
+        return false;
+    }
+    print_lines(table, sources, r.lines)
+}
+
+// Prints the listing of a table and a shape, with room for 1,024 lines. Where it is wanted, the answer and what it names are told too.
+pub fn print_listing(source: &[u8], shape: &[u8], told: bool) -> bool {
+    let mut new = [0u8; 24576];
+    let mut sources = [0u32; 1024];
+    print_reshaped(source, shape, &mut new, &mut sources, told)
+}

@@ -1,0 +1,19 @@
+// Writing. Every answer of a write is looked at.
+use libc::STDOUT_FILENO;
+
+// Where the program tells the command that ran it what it did. The command opens it; a write to it that fails tells nothing.
+const TOLD: i32 = 3;
+
+// Writes a text to standard output. Where not all of it is taken, standard error says that what stands there is not whole.
+pub fn print(text: &[u8]) -> bool {
+    if io::write_all(STDOUT_FILENO, text) {
+        return true;
+    }
+    os::fail(b"intake: NOT WHOLE: what was written is cut off, do not use it: standard output");
+    false
+}
+
+// Tells the command a text.
+pub fn tell(text: &[u8]) -> bool {
+    io::write_all(TOLD, text)
+}
