@@ -1,0 +1,58 @@
+-- `words::put_counted`: the number, a space, and the word that the number takes. Assumes nothing.
+use native.Mathlib.Omega.{arith}
+use Rattle.listing.proofs.Putting.{put-then, put-as}
+use Rattle.screens.proofs.Parts.{counted-one, counted-more}
+use borrow.Author.Needs.{needs}
+use Rattle.screens.proofs.words.put_counted.Statement.{statement}
+use Rattle.screens.proofs.words.put_counted.Tie as tie
+
+put-number-requires : tie.Need-put-number-requires
+put-number-requires c κs = search needs
+
+put-byte-requires : tie.Need-put-byte-requires
+put-byte-requires c κs = search needs
+
+put-bytes-requires : tie.Need-put-bytes-requires
+put-bytes-requires c κs = search needs
+
+same-length : tie.Need-same-length
+same-length c = search needs
+
+returns : tie.Need-returns
+returns c =
+    let word = c .before .before in
+    let test = word .before .before in
+    let gap = test .before .before .before in
+    let number = gap .before .before .before .before in
+    let a = number .before .before .before .before .before .args in
+    let whole = put-then (number .put-number .ensures .0) (put-then (gap .put-byte .ensures) (word .put-bytes .ensures)) in
+    (put-as whole (counted-one (a .n) (a .one .now) (a .more .now) (test .if1 .taken)), omega arith)
+
+put-bytes-requires-2 : tie.Need-put-bytes-requires-2
+put-bytes-requires-2 c κs = search needs
+
+same-length-2 : tie.Need-same-length-2
+same-length-2 c = search needs
+
+returns-2 : tie.Need-returns-2
+returns-2 c =
+    let word = c .before .before in
+    let test = word .before .before in
+    let gap = test .before .before .before in
+    let number = gap .before .before .before .before in
+    let a = number .before .before .before .before .before .args in
+    let whole = put-then (number .put-number .ensures .0) (put-then (gap .put-byte .ensures) (word .put-bytes2 .ensures)) in
+    (put-as whole (counted-more (a .n) (a .one .now) (a .more .now) (test .if1 .left)), omega arith)
+
+pub put-counted-spec : {M : Type 1} → statement M
+put-counted-spec =
+    tie.close
+    (tie.spec
+    put-number-requires
+    put-byte-requires
+    put-bytes-requires
+    same-length
+    returns
+    put-bytes-requires-2
+    same-length-2
+    returns-2)

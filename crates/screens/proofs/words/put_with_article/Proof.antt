@@ -1,0 +1,32 @@
+-- `words::put_with_article`: the article, a space, and the name. Assumes nothing.
+use native.Mathlib.Omega.{arith}
+use Rattle.listing.proofs.Putting.{put-then}
+use Rattle.screens.specs.Screens.{withArticle}
+use borrow.Author.Needs.{needs}
+use Rattle.screens.proofs.words.put_with_article.Statement.{statement}
+use Rattle.screens.proofs.words.put_with_article.Tie as tie
+
+put-article-requires : tie.Need-put-article-requires
+put-article-requires c κs = search needs
+
+put-byte-requires : tie.Need-put-byte-requires
+put-byte-requires c κs = search needs
+
+put-name-requires : tie.Need-put-name-requires
+put-name-requires c κs = search needs
+
+same-length : tie.Need-same-length
+same-length c = search needs
+
+returns : tie.Need-returns
+unfolding withArticle
+returns c =
+    let name = c .before .before in
+    let gap = name .before .before .before .before in
+    let word = gap .before .before .before .before in
+    (put-then (word .put-article .ensures .0) (put-then (gap .put-byte .ensures) (name .put-name .ensures .0)), omega arith)
+
+pub put-with-article-spec : {M : Type 1} → statement M
+put-with-article-spec =
+    tie.close
+    (tie.spec put-article-requires put-byte-requires put-name-requires same-length returns)

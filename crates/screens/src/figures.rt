@@ -1,0 +1,52 @@
+// A line of the figures' screen: an entry's number, its label name, and its figures.
+use crate::words::put_counted;
+use crate::words::put_indent;
+use listing::names::put_name;
+use listing::put::put_byte;
+use listing::put::put_bytes;
+use listing::put::put_number;
+ghost use Prim.Native.Nat.{_+_, _≤_};
+ghost use lib.ListN.{length};
+ghost use Rattle.io.specs.Counts.{Counts};
+ghost use Rattle.listing.specs.Put.{Put};
+ghost use Rattle.screens.specs.Screens.{countsText, figuresText};
+
+// An entry's figures: its lines, the source rows of its type, and copies.
+pub struct Figures {
+    pub lines: usize,
+    pub rows: usize,
+    pub copies: usize,
+}
+
+// The figures with their words.
+fn put_counts(out: &mut [u8], at: usize, f: Figures) -> usize
+    requires { ⌜ at + 85 ≤ length (now out) ⌝ }
+    ensures { λ r. ⌜ Put (now (out .entry)) at (countsText (f .lines) (f .rows) (f .copies)) (now (out .exit)) r × (r ≤ at + 85) ⌝ }
+{
+    let lines = put_counted(out, at, f.lines, b"line", b"lines");
+    let comma = put_bytes(out, lines, b", ");
+    let rows = put_counted(out, comma, f.rows, b"row", b"rows");
+    let comma2 = put_bytes(out, rows, b", ");
+    put_counted(out, comma2, f.copies, b"copy", b"copies")
+}
+
+// The line of an entry's figures, at the front of the buffer.
+pub fn put_figures(
+    out: &mut [u8; 256],
+    level: usize,
+    entry: usize,
+    label: usize,
+    f: Figures,
+) -> usize
+    requires { ⌜ level ≤ 6 ⌝ }
+    ensures { λ r. ⌜ Put (now (out .entry)) 0 (figuresText level entry label (f .lines) (f .rows) (f .copies)) (now (out .exit)) r ⌝ }
+    ensures { λ r. ⌜ Counts r (now (out .exit)) ⌝ }
+{
+    let indent = put_indent(out, 0, level);
+    let number = put_number(out, indent, entry);
+    let gap = put_byte(out, number, b' ');
+    let name = put_name(out, gap, label);
+    let colon = put_bytes(out, name, b": ");
+    let counts = put_counts(out, colon, f);
+    put_byte(out, counts, b'\n')
+}
