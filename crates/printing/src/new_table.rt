@@ -71,7 +71,13 @@ fn print_lines(table: &[u8], sources: &[u32], lines: usize) -> bool {
 }
 
 // Reshapes a table into what is lent, and prints the listing.
-fn print_reshaped(source: &[u8], shape: &[u8], table: &mut [u8], sources: &mut [u32], told: bool) -> bool {
+fn print_reshaped(
+    source: &[u8],
+    shape: &[u8],
+    table: &mut [u8],
+    sources: &mut [u32],
+    told: bool,
+) -> bool {
     let r = silmezga::reshape(source, shape, table, sources);
     let number = r.number;
     let place = r.place;

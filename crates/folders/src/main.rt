@@ -1,0 +1,77 @@
+// The gate's run of what the program does: every screen of every folder that is named, one after the other, beside the names.
+use listing::put::put_byte;
+use listing::put::put_bytes;
+use printing::out::print;
+use printing::screen::Screen;
+use printing::screen::print_screen;
+ghost use Rattle.io.specs.Counts.{Counts};
+
+// A folder's name, a slash and a file's name; no bytes where the two are too long.
+fn put_path(path: &mut [u8; 128], folder: &[u8], file: &[u8]) -> usize
+    ensures { λ r. ⌜ Counts r (now (path .exit)) ⌝ }
+{
+    if 64 < folder.len() {
+        return 0;
+    }
+    if 32 < file.len() {
+        return 0;
+    }
+    let slash = put_bytes(path, 0, folder);
+    let from = put_byte(path, slash, b'/');
+    put_bytes(path, from, file)
+}
+
+fn print_in(folder: &[u8], screen: Screen) -> bool {
+    let mut source = [0u8; 128];
+    let mut shape = [0u8; 128];
+    let n = put_path(&mut source, folder, b"source.tab");
+    let m = put_path(&mut shape, folder, b"shape.tab");
+    print_screen(&source[..n], &shape[..m], screen)
+}
+
+fn print_heading(folder: &[u8]) -> bool {
+    if !print(b"== ") {
+        return false;
+    }
+    if !print(folder) {
+        return false;
+    }
+    print(b"\n")
+}
+
+fn print_headed(heading: &[u8], folder: &[u8], screen: Screen) -> bool {
+    if !print(heading) {
+        return false;
+    }
+    print_in(folder, screen)
+}
+
+fn print_folder(folder: &[u8]) -> bool {
+    if !print_heading(folder) {
+        return false;
+    }
+    if !print_in(folder, Screen::Listing) {
+        return false;
+    }
+    if !print_headed(b"-- summary\n", folder, Screen::Summary) {
+        return false;
+    }
+    print_headed(b"-- types\n", folder, Screen::Types)
+}
+
+fn print_named(i: usize) -> bool {
+    let mut name = [0u8; 64];
+    let n = os::arg(i, &mut name);
+    print_folder(&name[..n])
+}
+
+fn main() {
+    let names = os::arg_count();
+    let mut i = 1;
+    while i < names {
+        if !print_named(i) {
+            return;
+        }
+        i += 1;
+    }
+}
