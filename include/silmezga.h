@@ -52,6 +52,9 @@
 extern "C" {
 #endif
 
+/* The version of the project; CHANGELOG.md says what each brought. */
+#define SILMEZGA_VERSION "1.1.0"
+
 /* The archive's numbers have 64 bits: this line refuses a target whose size_t has not. */
 typedef char silmezga_size_t_has_64_bits[sizeof(size_t) == 8 ? 1 : -1];
 
