@@ -1,9 +1,9 @@
-"""The folders of samples/, and what the program prints for a table and a shape by tools/paper01.py."""
+"""The folders of samples/, and what the program prints for a table and a shape by paper01.py."""
 import pathlib
 
 import paper01, table_text
 
-FOLDER = pathlib.Path(__file__).resolve().parent.parent / "samples"
+FOLDER = pathlib.Path(__file__).resolve().parents[2] / "samples"
 # what the program reads of each file at most, and its room for lines
 MOST_TABLE, MOST_SHAPE, ROOM = 24577, 257, 1024
 
