@@ -1,5 +1,8 @@
-"""The words after a command."""
-import argparse
+"""The words after a command, and how it ends where this machine lacks what it needs."""
+import argparse, sys
+
+# the status of a command that has not run: neither passed nor failed
+NOT_RUN = 3
 
 
 def about(text):
@@ -14,3 +17,8 @@ def cases_and_seed(text, cases):
     words.add_argument("seed", nargs="?", type=int, default=1, metavar="SEED", help="1 where nothing is said")
     said = words.parse_args()
     return said.cases, said.seed
+
+
+def not_run(why):
+    print(f"NOT RUN: {why}", file=sys.stderr)
+    sys.exit(NOT_RUN)
