@@ -115,8 +115,9 @@ def table_from(text):
     return b"".join(rows)
 
 
-def shape_from(text, kinds=None):
-    """The bytes of a shape. Where the types of a table are given, a type may be named by its last label alone."""
+def shape_from(text, kinds=None, plain=lambda line, label: None):
+    """The bytes of a shape. Where the types of a table are given, a type may be named by its last label alone; otherwise `plain` is told
+    of each label without a slash, which is then a type of one label."""
     entries = []
     for line, level, words in items(text):
         if len(entries) == MOST_ENTRIES:
@@ -126,6 +127,8 @@ def shape_from(text, kinds=None):
         if len(words) > 1:
             raise Wrong(line, f'an entry is a type, and "{words[1]}" is one word too many')
         entries.append(cases.entry_bytes(level, read_type(line, words[0], kinds)))
+        if kinds is None and "/" not in words[0]:
+            plain(line, words[0])
     if not entries:
         raise Wrong(0, f"no entry: a shape has 1 to {MOST_ENTRIES}")
     return b"".join(entries)
@@ -273,9 +276,14 @@ def write_bytes(file, data):
         f.write(data)
 
 
+def place(file, line=0):
+    """A file, and the line in it where there is one, before what is said of it."""
+    return f"{'standard input' if file == '-' else file}:{f'{line}:' if line else ''}"
+
+
 def stop(file, what, line=0):
-    """Ends the command with one plain line that names the file, and the line where there is one."""
-    sys.exit(f"{'standard input' if file == '-' else file}:{f'{line}:' if line else ''} {what}")
+    """Ends the command with one plain line that names the file."""
+    sys.exit(f"{place(file, line)} {what}")
 
 
 def convert(text_file, data_file, make):

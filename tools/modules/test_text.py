@@ -201,6 +201,20 @@ class Commands(InFolder):
         bad = self.put("bad.tab", A_BYTES[:-1])
         self.assertEqual(run("to_shape", "--table", bad, "-", "-")[0::2], (1, f"{bad}: the last 23 bytes are no whole row of 24 bytes\n"))
 
+    def test_plain_labels_without_a_table(self):
+        """They are types of one label, and each is said so, with its line; with a slash or a table nothing is said."""
+        note = "without --table, {0} is read as a type of one label, /{0} (roots only); ./intake answers refused 7 where no root has it\n"
+        text, shape = self.put("x.txt", b"# x\nlease\n  /lessee\n  4\n"), self.folder / "x.tab"
+        self.assertEqual(run("to_shape", text, shape), (0, b"", f"{text}:2: {note.format('lease')}{text}:4: {note.format('4')}"))
+        self.assertEqual(shape.read_bytes(), brackets.shape((1, (3,)), (2, (2,)), (2, (4,))))
+        self.assertEqual(run("to_shape", "-", "-", given=b"/lease\n")[2], "")
+        table = self.put("a.tab", A_BYTES)
+        self.assertEqual(run("to_shape", "--table", table, "-", "-", given=b"lease\n")[1:], (brackets.shape((1, (1, 2, 3))), ""))
+        # what is wrong further on is said after it
+        status, _, said = run("to_shape", "-", "-", given=b"lease\n  leese\n")
+        self.assertEqual((status, said.startswith(f"standard input:1: {note.format('lease')}standard input:2: unknown label")), (1, True))
+        self.assertIn("roots alone", run("to_shape", "--help")[1].decode())
+
     def test_show_stops_at_the_row(self):
         bad = self.put("bad.tab", brackets.with_byte(A_BYTES, 48, 9))
         status, wrote, said = run("show", bad)
