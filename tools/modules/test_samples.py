@@ -62,12 +62,12 @@ class Samples(unittest.TestCase):
         for name, table, shape in samples.samples():
             text, fault = table_text.show_table(table)
             if name in ("rows_1025", "level_7"):
-                self.assertIn({"rows_1025": "1,025 rows", "level_7": "row 6 breaks a rule: its level is 7"}[name], fault)
+                self.assertIn({"rows_1025": "at most 1,024 rows", "level_7": "row 6 breaks a rule: its level is 7"}[name], fault)
             else:
                 self.assertEqual((table_text.table_from(text), fault), (table, None), name)
             text, fault = table_text.show_shape(shape)
             if name == "entries_17":
-                self.assertIn("17 entries", fault)
+                self.assertIn("at most 16 entries", fault)
             else:
                 self.assertEqual((table_text.shape_from(text), fault), (shape, None), name)
                 self.assertEqual(table_text.shape_from(text, table_text.kinds_of(table)), shape, name)

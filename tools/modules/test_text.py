@@ -1,5 +1,5 @@
 """Tests of table_text.py and of the commands to_table, to_shape and show."""
-import random, unittest
+import os, random, resource, unittest
 
 import brackets, cases, paper01, samples, table_text
 from table_text import Wrong
@@ -166,10 +166,15 @@ class Shown(unittest.TestCase):
         self.assertIsNone(fault)
         self.assertEqual(text.splitlines()[2], "    portfolio 0  # row 2, 1.1.1, entry 2, source row 0")
         self.assertEqual(text.splitlines()[1024], "  portfolio 0  # row 1024, 1.32, entry 4, source row 0")
-        self.assertIn("1,025 rows", table_text.show_table(new)[1])
+        text, fault = table_text.show_table(new)
+        self.assertEqual(text.count("\n"), 1024)
+        self.assertTrue(fault.startswith("longer than 24,576 bytes: a table has at most 1,024 rows"), fault)
 
 
 class Commands(InFolder):
+    # what reads all of a file without an end has no room for it
+    LITTLE = dict(timeout=60, preexec_fn=lambda: resource.setrlimit(resource.RLIMIT_AS, (2**30, 2**30)))
+
     def test_there_and_back(self):
         text, table, shape = self.put("a b.txt", A.encode()), self.folder / "a b.tab", self.folder / "shape.tab"
         self.assertEqual(run("to_table", text, table), (0, b"", ""))
@@ -214,6 +219,41 @@ class Commands(InFolder):
         status, _, said = run("to_shape", "-", "-", given=b"lease\n  leese\n")
         self.assertEqual((status, said.startswith(f"standard input:1: {note.format('lease')}standard input:2: unknown label")), (1, True))
         self.assertIn("roots alone", run("to_shape", "--help")[1].decode())
+
+    def test_without_end(self):
+        """Of a file that is too long, no more is read than tells so."""
+        table, huge = self.put("a.tab", A_BYTES), self.put("huge", b"")
+        os.truncate(huge, 2**33)
+        for file in ("/dev/zero", huge):
+            for words, what in (
+                    (("show", file), "longer than 24,576 bytes: a table has at most 1,024 rows"),
+                    (("show", "--shape", file), "longer than 256 bytes: a shape has at most 16 entries"),
+                    (("show", "--sources", file, table), "longer than 16,384 bytes: a source list has at most 4,096 places"),
+                    (("show", "--sources", table, file), "longer than 98,304 bytes: a new table has at most 4,096 lines"),
+                    (("to_shape", "--table", file, "-", "-"), "longer than 24,576 bytes: a table has at most 1,024 rows"),
+                    (("to_shape", file, "-"), "longer than 1,048,576 bytes: no more is read of a text"),
+                    (("to_table", file, "-"), "longer than 1,048,576 bytes: no more is read of a text")):
+                status, wrote, said = run(*words, **self.LITTLE)
+                self.assertEqual((status, wrote, said.startswith(f"{file}: {what}")), (1, b"", True), said)
+
+    def test_at_the_limits(self):
+        """The longest files are read, from standard input too, and a byte more is told; what stands before it is shown."""
+        lines = b"".join(cases.row_bytes((i + 1,), 1, bytes(8)) for i in range(4096))
+        for words, data, past in (
+                (("show",), table_text.table_from("1\n" * 1024), "longer than 24,576 bytes"),
+                (("show", "--shape"), table_text.shape_from("/1\n" + "  /1\n" * 15), "longer than 256 bytes"),
+                (("show", "--sources", self.put("list", bytes(4 * 4096))), lines, "longer than 98,304 bytes")):
+            status, shown, said = run(*words, "-", given=data)
+            self.assertEqual((status, said), (0, ""), words)
+            self.assertEqual(run(*words, "-", given=data + b"\0")[:2], (1, shown))
+            self.assertIn(past, run(*words, self.put("longer", data + b"\0"))[2])
+        text = b"1" + b"\n" * (2**20 - 1)
+        self.assertEqual(run("to_table", "-", "-", given=text)[::2], (0, ""))
+        self.assertIn("standard input: longer than 1,048,576 bytes", run("to_table", "-", "-", given=text + b"\n")[2])
+
+    def test_standard_input_once(self):
+        self.assertEqual(run("show", "--sources", "-", "-")[0], 2)
+        self.assertEqual(run("to_shape", "--table", "-", "-", "-")[0], 2)
 
     def test_show_stops_at_the_row(self):
         bad = self.put("bad.tab", brackets.with_byte(A_BYTES, 48, 9))
