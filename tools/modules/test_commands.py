@@ -1,5 +1,5 @@
 """Tests of what the commands of tools/, bench/ and examples/ need, write and leave."""
-import contextlib, io, itertools, os, pathlib, shutil, subprocess, sys, unittest.mock
+import contextlib, io, itertools, os, pathlib, re, shutil, subprocess, sys, tempfile, unittest.mock
 
 import usage
 from testing import ROOT, TOOLS, InFolder, loaded
@@ -67,6 +67,20 @@ class Bench(InFolder):
         self.assertEqual(self.page.read_text(), "as it was\n")
 
 
+class Examples(InFolder):
+    def test_without_a_toolchain(self):
+        for file in ("examples/run", "tools/modules/x86_64.sh"):
+            self.program(file, (ROOT / file).read_text())
+        (self.folder / "bin").mkdir()
+        for command in ("bash", "cat", "dirname", "mkdir", "readlink"):
+            (self.folder / "bin" / command).symlink_to(shutil.which(command))
+        self.program("bin/uname", "#!/bin/sh\necho x86_64\n")
+        for words, wanted in (((), (usage.NOT_RUN, "examples: NOT RUN: no command rt")), (["x"], (2, "")), (["--help"], (0, "usage: "))):
+            done = subprocess.run([str(self.folder / "examples/run"), *words], env={"PATH": f"{self.folder}/bin"},
+                                  stdout=subprocess.PIPE, stderr=subprocess.PIPE, text=True)
+            self.assertEqual((done.returncode, done.stdout[:len(wanted[1])]), wanted, done.stderr)
+
+
 class RustExample(InFolder):
     def git(self, *words, at=None):
         return subprocess.run(["git", *words], cwd=at or self.folder, stdout=subprocess.PIPE, check=True, text=True).stdout
@@ -94,6 +108,101 @@ class RustExample(InFolder):
         self.assertEqual((self.git("ls-files", "--others", "--exclude-standard"), self.git("diff", "--name-only")), ("", ""))
 
 
+def printed(do):
+    """What it returns or ends with, and what it prints."""
+    with contextlib.redirect_stdout(io.StringIO()) as said, contextlib.redirect_stderr(said):
+        try:
+            ended = do()
+        except SystemExit as end:
+            ended = end.code
+    return ended, said.getvalue()
+
+
+class CheckAll(InFolder):
+    def setUp(self):
+        super().setUp()
+        self.command = loaded("check_all")
+
+    def check_all(self, checks, *words):
+        """The status, and the lines without their times."""
+        self.command.ROOT = self.folder
+        self.command.CHECKS = [self.command.Check(name, command, needs, "") for name, command, needs in checks]
+        with unittest.mock.patch.object(sys, "argv", ["check_all", *words]):
+            status, said = printed(self.command.main)
+        return status, re.sub(r"[ (]*(\d+ min )?[0-9.]+ s\)?$", "", said, flags=re.M).splitlines()
+
+    def test_outcomes(self):
+        self.program("good", "#!/bin/sh\necho not shown\n")
+        self.program("bad", "#!/bin/sh\necho shown\necho too >&2\nexit 3\n")
+        self.program("left", "#!/bin/sh\necho left: NOT RUN: no wheel\nexit 3\n")
+        self.program("part", "#!/bin/sh\necho part: one: good\necho part: other: NOT RUN: no door\n")
+        self.program("wrong", "#!/bin/sh\necho wrong: other: NOT RUN: no door\nexit 1\n")
+        names = "good", "bad", "left", "part", "wrong"
+        checks = [*((name, f"./{name}", "") for name in names), ("lacking", "./good", "no-such-command"), ("gone", "./gone", "")]
+        status, lines = self.check_all(checks)
+        self.assertEqual((status, lines), (1, [
+            "good: passed", "bad: FAILED", "shown", "too", "left: NOT RUN: no wheel", "part: NOT RUN: in part: other: no door",
+            "wrong: FAILED", "wrong: other: NOT RUN: no door", "lacking: NOT RUN: no command no-such-command on the path",
+            "gone: FAILED", "./gone: No such file or directory", "check_all: 1 passed, 3 failed, 3 not run,"]))
+
+    def test_words(self):
+        self.program("good", "#!/bin/sh\n[ $# = 2 ] && [ \"$PWD\" = \"$(readlink -f .)\" ] && [ -f good ]\n")
+        checks = [(name, "./good a b", "") for name in ("one", "two", "three")]
+        status, lines = self.check_all(checks, "three", "one")
+        self.assertEqual((status, lines), (0, ["one: passed", "three: passed", "check_all: 2 passed, 0 failed, 0 not run,"]))
+        status, lines = self.check_all(checks, "one", "four")
+        self.assertEqual((status, lines[-1]), (2, "check_all: error: there is no check four"))
+
+    def test_times(self):
+        self.assertEqual([self.command.told(t) for t in (0.04, 59.4, 59.6, 192.2)], ["0.0 s", "59.4 s", "1 min 0 s", "3 min 12 s"])
+
+    def test_all_are_there(self):
+        """Every command of tools/ that tests or compares is in the list."""
+        run = {check.command.split()[0] for check in self.command.CHECKS}
+        checking = {f"tools/{path.name}" for path in COMMANDS if path.name.startswith(("check_", "compare_", "test_"))}
+        self.assertEqual(run, checking - {"tools/check_all"} | {"rt", "examples/run"})
+
+
+class CheckMade(InFolder):
+    def test_differences(self):
+        """What is made is compared, and the project stays as it is."""
+        command = loaded("check_made")
+        at_root = "#!/bin/sh\ncd \"$(dirname \"$0\")/..\"\n"
+        self.program("tools/make_other", at_root + "cp samples/made crates/cases/stdin\nrm -f crates/cases/old\n")
+        self.program("tools/make_samples", at_root + "echo made >samples/made\n")
+        for file in ("samples/made", "crates/cases/stdin", "crates/cases/old"):
+            self.put(file, "made\n")
+        (self.folder / "crates/folders").mkdir()
+        before = command.held(self.folder)
+        self.assertEqual(self.made(command, before), ["crates/cases/old would not be there"])
+        (self.folder / "crates/cases/old").unlink()
+        (self.folder / "samples/made").unlink()
+        self.put("crates/cases/stdin", "other\n")
+        before = command.held(self.folder)
+        self.assertEqual(self.made(command, before), ["crates/cases/stdin would differ", "samples/made would be new"])
+        self.assertEqual(command.held(self.folder), before)
+        self.program("tools/make_other", "#!/bin/sh\necho why\nexit 1\n")
+        self.assertEqual(printed(lambda: self.made(command, before))[0], "why\ntools/make_other ended with status 1")
+
+    def made(self, command, before):
+        with tempfile.TemporaryDirectory() as copy:
+            return list(command.differing(before, command.made(self.folder, pathlib.Path(copy))))
+
+
+class CheckDocs(InFolder):
+    def test_missing(self):
+        command = loaded("check_docs")
+        for file in ("tools/show", "crates/one/src/lib.rt", ".ci/run", "target/x", "docs/PAGE.md", "samples/p4/listing"):
+            self.put(file, "")
+        self.put("README.md", "See `tools/show --shape`, docs/PAGE.md, docs/, .ci/run and crates/*/src/.\n"
+                              "Not tools/shown, target/y, x/tools/z or ../docs/z.\n")
+        self.put("docs/OTHER.md", "crates/*/lib, crates/one/src/lib.rt.\n\n`samples/p5/`: (samples/p4)\n")
+        found = list(command.paths(self.folder))
+        self.assertEqual(len(found), 10)
+        self.assertEqual([(str(page), line, path) for page, line, path in command.missing(self.folder, found)],
+                         [("README.md", 2, "tools/shown"), ("docs/OTHER.md", 1, "crates/*/lib"), ("docs/OTHER.md", 3, "samples/p5/")])
+
+
 class Archive(InFolder):
     """compare_archive builds the library with a toolchain that is made up here."""
 
@@ -110,28 +219,19 @@ class Archive(InFolder):
     def rt(self, text):
         self.program("bin/rt", f"#!/bin/sh\n[ \"$*\" = 'staticlib silmezga_c' ] && [ -f crates.txt ] || exit 2\n{text}\n")
 
-    def build(self):
-        """The status or the last words, and what was said."""
-        with contextlib.redirect_stdout(io.StringIO()) as said, contextlib.redirect_stderr(said):
-            try:
-                self.command.build()
-            except SystemExit as end:
-                return end.code, said.getvalue()
-        return 0, said.getvalue()
-
     def test_built_where_it_must(self):
         self.put("target/staticlib/other", "")
         self.rt(f"echo made >{self.command.LIBRARY}")
         self.assertTrue(self.command.needs_building())
-        self.assertEqual(self.build(), (0, "building target/staticlib/libsilmezga_c.a: rt staticlib silmezga_c\n"))
+        self.assertEqual(printed(self.command.build), (None, "building target/staticlib/libsilmezga_c.a: rt staticlib silmezga_c\n"))
         self.assertFalse(self.command.needs_building())
         later = (self.folder / self.command.LIBRARY).stat().st_mtime + 5
         os.utime(self.code, (later, later))
         self.assertTrue(self.command.needs_building())
 
     def test_not_built(self):
-        status, said = self.build()
+        status, said = printed(self.command.build)
         self.assertEqual(status, usage.NOT_RUN)
         self.assertIn("NOT RUN: target/staticlib/libsilmezga_c.a is not there or is older than the code, and there is no command rt", said)
         self.rt("echo wrong; exit 1")
-        self.assertIn("wrong\nthe library is not built", self.build()[0])
+        self.assertIn("wrong\nthe library is not built", printed(self.command.build)[0])
