@@ -1,9 +1,9 @@
 """Tests of the folders of samples/ and of their listings."""
-import unittest
+import re, unittest
 
 import paper01, samples, table_text
 from test_text import A_BYTES
-from testing import loaded
+from testing import ROOT, loaded
 
 
 class Samples(unittest.TestCase):
@@ -15,6 +15,7 @@ class Samples(unittest.TestCase):
         "rows_1024": ("verdict 0", 1024), "rows_1025": ("refused 1 0", 0), "level_6": ("verdict 0", 6), "level_7": ("refused 3 6", 0),
         "types_64": ("verdict 0", 2), "types_65": ("refused 4 64", 0), "entries_16": ("verdict 0", 48), "entries_17": ("refused 5 0", 0),
         "lines_1024": ("verdict 2 1 3", 1024), "lines_1025": ("refused 8 0", 0),
+        "labels_22a": ("verdict 0", 23), "labels_22b": ("verdict 0", 19),
     }
     P4 = """verdict 0
 1 0 lease 2 200
@@ -76,6 +77,29 @@ class Samples(unittest.TestCase):
         for name, source, shape in loaded("make_samples").texts():
             self.assertEqual((samples.FOLDER / name / "source.txt").read_text(), source, name)
             self.assertEqual((samples.FOLDER / name / "shape.txt").read_text(), shape, name)
+
+    def test_labels(self):
+        """Both folders have one table, and all labels and the values at both ends stand in their listings."""
+        tables = [(samples.FOLDER / name / "source.tab").read_bytes() for name in ("labels_22a", "labels_22b")]
+        self.assertEqual(*tables)
+        lines = [line.split() for name in ("labels_22a", "labels_22b") for line in self.listed(name).splitlines()[1:]]
+        self.assertEqual({label for _, _, label, _, _ in lines}, {*table_text.NAMES, "21", "999"})
+        self.assertLess({str(-2**63), "-500", "-1", str(2**63 - 1)}, {value for *_, value in lines})
+
+    def test_folders(self):
+        """The program folders is run on every folder, by tables and shapes of its own, and must write what stands in the folders."""
+        home = ROOT / "crates/folders"
+        names = sorted(folder.name for folder in samples.folders())
+        self.assertEqual((home / "args").read_text().splitlines(), names)
+        files = {f"{name}/{file}" for name in names for file in ("source.tab", "shape.tab")}
+        self.assertEqual({str(path.relative_to(home / "data")) for path in (home / "data").rglob("*") if not path.is_dir()}, files)
+        for file in files:
+            self.assertFalse((home / "data" / file).is_symlink())
+            self.assertEqual((home / "data" / file).read_bytes(), (samples.FOLDER / file).read_bytes(), file)
+        parts = re.split(r"(?m)^== (\w+)\n", (home / "stdout").read_text())
+        self.assertEqual(parts[:2] + parts[3::2], ["", *names])
+        for name, text in zip(parts[1::2], parts[2::2]):
+            self.assertTrue(text.startswith(self.listed(name)), name)
 
     def test_fans(self):
         """The tape kept by asset is the new table of the tape kept by lessee."""
