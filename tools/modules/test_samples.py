@@ -98,11 +98,125 @@ class Samples(unittest.TestCase):
             self.assertEqual((home / "data" / file).read_bytes(), (samples.FOLDER / file).read_bytes(), file)
         parts = re.split(r"(?m)^== (\w+)\n", (home / "stdout").read_text())
         self.assertEqual(parts[:2] + parts[3::2], ["", *names])
+        both = {name: (table, shape) for name, table, shape in samples.samples()}
         for name, text in zip(parts[1::2], parts[2::2]):
-            self.assertTrue(text.startswith(self.listed(name)), name)
+            table, shape = both[name]
+            texts = re.split("(?m)^-- (?:summary|types)\n", text)
+            self.assertEqual(texts, [self.listed(name), samples.summary(table, shape), samples.types(table)], name)
 
     def test_fans(self):
         """The tape kept by asset is the new table of the tape kept by lessee."""
         both = {name: (table, shape) for name, table, shape in samples.samples()}
         (number, _, lines), new, _ = paper01.reshape(*both["fans_by_lessee"], bytes(24 * 1024), [0] * 1024)
         self.assertEqual((number, new[:24 * lines]), (0, both["fans_by_asset"][0]))
+
+
+class Texts(unittest.TestCase):
+    """Summary and types against what is worked out by hand."""
+    A_TYPES = """\
+portfolio 1 row
+  lessee 2 rows, 2..2 under a portfolio
+    lease 3 rows, 1..2 under a lessee
+      asset 3 rows, 0..2 under a lease
+"""
+    LABELS_TYPES = """\
+portfolio 1 row
+  vendor 1 row, 1..1 under a portfolio
+    contact 1 row, 1..1 under a vendor
+  lessee 1 row, 1..1 under a portfolio
+    guarantor 1 row, 1..1 under a lessee
+    lease 2 rows, 2..2 under a lessee
+      deposit 1 row, 0..1 under a lease
+      schedule 1 row, 0..1 under a lease
+        payment 2 rows, 2..2 under a schedule
+      invoice 1 row, 0..1 under a lease
+        tax 1 row, 1..1 under an invoice
+        currency 1 row, 1..1 under an invoice
+      document 2 rows, 1..1 under a lease
+      21 1 row, 0..1 under a lease
+        999 1 row, 1..1 under a 21
+      asset 3 rows, 1..2 under a lease
+        meter 2 rows, 0..1 under an asset
+          reading 3 rows, 1..2 under a meter
+        insurance 1 row, 0..1 under an asset
+        service 1 row, 0..1 under an asset
+        residual 1 row, 0..1 under an asset
+        site 2 rows, 0..1 under an asset
+"""
+    TYPES = {"p2": A_TYPES, "p4": A_TYPES, "labels_22a": LABELS_TYPES, "labels_22b": LABELS_TYPES, "p1": "",
+             "p10": "lessee 1 row\nlease 1 row\n", "rows_1025": "refused 1 0\n", "level_7": "refused 3 6\n", "types_65": "refused 4 64\n"}
+    SUMMARIES = {
+        "p2": """\
+0 portfolio: 1 line, 1 row, 0 copies
+  1 lessee: 2 lines, 2 rows, 0 copies
+    2 lease: 3 lines, 3 rows, 0 copies
+      3 asset: 3 lines, 3 rows, 0 copies
+""",
+        "p4": """\
+0 lease: 3 lines, 3 rows, 0 copies
+  1 lessee: 3 lines, 2 rows, 1 copy
+  2 asset: 3 lines, 3 rows, 0 copies
+""",
+        "labels_22a": """\
+0 lease: 2 lines, 2 rows, 0 copies
+  1 lessee: 2 lines, 1 row, 1 copy
+    2 guarantor: 2 lines, 1 row, 1 copy
+    3 portfolio: 2 lines, 1 row, 1 copy
+      4 vendor: 2 lines, 1 row, 1 copy
+        5 contact: 2 lines, 1 row, 1 copy
+  6 deposit: 1 line, 1 row, 0 copies
+  7 schedule: 1 line, 1 row, 0 copies
+    8 payment: 2 lines, 2 rows, 0 copies
+  9 invoice: 1 line, 1 row, 0 copies
+    10 tax: 1 line, 1 row, 0 copies
+    11 currency: 1 line, 1 row, 0 copies
+  12 document: 2 lines, 2 rows, 0 copies
+  13 21: 1 line, 1 row, 0 copies
+    14 999: 1 line, 1 row, 0 copies
+""",
+        "labels_22b": """\
+0 asset: 3 lines, 3 rows, 0 copies
+  1 meter: 2 lines, 2 rows, 0 copies
+    2 reading: 3 lines, 3 rows, 0 copies
+  3 insurance: 1 line, 1 row, 0 copies
+  4 service: 1 line, 1 row, 0 copies
+  5 residual: 1 line, 1 row, 0 copies
+  6 site: 2 lines, 2 rows, 0 copies
+  7 lease: 3 lines, 2 rows, 1 copy
+    8 lessee: 3 lines, 1 row, 2 copies
+""",
+        # more lines than the program's room, and fewer than a summary's
+        "lines_1025": """\
+0 portfolio: 1 line, 1 row, 0 copies
+  1 lessee: 31 lines, 31 rows, 0 copies
+    2 portfolio: 31 lines, 1 row, 30 copies
+      3 lessee: 961 lines, 31 rows, 930 copies
+  4 portfolio: 1 line, 1 row, 0 copies
+""",
+        "p10": "0 lessee: 1 line, 1 row, 0 copies\n  1 lease: 0 lines, 1 row, 0 copies\n",
+        "p1": "refused 7 0\n", "rows_1025": "refused 1 0\n", "types_65": "refused 4 64\n", "entries_17": "refused 5 0\n",
+    }
+
+    def test_by_hand(self):
+        both = {name: (table, shape) for name, table, shape in samples.samples()}
+        for name, text in self.SUMMARIES.items():
+            self.assertEqual(samples.summary(*both[name]), text, name)
+        for name, text in self.TYPES.items():
+            self.assertEqual(samples.types(both[name][0]), text, name)
+
+    def test_types_stand_beneath_theirs(self):
+        """A type whose first row comes after other roots stands beneath its own."""
+        table = table_text.table_from("asset\n  lease\n999\n  7\nasset\n  lessee\n  lessee\n")
+        self.assertEqual(samples.types(table), "asset 2 rows\n  lease 1 row, 0..1 under an asset\n  lessee 2 rows, 0..2 under an asset\n"
+                                               "999 1 row\n  guarantor 1 row, 1..1 under a 999\n")
+
+    def test_every_label_above(self):
+        for label in [*table_text.NAMES, "21", "80"]:
+            said = samples.types(table_text.table_from(f"{label}\n  1\n")).split(" under ")[1]
+            article = "an" if label in ("asset", "invoice", "insurance") else "a"
+            self.assertEqual(said, f"{article} {label}\n")
+
+    def test_too_many_lines(self):
+        table = table_text.table_from("portfolio\n" + "  lessee\n" * 65)
+        shape = table_text.shape_from("lessee\n  portfolio\n    lessee\n", table_text.kinds_of(table))
+        self.assertEqual(samples.summary(table, shape), "refused 8 0\n")
