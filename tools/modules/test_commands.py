@@ -96,7 +96,7 @@ class RustExample(InFolder):
         """A build by hand leaves nothing beside what is committed that git does not pass over, and changes nothing."""
         for command in ("cargo", "git"):
             if not shutil.which(command):
-                print(f"test_tools: NOT RUN: the Rust example by hand: no command {command}", file=sys.stderr)
+                print(f"\ntest_tools: NOT RUN: the Rust example by hand: no command {command}", file=sys.stderr)
                 self.skipTest(f"no {command}")
         for file in (".gitignore", *self.git("ls-files", "examples/rust", at=ROOT).split()):
             self.put(file, (ROOT / file).read_bytes())
