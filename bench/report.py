@@ -1,4 +1,4 @@
-"""Turns the figures of bench/driver.c into tables: report.py FIGURES MACHINE COMPILER PAGE. Prints them, and writes PAGE."""
+"""Turns the figures of bench/driver.c into tables: report.py FIGURES MACHINE COMPILER [PAGE]. Prints them, and writes PAGE if named."""
 import sys
 
 CALLS = "examine", "judge", "reshape", "summarise"
@@ -18,7 +18,7 @@ MOST_GROWTH = 9.0
 
 ABOUT = """# Bench
 
-Written by `bench/run`; the figures are from its last run, on the machine beside them. Each is the processor time of one call: the median
+Written by `bench/run --write`; the figures are of one run, on the machine beside them. Each is the processor time of one call: the median
 of 11 rounds, in each of which every call is measured on every tape by a batch of about 2 ms or more. All are compiled for x86-64 at -O3,
 Silmezga by the kit, the others by {compiler}. Before a tape is measured, every answer and every lent byte and
 place of the three are held to each other; the run stops if any differs.
@@ -141,7 +141,7 @@ def section(title, rows):
 
 
 def main():
-    path, machine, compiler, page = sys.argv[1:]
+    path, machine, compiler, *page = sys.argv[1:]
     figures = read(path)
     ratios, growths = ratio_bars(figures, machine), growth_bars(figures, machine)
     parts = section("Bars: ratios at 1,024 rows", table(["tape", "call", "at most", "to former", "", "to plain", "", "machine"], ratios))
@@ -152,8 +152,9 @@ def main():
     parts += section("The other sizes", beside(figures, machine, [(tape, n) for tape in TAPES for n in (128, 256, 512)]))
     text = "\n".join(parts)
     print(text)
-    with open(page, "w") as out:
-        out.write(ABOUT.format(compiler=compiler, many=MANY_LINES, passed=passed(ratios, growths)) + "\n" + text + GOES)
+    if page:
+        with open(page[0], "w") as out:
+            out.write(ABOUT.format(compiler=compiler, many=MANY_LINES, passed=passed(ratios, growths)) + "\n" + text + GOES)
 
 
 main()

@@ -1,4 +1,6 @@
 //! Shows what the six calls say of the files source.tab and shape.tab in a folder: show FOLDER
+//!
+//! By hand, in examples/rust: SILMEZGA_LIB=$PWD/../../target/staticlib cargo run --example show -- ../../samples/p4
 use silmezga::{Refusal, TypeSummary, Verdict};
 use std::{env, fs, path::Path, process};
 

@@ -4,7 +4,7 @@ A row is a label and a value (0 where none is said), `lease 200`. An entry is a 
 or one tab; what follows a # is passed over, and so is a line that says nothing. Dewey numbers come from the position. Records are
 written by cases.py; limits are those of paper01.py.
 """
-import re, sys
+import re, sys, typing
 
 import cases, paper01
 from paper01 import MOST_ENTRIES, MOST_LINES, MOST_ROWS, u16
@@ -14,6 +14,19 @@ NAMES = ("portfolio lessee lease asset payment meter guarantor invoice site insu
 LEVELS, LABELS = 6, 999
 ROW, ENTRY, PLACE = 24, 16, 4
 LEAST_VALUE, GREATEST_VALUE = -2**63, 2**63 - 1
+
+
+class Most(typing.NamedTuple):
+    """The most bytes of a file, and why it has no more."""
+    size: int
+    why: str
+
+
+A_TABLE = Most(ROW * MOST_ROWS, f"a table has at most {MOST_ROWS:,} rows (a new one, with its source list, {MOST_LINES:,})")
+A_SHAPE = Most(ENTRY * MOST_ENTRIES, f"a shape has at most {MOST_ENTRIES} entries")
+A_NEW_TABLE = Most(ROW * MOST_LINES, f"a new table has at most {MOST_LINES:,} lines")
+A_SOURCE_LIST = Most(PLACE * MOST_LINES, f"a source list has at most {MOST_LINES:,} places")
+A_TEXT = Most(2**20, "no more is read of a text")
 
 
 class Wrong(Exception):
@@ -115,8 +128,9 @@ def table_from(text):
     return b"".join(rows)
 
 
-def shape_from(text, kinds=None):
-    """The bytes of a shape. Where the types of a table are given, a type may be named by its last label alone."""
+def shape_from(text, kinds=None, plain=lambda line, label: None):
+    """The bytes of a shape. Where the types of a table are given, a type may be named by its last label alone; otherwise `plain` is told
+    of each label without a slash, which is then a type of one label."""
     entries = []
     for line, level, words in items(text):
         if len(entries) == MOST_ENTRIES:
@@ -126,6 +140,8 @@ def shape_from(text, kinds=None):
         if len(words) > 1:
             raise Wrong(line, f'an entry is a type, and "{words[1]}" is one word too many')
         entries.append(cases.entry_bytes(level, read_type(line, words[0], kinds)))
+        if kinds is None and "/" not in words[0]:
+            plain(line, words[0])
     if not entries:
         raise Wrong(0, f"no entry: a shape has 1 to {MOST_ENTRIES}")
     return b"".join(entries)
@@ -181,6 +197,11 @@ def entry_fault(record, before):
     return None
 
 
+def too_long(data, most):
+    """What is wrong with a file that is longer than the most that it may have."""
+    return f"longer than {most.size:,} bytes: {most.why}" if len(data) > most.size else None
+
+
 def cut_off(data, width, what):
     """What is wrong with a length that is no whole number of records."""
     return f"the last {len(data) % width} bytes are no whole {what} of {width} bytes" if len(data) % width else None
@@ -224,41 +245,41 @@ def item(level, said, remarks):
 
 def show_table(data, numbers=False, sources=None):
     """A table as text, and what is wrong with it. With a source list it is a new table, and each line says its entry and source row."""
-    rows, fault = rows_of(data)
-    most = MOST_ROWS if sources is None else MOST_LINES
+    most = A_TABLE if sources is None else A_NEW_TABLE
+    rows, fault = rows_of(data[:most.size])
     marks = [int.from_bytes(sources[PLACE * i:PLACE * (i + 1)], "little") for i in range(len(sources) // PLACE)] if sources else []
     lines = []
     for i, (dewey, label, value) in enumerate(rows):
         remarks = [f"row {i}", dotted(dewey)] if numbers else []
         remarks += [f"entry {marks[i] >> 16}", f"source row {marks[i] & 65535}"] if i < len(marks) else []
         lines.append(item(len(dewey), f"{name(label)} {value}", remarks))
-    if not fault and len(rows) > most:
-        fault = f"{len(rows):,} rows, and {most:,} is the most"
     if not fault and sources is not None and len(sources) != PLACE * len(rows):
         fault = f"a source list of {len(sources)} bytes for {len(rows)} lines: {PLACE} bytes a line are {PLACE * len(rows)}"
-    return "".join(lines), fault
+    return "".join(lines), too_long(data, most) or fault
 
 
 def show_shape(data, numbers=False):
     """A shape as text, and what is wrong with it."""
-    entries, fault = entries_of(data)
+    entries, fault = entries_of(data[:A_SHAPE.size])
     if not data:
         fault = f"no entry: a shape has 1 to {MOST_ENTRIES}"
-    if not fault and len(entries) > MOST_ENTRIES:
-        fault = f"{len(entries)} entries, and {MOST_ENTRIES} is the most"
-    return "".join(item(level, path(kind), [f"entry {i}"] if numbers else []) for i, (level, kind) in enumerate(entries)), fault
+    lines = [item(level, path(kind), [f"entry {i}"] if numbers else []) for i, (level, kind) in enumerate(entries)]
+    return "".join(lines), too_long(data, A_SHAPE) or fault
 
 
 # ---- files, for the commands; "-" is standard input or output
-def read_bytes(file):
+def read_bytes(file, most):
+    """At most one byte more than the most that the file may have, so that what has no end is not read to it."""
     if file == "-":
-        return sys.stdin.buffer.read()
+        return sys.stdin.buffer.read(most.size + 1)
     with open(file, "rb") as f:
-        return f.read()
+        return f.read(most.size + 1)
 
 
 def read_text(file):
-    data = read_bytes(file)
+    data = read_bytes(file, A_TEXT)
+    if too_long(data, A_TEXT):
+        raise Wrong(0, too_long(data, A_TEXT))
     try:
         return data.decode("utf-8-sig")
     except UnicodeDecodeError as e:
@@ -273,9 +294,14 @@ def write_bytes(file, data):
         f.write(data)
 
 
+def place(file, line=0):
+    """A file, and the line in it where there is one, before what is said of it."""
+    return f"{'standard input' if file == '-' else file}:{f'{line}:' if line else ''}"
+
+
 def stop(file, what, line=0):
-    """Ends the command with one plain line that names the file, and the line where there is one."""
-    sys.exit(f"{'standard input' if file == '-' else file}:{f'{line}:' if line else ''} {what}")
+    """Ends the command with one plain line that names the file."""
+    sys.exit(f"{place(file, line)} {what}")
 
 
 def convert(text_file, data_file, make):

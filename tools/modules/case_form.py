@@ -1,4 +1,4 @@
-"""A case of the program cases: what it holds, how it is written, and the line that it must give by tools/paper01.py.
+"""A case of the program cases: what it holds, how it is written, and the line that it must give by paper01.py.
 
 crates/cases/src/main.rt says what the bytes and the line are.
 """

@@ -24,6 +24,9 @@ VALUES = range(0, 1000, 100)
 
 P8_TABLE = "1[2[3] 2[4]]"
 
+# these folders are about the names of labels, which no call gives
+OF_NAMES = "labels_22a", "labels_22b"
+
 
 def expect(what, hand, said):
     if hand != said:
@@ -86,8 +89,8 @@ def meeting_at_1():
 
 def sample_files():
     """The tables and shapes of samples/, with the program's room and with 4,096 lines."""
-    for _, table, shape in folders.samples():
-        for room in (folders.ROOM, paper01.MOST_LINES):
+    for name, table, shape in folders.samples():
+        for room in (folders.ROOM, paper01.MOST_LINES) if name not in OF_NAMES else ():
             yield Case(table, shape, room=(room, 0, room))
 
 

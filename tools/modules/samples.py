@@ -1,0 +1,68 @@
+"""The folders of samples/, and the texts of the program by paper01.py: listing, summary and types."""
+import pathlib
+
+import paper01, table_text
+
+FOLDER = pathlib.Path(__file__).resolve().parents[2] / "samples"
+# what the program reads of each file at most, and its room for lines
+MOST_TABLE, MOST_SHAPE, ROOM = 24577, 257, 1024
+
+
+def folders():
+    return sorted(path.parent for path in FOLDER.glob("*/listing"))
+
+
+def samples():
+    """(name, table, shape) of each folder."""
+    for folder in folders():
+        yield folder.name, (folder / "source.tab").read_bytes(), (folder / "shape.tab").read_bytes()
+
+
+def listing(table, shape):
+    """What the program prints."""
+    table, shape = table[:MOST_TABLE], shape[:MOST_SHAPE]
+    (number, place, _), _, _ = paper01.reshape(table, shape, bytes(table_text.ROW * ROOM), [0] * ROOM)
+    if number:
+        return f"refused {number} {place}\n"
+    work = paper01.Work(table, shape)
+    lines = [" ".join(map(str, ("verdict", *work.verdict())))]
+    for entry, row, dewey in work.lines(ROOM):
+        value = int.from_bytes(work.rows[row].value, "little", signed=True)
+        lines.append(f"{table_text.dotted(dewey)} {entry} {table_text.name(work.entries[entry].type[-1])} {row} {value}")
+    return "\n".join(lines) + "\n"
+
+
+def counted(number, one, several):
+    return f"{number} {one if number == 1 else several}"
+
+
+def summary(table, shape):
+    """A line for each entry, indented by its level: its number and label, lines, source rows and copies."""
+    number, place, figures = paper01.summarise(table, shape)
+    if number:
+        return f"refused {number} {place}\n"
+    text = ""
+    for at, (entry, lines, rows, copies) in enumerate(zip(paper01.read_shape(shape), *figures)):
+        said = counted(lines, "line", "lines"), counted(rows, "row", "rows"), counted(copies, "copy", "copies")
+        text += f"{'  ' * (entry.level - 1)}{at} {table_text.name(entry.type[-1])}: {', '.join(said)}\n"
+    return text
+
+
+def types(table):
+    """A line for each type, indented by its level and with the types beneath it behind: its label and rows, and how many of them a row of
+    the type above has at least and at most."""
+    (number, place, count), found = paper01.adorn(table, [None] * paper01.MOST_TYPES)
+    if number:
+        return f"refused {number} {place}\n"
+
+    def beneath(parent):
+        return "".join(line(*found[k]) + beneath(k) for k in range(count) if found[k][0] == parent)
+
+    def line(parent, label, level, rows, least, greatest):
+        said = f"{'  ' * (level - 1)}{table_text.name(label)} {counted(rows, 'row', 'rows')}"
+        if level > 1:
+            above = table_text.name(found[parent][1])
+            said += f", {least}..{greatest} under {'an' if above[0] in 'aeiou' else 'a'} {above}"
+        return said + "\n"
+
+    return beneath(paper01.MOST_TYPES)

@@ -1,0 +1,222 @@
+"""Tests of the folders of samples/ and of their listings."""
+import re, unittest
+
+import paper01, samples, table_text
+from test_text import A_BYTES
+from testing import ROOT, loaded
+
+
+class Samples(unittest.TestCase):
+    # document 01: the first line, and the number of lines
+    BY_HAND = {
+        "p1": ("refused 7 0", 0), "p2": ("verdict 0", 9), "p3": ("verdict 0", 5), "p4": ("verdict 0", 9),
+        "p5": ("verdict 1 1 8", 9), "p6": ("verdict 2 1 2", 6), "p7": ("verdict 3 0 2", 4), "p8": ("verdict 0", 2),
+        "p9a": ("verdict 0", 6), "p9b": ("verdict 2 1 2", 7), "p10": ("verdict 1 1 1", 1),
+        "rows_1024": ("verdict 0", 1024), "rows_1025": ("refused 1 0", 0), "level_6": ("verdict 0", 6), "level_7": ("refused 3 6", 0),
+        "types_64": ("verdict 0", 2), "types_65": ("refused 4 64", 0), "entries_16": ("verdict 0", 48), "entries_17": ("refused 5 0", 0),
+        "lines_1024": ("verdict 2 1 3", 1024), "lines_1025": ("refused 8 0", 0),
+        "labels_22a": ("verdict 0", 23), "labels_22b": ("verdict 0", 19),
+    }
+    P4 = """verdict 0
+1 0 lease 2 200
+1.1 1 lessee 1 100
+1.2 2 asset 3 300
+1.3 2 asset 4 400
+2 0 lease 5 500
+2.1 1 lessee 1 100
+2.2 2 asset 6 600
+3 0 lease 8 800
+3.1 1 lessee 7 700
+"""
+
+    def listed(self, name):
+        return (samples.FOLDER / name / "listing").read_text()
+
+    def test_by_hand(self):
+        for name, (first, lines) in self.BY_HAND.items():
+            self.assertEqual((self.listed(name).split("\n")[0], self.listed(name).count("\n") - 1), (first, lines), name)
+        self.assertEqual(self.listed("p4"), self.P4)
+        for name, verdict in (("fans_by_lessee", 0), ("fans_by_asset", 0), ("fans_lost", 1), ("fans_made_up", 2), ("fans_missing", 3)):
+            self.assertTrue(self.listed(name).startswith(f"verdict {verdict}"), name)
+
+    def test_table_a(self):
+        self.assertEqual((samples.FOLDER / "p2/source.tab").read_bytes(), A_BYTES)
+        _, found = paper01.adorn(A_BYTES, [None] * 4)
+        self.assertEqual([s[4:] for s in found[1:]], [(2, 2), (1, 2), (0, 2)])
+
+    def test_whole(self):
+        """Bytes and listings are those that the texts and paper01.py give, and every folder is in the README."""
+        told = (samples.FOLDER / "README.md").read_text()
+        found = list(samples.samples())
+        self.assertEqual({p.name for p in samples.FOLDER.iterdir() if p.is_dir()}, {name for name, _, _ in found})
+        for name, table, shape in found:
+            folder = samples.FOLDER / name
+            self.assertEqual(samples.listing(table, shape), self.listed(name), name)
+            if (folder / "source.txt").exists():
+                self.assertEqual(table_text.table_from((folder / "source.txt").read_text()), table, name)
+            if (folder / "shape.txt").exists():
+                kinds = table_text.kinds_of(table)
+                self.assertEqual(table_text.shape_from((folder / "shape.txt").read_text(), kinds), shape, name)
+            self.assertRegex(told, rf"\b{name}\b")
+
+    def test_round_trips(self):
+        for name, table, shape in samples.samples():
+            text, fault = table_text.show_table(table)
+            if name in ("rows_1025", "level_7"):
+                self.assertIn({"rows_1025": "at most 1,024 rows", "level_7": "row 6 breaks a rule: its level is 7"}[name], fault)
+            else:
+                self.assertEqual((table_text.table_from(text), fault), (table, None), name)
+            text, fault = table_text.show_shape(shape)
+            if name == "entries_17":
+                self.assertIn("at most 16 entries", fault)
+            else:
+                self.assertEqual((table_text.shape_from(text), fault), (shape, None), name)
+                self.assertEqual(table_text.shape_from(text, table_text.kinds_of(table)), shape, name)
+
+    def test_texts_are_as_made(self):
+        for name, source, shape in loaded("make_samples").texts():
+            self.assertEqual((samples.FOLDER / name / "source.txt").read_text(), source, name)
+            self.assertEqual((samples.FOLDER / name / "shape.txt").read_text(), shape, name)
+
+    def test_labels(self):
+        """Both folders have one table, and all labels and the values at both ends stand in their listings."""
+        tables = [(samples.FOLDER / name / "source.tab").read_bytes() for name in ("labels_22a", "labels_22b")]
+        self.assertEqual(*tables)
+        lines = [line.split() for name in ("labels_22a", "labels_22b") for line in self.listed(name).splitlines()[1:]]
+        self.assertEqual({label for _, _, label, _, _ in lines}, {*table_text.NAMES, "21", "999"})
+        self.assertLess({str(-2**63), "-500", "-1", str(2**63 - 1)}, {value for *_, value in lines})
+
+    def test_folders(self):
+        """The program folders is run on every folder, by tables and shapes of its own, and must write what stands in the folders."""
+        home = ROOT / "crates/folders"
+        names = sorted(folder.name for folder in samples.folders())
+        self.assertEqual((home / "args").read_text().splitlines(), names)
+        files = {f"{name}/{file}" for name in names for file in ("source.tab", "shape.tab")}
+        self.assertEqual({str(path.relative_to(home / "data")) for path in (home / "data").rglob("*") if not path.is_dir()}, files)
+        for file in files:
+            self.assertFalse((home / "data" / file).is_symlink())
+            self.assertEqual((home / "data" / file).read_bytes(), (samples.FOLDER / file).read_bytes(), file)
+        parts = re.split(r"(?m)^== (\w+)\n", (home / "stdout").read_text())
+        self.assertEqual(parts[:2] + parts[3::2], ["", *names])
+        both = {name: (table, shape) for name, table, shape in samples.samples()}
+        for name, text in zip(parts[1::2], parts[2::2]):
+            table, shape = both[name]
+            texts = re.split("(?m)^-- (?:summary|types)\n", text)
+            self.assertEqual(texts, [self.listed(name), samples.summary(table, shape), samples.types(table)], name)
+
+    def test_fans(self):
+        """The tape kept by asset is the new table of the tape kept by lessee."""
+        both = {name: (table, shape) for name, table, shape in samples.samples()}
+        (number, _, lines), new, _ = paper01.reshape(*both["fans_by_lessee"], bytes(24 * 1024), [0] * 1024)
+        self.assertEqual((number, new[:24 * lines]), (0, both["fans_by_asset"][0]))
+
+
+class Texts(unittest.TestCase):
+    """Summary and types against what is worked out by hand."""
+    A_TYPES = """\
+portfolio 1 row
+  lessee 2 rows, 2..2 under a portfolio
+    lease 3 rows, 1..2 under a lessee
+      asset 3 rows, 0..2 under a lease
+"""
+    LABELS_TYPES = """\
+portfolio 1 row
+  vendor 1 row, 1..1 under a portfolio
+    contact 1 row, 1..1 under a vendor
+  lessee 1 row, 1..1 under a portfolio
+    guarantor 1 row, 1..1 under a lessee
+    lease 2 rows, 2..2 under a lessee
+      deposit 1 row, 0..1 under a lease
+      schedule 1 row, 0..1 under a lease
+        payment 2 rows, 2..2 under a schedule
+      invoice 1 row, 0..1 under a lease
+        tax 1 row, 1..1 under an invoice
+        currency 1 row, 1..1 under an invoice
+      document 2 rows, 1..1 under a lease
+      21 1 row, 0..1 under a lease
+        999 1 row, 1..1 under a 21
+      asset 3 rows, 1..2 under a lease
+        meter 2 rows, 0..1 under an asset
+          reading 3 rows, 1..2 under a meter
+        insurance 1 row, 0..1 under an asset
+        service 1 row, 0..1 under an asset
+        residual 1 row, 0..1 under an asset
+        site 2 rows, 0..1 under an asset
+"""
+    TYPES = {"p2": A_TYPES, "p4": A_TYPES, "labels_22a": LABELS_TYPES, "labels_22b": LABELS_TYPES, "p1": "",
+             "p10": "lessee 1 row\nlease 1 row\n", "rows_1025": "refused 1 0\n", "level_7": "refused 3 6\n", "types_65": "refused 4 64\n"}
+    SUMMARIES = {
+        "p2": """\
+0 portfolio: 1 line, 1 row, 0 copies
+  1 lessee: 2 lines, 2 rows, 0 copies
+    2 lease: 3 lines, 3 rows, 0 copies
+      3 asset: 3 lines, 3 rows, 0 copies
+""",
+        "p4": """\
+0 lease: 3 lines, 3 rows, 0 copies
+  1 lessee: 3 lines, 2 rows, 1 copy
+  2 asset: 3 lines, 3 rows, 0 copies
+""",
+        "labels_22a": """\
+0 lease: 2 lines, 2 rows, 0 copies
+  1 lessee: 2 lines, 1 row, 1 copy
+    2 guarantor: 2 lines, 1 row, 1 copy
+    3 portfolio: 2 lines, 1 row, 1 copy
+      4 vendor: 2 lines, 1 row, 1 copy
+        5 contact: 2 lines, 1 row, 1 copy
+  6 deposit: 1 line, 1 row, 0 copies
+  7 schedule: 1 line, 1 row, 0 copies
+    8 payment: 2 lines, 2 rows, 0 copies
+  9 invoice: 1 line, 1 row, 0 copies
+    10 tax: 1 line, 1 row, 0 copies
+    11 currency: 1 line, 1 row, 0 copies
+  12 document: 2 lines, 2 rows, 0 copies
+  13 21: 1 line, 1 row, 0 copies
+    14 999: 1 line, 1 row, 0 copies
+""",
+        "labels_22b": """\
+0 asset: 3 lines, 3 rows, 0 copies
+  1 meter: 2 lines, 2 rows, 0 copies
+    2 reading: 3 lines, 3 rows, 0 copies
+  3 insurance: 1 line, 1 row, 0 copies
+  4 service: 1 line, 1 row, 0 copies
+  5 residual: 1 line, 1 row, 0 copies
+  6 site: 2 lines, 2 rows, 0 copies
+  7 lease: 3 lines, 2 rows, 1 copy
+    8 lessee: 3 lines, 1 row, 2 copies
+""",
+        # more lines than the program's room, and fewer than a summary's
+        "lines_1025": """\
+0 portfolio: 1 line, 1 row, 0 copies
+  1 lessee: 31 lines, 31 rows, 0 copies
+    2 portfolio: 31 lines, 1 row, 30 copies
+      3 lessee: 961 lines, 31 rows, 930 copies
+  4 portfolio: 1 line, 1 row, 0 copies
+""",
+        "p10": "0 lessee: 1 line, 1 row, 0 copies\n  1 lease: 0 lines, 1 row, 0 copies\n",
+        "p1": "refused 7 0\n", "rows_1025": "refused 1 0\n", "types_65": "refused 4 64\n", "entries_17": "refused 5 0\n",
+    }
+
+    def test_by_hand(self):
+        both = {name: (table, shape) for name, table, shape in samples.samples()}
+        for name, text in self.SUMMARIES.items():
+            self.assertEqual(samples.summary(*both[name]), text, name)
+        for name, text in self.TYPES.items():
+            self.assertEqual(samples.types(both[name][0]), text, name)
+
+    def test_types_stand_beneath_theirs(self):
+        """A type whose first row comes after other roots stands beneath its own."""
+        table = table_text.table_from("asset\n  lease\n999\n  7\nasset\n  lessee\n  lessee\n")
+        self.assertEqual(samples.types(table), "asset 2 rows\n  lease 1 row, 0..1 under an asset\n  lessee 2 rows, 0..2 under an asset\n"
+                                               "999 1 row\n  guarantor 1 row, 1..1 under a 999\n")
+
+    def test_every_label_above(self):
+        for label in [*table_text.NAMES, "21", "80"]:
+            said = samples.types(table_text.table_from(f"{label}\n  1\n")).split(" under ")[1]
+            article = "an" if label in ("asset", "invoice", "insurance") else "a"
+            self.assertEqual(said, f"{article} {label}\n")
+
+    def test_too_many_lines(self):
+        table = table_text.table_from("portfolio\n" + "  lessee\n" * 65)
+        shape = table_text.shape_from("lessee\n  portfolio\n    lessee\n", table_text.kinds_of(table))
+        self.assertEqual(samples.summary(table, shape), "refused 8 0\n")
