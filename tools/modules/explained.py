@@ -1,0 +1,80 @@
+"""What the program tells of an answer for ./intake --explain, and what the command says, read from docs/HELP.md: a second reading."""
+import pathlib, re, struct
+
+import samples, table_text
+
+PAGE = pathlib.Path(__file__).resolve().parents[2] / "docs" / "HELP.md"
+
+
+def fields_of_row(table, at):
+    """Level, zero byte, label, the six components, value."""
+    level, zero, label, *components, value = struct.unpack_from("<BBH6Hq", table, table_text.ROW * at)
+    return level, zero, label, components, value
+
+
+def fields_of_entry(shape, at):
+    """Level, length of the type, zero bytes, the six labels."""
+    level, size, zero, *labels = struct.unpack_from("<BBH6H", shape, table_text.ENTRY * at)
+    return level, size, zero, labels
+
+
+def names(labels):
+    return " ".join(map(table_text.name, labels))
+
+
+def row(table, _shape, at):
+    """A sound row: the labels from the root down are those of the rows whose Dewey numbers begin its own."""
+    fields = [fields_of_row(table, i) for i in range(at + 1)]
+    deweys = [components[:level] for level, _, _, components, _ in fields]
+    own = deweys[at]
+    labels = [fields[deweys.index(own[:n])][2] for n in range(1, len(own) + 1)]
+    return [f"row {at}: {table_text.dotted(own)}, {names(labels)}, value {fields[at][4]}"]
+
+
+def broken_row(table, shape, at):
+    level, zero, label, components, value = fields_of_row(table, at)
+    own = f"row {at}: level {level}, zero byte {zero}, label {label}, number {table_text.dotted(components)}, value {value}"
+    return (row(table, shape, at - 1) if at else []) + [own]
+
+
+def entry(_table, shape, at):
+    _, size, _, labels = fields_of_entry(shape, at)
+    return [f"entry {at}: {names(labels[:size])}"]
+
+
+def broken_entry(_table, shape, at):
+    level, size, zero, labels = fields_of_entry(shape, at)
+    return [f"entry {at}: level {level}, length of its type {size}, zero bytes {zero}, labels {table_text.dotted(labels)}"]
+
+
+# what the numbers of an answer are, past its first two words
+NAMED = {
+    "verdict 1": (entry, row), "verdict 2": (entry, entry), "verdict 3": (entry, entry),
+    "refused 3": (broken_row,), "refused 4": (row,), "refused 6": (broken_entry,), "refused 7": (entry,),
+}
+
+
+def told(table, shape):
+    """The answer, and what it names, a line each."""
+    answer = samples.listing(table, shape).split("\n")[0]
+    kind, places = " ".join(answer.split(" ")[:2]), answer.split(" ")[2:]
+    return [answer] + [line for tell, place in zip(NAMED.get(kind, ()), places) for line in tell(table, shape, int(place))]
+
+
+def helped(answer):
+    """What docs/HELP.md says of an answer, and what to do next, with its numbers in place of the letters."""
+    words = answer.split(" ")
+    for line in PAGE.read_text().split("\n"):
+        cells = [cell.strip() for cell in line.split("|")]
+        key = cells[1].strip("`").split(" ") if len(cells) == 5 else []
+        if key[:2] == words[:2]:
+            letters = {letter: number for letter, number in zip(key[2:], words[2:]) if letter.isupper()}
+            return [re.sub(r"(?<![A-Za-z])[A-Z](?![A-Za-z])", lambda m: letters.get(m[0], m[0]), cell) for cell in cells[2:4]]
+    raise ValueError(f"{PAGE.name} has nothing on {answer!r}")
+
+
+def explained(table, shape):
+    """What ./intake --explain says on standard error."""
+    answer, *facts = told(table, shape)
+    means, then = helped(answer)
+    return "\n".join([answer, f"What it means: {means}", *(f"  {fact}" for fact in facts), f"What to do next: {then}"]) + "\n"
