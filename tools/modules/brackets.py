@@ -40,5 +40,16 @@ def children(n):
     return [((1,), 1)] + [((1, i), i) for i in range(1, n)]
 
 
+def indented(text):
+    """A tree of names in brackets, lease[lessee asset], as a text for to_shape: a name a line, indented by two spaces a level."""
+    lines, level = [], 0
+    for word in re.findall(r"\w+|\[|\]", text):
+        if word in "[]":
+            level += 1 if word == "[" else -1
+        else:
+            lines.append("  " * level + word)
+    return "\n".join(lines) + "\n"
+
+
 CHAIN = "1[2[3[4[5[6]]]]]"
 A = "1[2[3[4 4] 3[4]] 2[3]]"
