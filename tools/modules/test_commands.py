@@ -194,7 +194,7 @@ class CheckDocs(InFolder):
         command = loaded("check_docs")
         for file in ("tools/show", "crates/one/src/lib.rt", ".ci/run", "target/x", "docs/PAGE.md", "samples/p4/listing"):
             self.put(file, "")
-        self.put("README.md", "See `tools/show --shape`, docs/PAGE.md, docs/, .ci/run and crates/*/src/.\n"
+        self.put("README.md", "See `tools/show --shape`, **docs/PAGE.md.** docs/, .ci/run and crates/*/src/.\n"
                               "Not tools/shown, target/y, x/tools/z or ../docs/z.\n")
         self.put("docs/OTHER.md", "crates/*/lib, crates/one/src/lib.rt.\n\n`samples/p5/`: (samples/p4)\n")
         found = list(command.paths(self.folder))

@@ -1,10 +1,11 @@
--- What is told of a row or an entry that an answer names. Assumes nothing.
+-- What is reported of a row or an entry that an answer names. Assumes nothing.
 use Prim.Native.Nat.{ℕ}
 use mathlib.Core.List.{List, [], _∷_, map}
+use lib.ListN.{take}
 use Rattle.paper.specs.Lists.{joinMap}
 use Rattle.paper.specs.Format.{base, signed}
 use Rattle.paper.specs.Tables.{rowOf, dewey}
-use Rattle.paper.specs.Shapes.{entryOf, named}
+use Rattle.paper.specs.Shapes.{entryOf}
 use Rattle.listing.specs.Text.{ascii, space, decimal, signedText, followed}
 use Rattle.listing.specs.Names.{nameText}
 use Rattle.listing.specs.Listing.{lined, deweyText}
@@ -14,28 +15,32 @@ unfoldable pub joined : List (List ℕ) → List ℕ
 joined ps = joinMap (λ p. p) ps
 
 -- the same as a line
-unfoldable pub told : List (List ℕ) → List ℕ
-told ps = lined (joined ps)
+unfoldable pub joinedLine : List (List ℕ) → List ℕ
+joinedLine ps = lined (joined ps)
 
--- the type that an entry's record holds: its labels from the root down, a space before each
+-- the names of the first n labels that an entry's record holds, a space before each
+unfoldable pub namesText : ℕ → List ℕ → List ℕ
+namesText n entry = followed space (map nameText (take n (entryOf base entry .labels)))
+
+-- the type that an entry's record holds: as many of its labels as it is long, from the root down
 unfoldable pub labelsText : List ℕ → List ℕ
-labelsText entry = followed space (map nameText (named (entryOf base entry)))
+labelsText entry = namesText (entryOf base entry .size) entry
 
 -- an entry's number and the labels of its type
 unfoldable pub entryText : ℕ → List ℕ → List ℕ
-entryText e entry = told (ascii "entry " ∷ decimal e ∷ ascii ":" ∷ labelsText entry ∷ [])
+entryText e entry = joinedLine (ascii "entry " ∷ decimal e ∷ ascii ":" ∷ labelsText entry ∷ [])
 
 -- a row's number, its Dewey number, the labels of its type, which is held as an entry's record holds it, and its value
 unfoldable pub rowText : ℕ → List ℕ → List ℕ → List ℕ
-rowText r row kind =
+rowText r row held =
     let fields = rowOf base row in
-    told
+    joinedLine
     (ascii "row "
     ∷ decimal r
     ∷ ascii ": "
     ∷ deweyText (dewey fields)
     ∷ ascii ","
-    ∷ labelsText kind
+    ∷ labelsText held
     ∷ ascii ", value "
     ∷ signedText (signed (fields .value))
     ∷ [])
@@ -59,7 +64,7 @@ rowHead r row =
 unfoldable pub rowFields : ℕ → List ℕ → List ℕ
 rowFields r row =
     let fields = rowOf base row in
-    told (rowHead r row ∷ ascii ", number " ∷ deweyText (fields .components) ∷ ascii ", value " ∷ signedText (signed (fields .value)) ∷ [])
+    joinedLine (rowHead r row ∷ ascii ", number " ∷ deweyText (fields .components) ∷ ascii ", value " ∷ signedText (signed (fields .value)) ∷ [])
 
 -- the fields that an entry has before its labels
 unfoldable pub entryHead : ℕ → List ℕ → List ℕ
@@ -78,4 +83,4 @@ entryHead e entry =
 
 -- every field of an entry, whether or not it keeps the rules
 unfoldable pub entryFields : ℕ → List ℕ → List ℕ
-entryFields e entry = told (entryHead e entry ∷ ascii ", labels " ∷ deweyText (entryOf base entry .labels) ∷ [])
+entryFields e entry = joinedLine (entryHead e entry ∷ ascii ", labels " ∷ deweyText (entryOf base entry .labels) ∷ [])

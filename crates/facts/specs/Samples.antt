@@ -7,13 +7,13 @@ use Rattle.paper.specs.Samples.{row, entry, portfolio, lessee, lease, asset}
 use Rattle.listing.specs.Text.{ascii, digitsIn, decimal, signedText, followed, parted}
 use Rattle.listing.specs.Names.{names, nameOf, nameText}
 use Rattle.listing.specs.Listing.{deweyText}
-use Rattle.facts.specs.Facts.{joined, told, labelsText, entryText, rowText, rowHead, rowFields, entryHead, entryFields}
+use Rattle.facts.specs.Facts.{joined, joinedLine, namesText, labelsText, entryText, rowText, rowHead, rowFields, entryHead, entryFields}
 
 -- a level 7, and labels that are not there
 wrongEntry : List ℕ
 wrongEntry = 7 ∷ 2 ∷ 1 ∷ 2 ∷ 1 ∷ 0 ∷ 21 ∷ 0 ∷ 231 ∷ 3 ∷ 0 ∷ 0 ∷ 0 ∷ 0 ∷ 0 ∷ 1 ∷ []
 
--- what the definitions say, beside what is to be told
+-- what the definitions say, beside what is to be reported
 pub samples : List (List ℕ × List ℕ)
 samples =
     (entryText 1 (entry 2 lease), ascii "entry 1: portfolio lessee lease\n")
@@ -28,8 +28,8 @@ samples =
     ∷ (entryFields 2 wrongEntry, ascii "entry 2: level 7, length of its type 2, zero bytes 513, labels 1.21.999.0.0.256\n")
     ∷ []
 
--- every sample is told as it should be
+-- every sample is reported as it should be
 pub samples-hold : map (λ (p : List ℕ × List ℕ). p .0) samples ≡ map (λ (p : List ℕ × List ℕ). p .1) samples
 unfolding opened row entry portfolio lessee lease asset digitsIn decimal signedText followed parted names nameOf nameText deweyText
-    joined told labelsText entryText rowText rowHead rowFields entryHead entryFields wrongEntry samples
+    joined joinedLine namesText labelsText entryText rowText rowHead rowFields entryHead entryFields wrongEntry samples
 samples-hold = refl

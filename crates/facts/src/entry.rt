@@ -6,21 +6,20 @@ use listing::put::put_bytes;
 use listing::put::put_number;
 use tables::row::smaller;
 ghost use mathlib.Core.Path.{_≡_};
-ghost use mathlib.Core.List.{_++_, map};
+ghost use mathlib.Core.List.{_++_};
 ghost use Prim.Native.Nat.{_+_, _≤_};
-ghost use lib.ListN.{length, take};
+ghost use lib.ListN.{length};
 ghost use Rattle.io.specs.Counts.{Counts};
 ghost use Rattle.paper.specs.Format.{words};
-ghost use Rattle.listing.specs.Text.{ascii, space, decimal, followed};
-ghost use Rattle.listing.specs.Names.{nameText};
+ghost use Rattle.listing.specs.Text.{decimal};
 ghost use Rattle.listing.specs.Listing.{deweyText};
 ghost use Rattle.listing.specs.Put.{Put};
-ghost use Rattle.facts.specs.Facts.{labelsText, entryText, entryHead, entryFields};
+ghost use Rattle.facts.specs.Facts.{namesText, labelsText, entryText, entryHead, entryFields};
 
 // The names of the first n labels of an entry's record, a space before each.
 fn put_names(out: &mut [u8], at: usize, entry: &[u8], n: usize) -> usize
     requires { ⌜ (at + 126 ≤ length (now out)) × (length (now entry) ≡ 16) × (n ≤ 6) ⌝ }
-    ensures { λ r. ⌜ Put (now (out .entry)) at (followed space (map nameText (take n (words 6 (now (entry .entry)) 4)))) (now (out .exit)) r × (r ≤ at + 126) ⌝ }
+    ensures { λ r. ⌜ Put (now (out .entry)) at (namesText n (now (entry .entry))) (now (out .exit)) r × (r ≤ at + 126) ⌝ }
 {
     let mut p = at;
     let mut k = 0;

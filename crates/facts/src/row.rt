@@ -15,16 +15,16 @@ ghost use Rattle.facts.specs.Facts.{rowText, rowHead, rowFields};
 
 // A row's number, its Dewey number, the labels of its type and its value, at the front of the buffer. The type is held as an entry's
 // record holds it.
-pub fn put_row(out: &mut [u8; 512], r: usize, row: &[u8], kind: &[u8]) -> usize
-    requires { ⌜ (length (now row) ≡ 24) × (length (now kind) ≡ 16) ⌝ }
-    ensures { λ p. ⌜ Put (now (out .entry)) 0 (rowText r (now (row .entry)) (now (kind .entry))) (now (out .exit)) p ⌝ }
+pub fn put_row(out: &mut [u8; 512], r: usize, row: &[u8], held: &[u8]) -> usize
+    requires { ⌜ (length (now row) ≡ 24) × (length (now held) ≡ 16) ⌝ }
+    ensures { λ p. ⌜ Put (now (out .entry)) 0 (rowText r (now (row .entry)) (now (held .entry))) (now (out .exit)) p ⌝ }
     ensures { λ p. ⌜ Counts p (now (out .exit)) ⌝ }
 {
     let number = put_named(out, 0, b"row ", r);
     let colon = put_bytes(out, number, b": ");
     let dewey = put_dewey(out, colon, row);
     let comma = put_byte(out, dewey, b',');
-    let labels = put_labels(out, comma, kind);
+    let labels = put_labels(out, comma, held);
     let word = put_bytes(out, labels, b", value ");
     let value = put_value(out, word, row);
     put_byte(out, value, b'\n')

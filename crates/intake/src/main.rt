@@ -1,8 +1,8 @@
 // The program: prints a screen of `source.tab` and `shape.tab` in the working directory. Without a word it prints the listing, which is
-// document 01's program. The command `./intake` gives it a word for the screen, and is told on a channel of its own what a listing's first
+// document 01's program. The command `./intake` gives it a word for the screen, and has reported to it, on a channel of its own, what a listing's first
 // line names and, last, that everything was written: a program in Rattle can give no status.
 use check::same;
-use printing::out::tell;
+use printing::out::report;
 use printing::screen::Screen;
 use printing::screen::print_screen;
 
@@ -17,7 +17,7 @@ fn print_asked(word: &[u8]) -> bool {
     if same(word, b"types") {
         return print_here(Screen::Types);
     }
-    print_here(Screen::Told)
+    print_here(Screen::Reported)
 }
 
 fn main() {
@@ -28,6 +28,6 @@ fn main() {
         return;
     }
     if print_asked(&word[..n]) {
-        tell(b"whole\n");
+        report(b"whole\n");
     }
 }

@@ -92,7 +92,8 @@ unfolding rowOf rowBack
 value-back f r (c, v) =
     let pre = head r ++ joinMap (bytes 2) (r .components) in
     ap (λ n. span n (pre ++ r .value) (headBytes + listBytes f)) (sym v)
-    ∙ span-back pre (r .value) (headBytes + listBytes f) (omega (arith, length-append (head r) (joinMap (bytes 2) (r .components)), length-numbers (r .components)))
+    ∙ span-back pre (r .value) (headBytes + listBytes f)
+    (omega (arith, length-append (head r) (joinMap (bytes 2) (r .components)), length-numbers (r .components)))
 
 -- a whole row is read back
 pub row-back : (f : Format) (r : Row) → Shaped f r → ((x : ℕ) → Has x (r .components) → Small x) → Small (r .label) → rowOf f (rowBack r) ≡ r

@@ -5,6 +5,6 @@ pub mod figures;
 pub mod files;
 pub mod new_table;
 pub mod out;
+pub mod report;
 pub mod screen;
-pub mod told;
 pub mod types_tree;

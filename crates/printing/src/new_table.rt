@@ -1,8 +1,8 @@
 // The listing: a refusal, or the verdict and a line for each line of the new table.
 use crate::out::print;
-use crate::out::tell;
-use crate::told::tell_refused;
-use crate::told::tell_verdict;
+use crate::out::report;
+use crate::report::report_refused;
+use crate::report::report_verdict;
 use listing::answers::put_refused;
 use listing::answers::put_verdict;
 use listing::line::put_line;
@@ -11,36 +11,42 @@ use silmezga::reader::handed;
 ghost use mathlib.Core.Path.{_≡_};
 ghost use lib.ListN.{length};
 
-// Prints a refusal, and tells it, with what it names, where that is wanted.
-pub fn print_refused(table: &[u8], shape: &[u8], number: usize, place: usize, told: bool) -> bool {
+// Prints a refusal, and reports it, with what it names, where that is wanted.
+pub fn print_refused(
+    table: &[u8],
+    shape: &[u8],
+    number: usize,
+    place: usize,
+    reported: bool,
+) -> bool {
     let mut text = [0u8; 256];
     let n = put_refused(&mut text, number, place);
     if !print(&text[..n]) {
         return false;
     }
-    if !told {
+    if !reported {
         return true;
     }
-    if !tell(&text[..n]) {
+    if !report(&text[..n]) {
         return false;
     }
-    tell_refused(table, shape, number, place)
+    report_refused(table, shape, number, place)
 }
 
-// Prints a verdict, and tells it, with what it names, where that is wanted.
-fn print_verdict(table: &[u8], shape: &[u8], v: Verdict, told: bool) -> bool {
+// Prints a verdict, and reports it, with what it names, where that is wanted.
+fn print_verdict(table: &[u8], shape: &[u8], v: Verdict, reported: bool) -> bool {
     let mut text = [0u8; 256];
     let n = put_verdict(&mut text, v);
     if !print(&text[..n]) {
         return false;
     }
-    if !told {
+    if !reported {
         return true;
     }
-    if !tell(&text[..n]) {
+    if !report(&text[..n]) {
         return false;
     }
-    tell_verdict(table, shape, v)
+    report_verdict(table, shape, v)
 }
 
 fn print_line(row: &[u8], source: u32) -> bool
@@ -76,25 +82,25 @@ fn print_reshaped(
     shape: &[u8],
     table: &mut [u8],
     sources: &mut [u32],
-    told: bool,
+    reported: bool,
 ) -> bool {
     let r = silmezga::reshape(source, shape, table, sources);
     let number = r.number;
     let place = r.place;
     if number != 0 {
-        return print_refused(source, shape, number, place, told);
+        return print_refused(source, shape, number, place, reported);
     }
     let j = silmezga::judge(source, shape);
     let v = j.verdict;
-    if !print_verdict(source, shape, v, told) {
+    if !print_verdict(source, shape, v, reported) {
         return false;
     }
     print_lines(table, sources, r.lines)
 }
 
-// Prints the listing of a table and a shape, with room for 1,024 lines. Where it is wanted, the answer and what it names are told too.
-pub fn print_listing(source: &[u8], shape: &[u8], told: bool) -> bool {
+// Prints the listing of a table and a shape, with room for 1,024 lines. Where it is wanted, the answer and what it names are reported too.
+pub fn print_listing(source: &[u8], shape: &[u8], reported: bool) -> bool {
     let mut new = [0u8; 24576];
     let mut sources = [0u32; 1024];
-    print_reshaped(source, shape, &mut new, &mut sources, told)
+    print_reshaped(source, shape, &mut new, &mut sources, reported)
 }

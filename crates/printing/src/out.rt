@@ -1,8 +1,8 @@
 // Writing. Every answer of a write is looked at.
 use libc::STDOUT_FILENO;
 
-// Where the program tells the command that ran it what it did. The command opens it; a write to it that fails tells nothing.
-const TOLD: i32 = 3;
+// Where the program reports to the command that ran it. The command opens it; a write to it that fails reports nothing.
+const REPORT: i32 = 3;
 
 // Writes a text to standard output. Where not all of it is taken, standard error says that what stands there is not whole.
 pub fn print(text: &[u8]) -> bool {
@@ -13,7 +13,7 @@ pub fn print(text: &[u8]) -> bool {
     false
 }
 
-// Tells the command a text.
-pub fn tell(text: &[u8]) -> bool {
-    io::write_all(TOLD, text)
+// Reports a text to the command.
+pub fn report(text: &[u8]) -> bool {
+    io::write_all(REPORT, text)
 }

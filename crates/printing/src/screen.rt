@@ -5,7 +5,7 @@ use crate::new_table::print_listing;
 // Which screen is asked for.
 pub enum Screen {
     Listing,
-    Told, // the listing, with what its first line names told to the command
+    Reported, // the listing, with what its first line names reported to the command
     Summary,
     Types,
 }
@@ -13,7 +13,7 @@ pub enum Screen {
 fn print_of(table: &[u8], shape: &[u8], screen: Screen) -> bool {
     match screen {
         Screen::Listing => print_listing(table, shape, false),
-        Screen::Told => print_listing(table, shape, true),
+        Screen::Reported => print_listing(table, shape, true),
         Screen::Summary => crate::figures::print_summary(table, shape),
         Screen::Types => crate::types_tree::print_types(table, shape),
     }

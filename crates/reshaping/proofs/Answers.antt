@@ -75,7 +75,8 @@ module _ {t s : List ℕ} {w : Work.Work} (p : Prepared t s w) where
       unfolding test8 base sourceList
       reshape-given le =
           same ∙ ap (λ b. from (refuse 8 b >>= (λ _. given ls) >>= written)) (le-ltb (roomIn base table sources) (length ls) le)
-          ∙ ap (λ o. from (refuseAt 9 o >>= (λ _. given (newTable base sh (rows base t) ls, sourceList ls)))) (written-kept base t s work (p .ready z .given-is))
+          ∙ ap (λ o. from (refuseAt 9 o >>= (λ _. given (newTable base sh (rows base t) ls, sourceList ls))))
+          (written-kept base t s work (p .ready z .given-is))
           ∙ ap {B = Reshaping} (λ n. record { reply = record { number = 0; place = 0; rest = n }; table = newTable base sh (rows base t) ls ++ drop (length (newTable base sh (rows base t) ls)) table; sources = sourceList ls ++ drop (length (sourceList ls)) sources }) (length-map ls (λ (l : Line). l .entry * entryUnit + l .source .place))
 
   -- ---- summarising

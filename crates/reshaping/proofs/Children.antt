@@ -89,9 +89,17 @@ module _ {t sb : List ℕ} {w : Work} (y : Ready t sb w) where
             let no : ⊥ = omega (arith, is, near) in absurd no
 
     late : (c : ℕ) → e < c → c < w .shape .entries → child c ≡ eqb (parentOf (w .shape) c) e
-    late c ec lc = same-test (child c) (eqb (parentOf (w .shape) c) e)
-        (λ h. eq-eqb (parentOf (w .shape) c) e (y .holds .parent-is c lc ∙ child-parent sh (ways-are t sb (y .given-is)) e c (entry-in e le) (child-way c lc h)))
-        (λ h. eq-same (ap up (over-way c (omega arith) lc) ∙ up-snoc (way sh (parent sh c)) c ∙ ap (way sh) (sym (y .holds .parent-is c lc) ∙ eqb-true (parentOf (w .shape) c) e h)))
+    late c ec lc = same-test (child c) (eqb (parentOf (w .shape) c) e) yes no
+      where
+        yes : child c ≡ true → eqb (parentOf (w .shape) c) e ≡ true
+        yes h =
+            let up-is = child-parent sh (ways-are t sb (y .given-is)) e c (entry-in e le) (child-way c lc h) in
+            eq-eqb (parentOf (w .shape) c) e (y .holds .parent-is c lc ∙ up-is)
+
+        no : eqb (parentOf (w .shape) c) e ≡ true → child c ≡ true
+        no h =
+            let up-is = sym (y .holds .parent-is c lc) ∙ eqb-true (parentOf (w .shape) c) e h in
+            eq-same (ap up (over-way c (omega arith) lc) ∙ up-snoc (way sh (parent sh c)) c ∙ ap (way sh) up-is)
 
     pub children-are : childrenOf (nodes (rows base t)) (w .shape) e ≡ children (shapeIn base t sb) e
     children-are =

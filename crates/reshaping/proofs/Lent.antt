@@ -101,7 +101,8 @@ module _ {t s : List ℕ} {w : Work} (p : Prepared t s w) (z : w .number ≡ 0) 
   pub lines-left : (n : ℕ) → n ≡ length (linesOf (nodes (rows base t)) (w .shape) 5)
       → record { number = 0; place = 0; rest = n } ≡ reshape base t s table sources .reply
   lines-left n e =
-      ap {B = Reply ℕ} (λ k. record { number = 0; place = 0; rest = k }) (e ∙ length-is (p .ready z)) ∙ sym (ap (λ (x : Reshaping). x .reply) (reshape-given p table sources z le))
+      ap {B = Reply ℕ} (λ k. record { number = 0; place = 0; rest = k }) (e ∙ length-is (p .ready z))
+      ∙ sym (ap (λ (x : Reshaping). x .reply) (reshape-given p table sources z le))
 
   pub table-left : (table′ : List ℕ) → table′ ≡ sets table 0 (bytesOf base t (w .shape) (linesOf (nodes (rows base t)) (w .shape) 5))
       → table′ ≡ reshape base t s table sources .table
@@ -118,4 +119,5 @@ module _ {t s : List ℕ} {w : Work} (p : Prepared t s w) (z : w .number ≡ 0) 
   sources-left sources′ e =
       let list = sourceList ls in
       let long : length list ≡ length ls = length-map ls (λ (l : Line). l .entry * entryUnit + l .source .place) in
-      e ∙ ap (sets sources 0) (sources-are (p .ready z)) ∙ front sources list (omega (arith, long)) ∙ sym (ap (λ (x : Reshaping). x .sources) (reshape-given p table sources z le))
+      e ∙ ap (sets sources 0) (sources-are (p .ready z)) ∙ front sources list (omega (arith, long))
+      ∙ sym (ap (λ (x : Reshaping). x .sources) (reshape-given p table sources z le))

@@ -88,7 +88,9 @@ module _ {t sb : List ℕ} {w : Work} (y : Ready t sb w) where
       let g : ℕ → List (ℕ × Node) = λ c. map (λ (r : Node). (c, r)) (closestOf ns (x .1) (typeOf (w .shape) c)) in
       let (c, hc, hv) = join-has g v cs (subst (λ l. Has v l) (joined-map g cs) h) in
       let (r, hr, e) = map-has {B = ℕ × Node} (λ (r : Node). (c, r)) v (closestOf ns (x .1) (typeOf (w .shape) c)) hv in
-      let b = count-has (x .0 + 1) (w .shape .entries - (x .0 + 1)) c (keep-has (λ c. eqb (parentOf (w .shape) c) (x .0)) c (count (x .0 + 1) (w .shape .entries - (x .0 + 1))) hc .0) in
+      let left = w .shape .entries - (x .0 + 1) in
+      let kept = keep-has (λ c. eqb (parentOf (w .shape) c) (x .0)) c (count (x .0 + 1) left) hc in
+      let b = count-has (x .0 + 1) left c (kept .0) in
       omega (arith, ap (λ (q : ℕ × Node). q .0) e, b .1)
 
   good-roots : (x : ℕ × Node) → Has x (roots ns (w .shape)) → Good x
@@ -119,14 +121,22 @@ module _ {t sb : List ℕ} {w : Work} (y : Ready t sb w) where
 
   -- the record of a line
   record-is : (x : Numbered) → Has x found
-      → lineBytes base t (levelOf (w .shape) (x .0 .0)) (labelOf (w .shape) (x .0 .0)) (padded mostLevels (x .1)) (x .0 .1 .place) ≡ rowBack (lineRow base sh (rows base t) (toLine x))
+      → lineBytes base t (levelOf (w .shape) (x .0 .0)) (labelOf (w .shape) (x .0 .0)) (padded mostLevels (x .1)) (x .0 .1 .place)
+      ≡ rowBack (lineRow base sh (rows base t) (toLine x))
   unfolding lineOf lineRow base
   record-is x h =
       let lt = entry-small x h in
-      ap (λ l. rowBack (record { level = l; spare = 0; label = labelOf (w .shape) (x .0 .0); components = take 6 (padded mostLevels (x .1)); value = getD (map (λ (x : Row). x .value) (rows base t)) (x .0 .1 .place) [] })) (y .holds .level-is (x .0 .0) lt)
-      ∙ ap₂ (λ l c. rowBack (record { level = getD (sh .levels) (x .0 .0) 0; spare = 0; label = l; components = c; value = getD (map (λ (x : Row). x .value) (rows base t)) (x .0 .1 .place) [] })) (y .holds .label-is (x .0 .0) lt) (padded-cut 6 8 (x .1) (omega arith))
+      let v = getD (map (λ (x : Row). x .value) (rows base t)) (x .0 .1 .place) [] in
+      let level = getD (sh .levels) (x .0 .0) 0 in
+      let label = labelOf (w .shape) (x .0 .0) in
+      let list = take 6 (padded mostLevels (x .1)) in
+      ap (λ l. rowBack (record { level = l; spare = 0; label = label; components = list; value = v })) (y .holds .level-is (x .0 .0) lt)
+      ∙ ap₂ (λ l c. rowBack (record { level = level; spare = 0; label = l; components = c; value = v }))
+      (y .holds .label-is (x .0 .0) lt)
+      (padded-cut 6 8 (x .1) (omega arith))
 
-  pub bytes-are : bytesOf base t (w .shape) (linesOf (nodes (rows base t)) (w .shape) 5) ≡ newTable base (shapeIn base t sb) (rows base t) (lines (nodes (rows base t)) (shapeIn base t sb) 6)
+  pub bytes-are : bytesOf base t (w .shape) (linesOf (nodes (rows base t)) (w .shape) 5)
+      ≡ newTable base (shapeIn base t sb) (rows base t) (lines (nodes (rows base t)) (shapeIn base t sb) 6)
   unfolding newTable
   bytes-are =
       join-same _ _ found record-is ∙ sym (join-map (λ l. rowBack (lineRow base sh (rows base t) l)) toLine found) ∙ ap (newTable base sh (rows base t)) lines-are

@@ -45,7 +45,8 @@ keep-map {A = A} p f (x ∷ xs) = go (p (f x)) (keep-map p f xs)
 above-none : (e n : ℕ) (xs : List ℕ) → n ≤ e → ((x : ℕ) → Has x xs → x < n) → ofEntry e xs ≡ 0
 above-none e n [] le h = refl
 above-none e n (x ∷ xs) le h =
-    ap (λ b. length {A = ℕ} (elim b as (λ _. List ℕ) [ true ↦ x ∷ keep (λ c. eqb c e) xs | false ↦ keep (λ c. eqb c e) xs ])) (ne-eqb x e (λ q. omega (arith, h x (inl refl))))
+    let rest = keep (λ c. eqb c e) xs in
+    ap (λ b. length {A = ℕ} (elim b as (λ _. List ℕ) [ true ↦ x ∷ rest | false ↦ rest ])) (ne-eqb x e (λ q. omega (arith, h x (inl refl))))
     ∙ above-none e n xs le (λ y q. h y (inr q))
 
 -- ---- a count
@@ -119,7 +120,10 @@ module _ {t sb : List ℕ} {w : Work} (y : Ready t sb w) where
       → length (allEntries (nodes (rows base t)) (w .shape) 5) ≤ mostLines
       → Counted (allEntries (nodes (rows base t)) (w .shape) 5) b
       → RowsOf (w .types) (w .rows) (w .shape .types) (w .shape .entries) rs → Less (b .lines) rs cs
-      → record { lines = b .lines; rows = rs; copies = cs } ≡ figures (record { rows = rows base t; nodes = nodes (rows base t); shape = shapeIn base t sb }) (lines (nodes (rows base t)) (shapeIn base t sb) 6)
+      → record { lines = b .lines; rows = rs; copies = cs }
+      ≡ figures
+      (record { rows = rows base t; nodes = nodes (rows base t); shape = shapeIn base t sb })
+      (lines (nodes (rows base t)) (shapeIn base t sb) 6)
   unfolding figures base
   summed b rs cs lb lr lc fits counted held-rows less =
       ap₂ {C = Figures} (λ x y. record { lines = x; rows = y; copies = cs }) lines-is rows-is
@@ -143,7 +147,9 @@ module _ {t sb : List ℕ} {w : Work} (y : Ready t sb w) where
       over g = ap (λ n. padded 16 (map g (count 0 n))) (y .holds .counted)
 
       lines-is : b .lines ≡ placesOf shownOf
-      lines-is = padded-by (b .lines) shownOf (w .shape .entries) lb few (λ e lt. at e (omega (arith, few)) ∙ shown e) (λ e le lt. at e lt ∙ past e le) ∙ over shownOf
+      lines-is =
+          padded-by (b .lines) shownOf (w .shape .entries) lb few (λ e lt. at e (omega (arith, few)) ∙ shown e) (λ e le lt. at e lt ∙ past e le)
+          ∙ over shownOf
 
       rows-is : rs ≡ placesOf heldOf
       rows-is = padded-by rs heldOf (w .shape .entries) lr few row-count (λ e le lt. held-rows .rest e le) ∙ over heldOf

@@ -3,7 +3,7 @@ use Rattle.io.proofs.Counting.{counts}
 use Rattle.paper.specs.Format.{base}
 use Rattle.paper.specs.Shapes.{entryOf}
 use Rattle.listing.proofs.Putting.{put-then, put-last}
-use Rattle.facts.specs.Facts.{joined, told, entryFields}
+use Rattle.facts.specs.Facts.{joined, joinedLine, entryFields}
 use Rattle.facts.proofs.Telling.{room}
 use borrow.Author.Needs.{needs}
 use Rattle.facts.proofs.entry.put_entry_fields.Statement.{statement}
@@ -25,7 +25,7 @@ put-byte-requires : tie.Need-put-byte-requires
 put-byte-requires c κs = search needs
 
 returns : tie.Need-returns
-unfolding base entryOf joined told entryFields
+unfolding base entryOf joined joinedLine entryFields
 returns c =
     let l = c .before .before in
     let w = l .before .before in

@@ -9,7 +9,7 @@ use Rattle.paper.proofs.Tables.{length-words}
 use Rattle.listing.specs.Text.{space, followed}
 use Rattle.listing.specs.Names.{nameText}
 use Rattle.listing.proofs.Putting.{put-as}
-use Rattle.facts.specs.Facts.{labelsText}
+use Rattle.facts.specs.Facts.{namesText, labelsText}
 use Rattle.facts.proofs.Telling.{take-six}
 use borrow.Author.Needs.{needs}
 use Rattle.facts.proofs.entry.put_labels.Statement.{statement}
@@ -31,7 +31,7 @@ same-length : tie.Need-same-length
 same-length c = search needs
 
 returns : tie.Need-returns
-unfolding base entryOf labelsText
+unfolding base entryOf namesText labelsText
 returns c =
     let n = c .before .before in
     let s = n .before .before in

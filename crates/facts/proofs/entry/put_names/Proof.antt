@@ -4,11 +4,14 @@ use native.Mathlib.Omega.{arith}
 use mathlib.Core.Path.{_≡_, refl, ap}
 use mathlib.Core.List.{List}
 use lib.ListN.{length}
+use Rattle.paper.specs.Format.{base}
+use Rattle.paper.specs.Shapes.{entryOf}
 use Rattle.listing.specs.Text.{space, followed}
 use Rattle.listing.specs.Names.{nameText}
 use Rattle.listing.specs.Put.{Put}
 use Rattle.listing.proofs.Putting.{as-long, put-none, put-then, put-as}
 use Rattle.listing.proofs.Dewey.{leading, leading-put}
+use Rattle.facts.specs.Facts.{namesText}
 -- A wrong definition is refused first by the sample that it breaks, so the samples stand before the proofs.
 use Rattle.facts.specs.Samples
 use borrow.Author.Needs.{needs}
@@ -65,6 +68,7 @@ same-length : tie.Need-same-length Inv-loop μ-loop
 same-length c = search needs
 
 returns : tie.Need-returns Inv-loop μ-loop
+unfolding base entryOf namesText
 returns c =
     let l = c .before in
     let all : l .loop .k ≡ l .before .before .before .args .n = omega arith in

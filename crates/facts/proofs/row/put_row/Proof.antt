@@ -2,7 +2,7 @@
 use Rattle.io.proofs.Counting.{counts}
 use Rattle.paper.specs.Tables.{rowOf}
 use Rattle.listing.proofs.Putting.{put-then, put-last}
-use Rattle.facts.specs.Facts.{joined, told, rowText}
+use Rattle.facts.specs.Facts.{joined, joinedLine, rowText}
 use Rattle.facts.proofs.Telling.{room}
 use borrow.Author.Needs.{needs}
 use Rattle.facts.proofs.row.put_row.Statement.{statement}
@@ -42,7 +42,7 @@ put-byte-requires-2 : tie.Need-put-byte-requires-2
 put-byte-requires-2 c κs = search needs
 
 returns : tie.Need-returns
-unfolding joined told rowText
+unfolding joined joinedLine rowText
 returns c =
     let v = c .before .before in
     let w = v .before .before in

@@ -54,7 +54,8 @@ slice-aggregate-meetings-2 c = search needs
 meetings-requires : tie.Need-meetings-requires
 meetings-requires c κs =
     let l = c .before .before in
-    laws.rows-are (read (l .before) .tests1-7 .ensures) (passed (l .before) .if1 .left) (l .row-levels .result) (levels-of l) (sym (slice-aggregate-meetings (c .before)))
+    let same = sym (slice-aggregate-meetings (c .before)) in
+    laws.rows-are (read (l .before) .tests1-7 .ensures) (passed (l .before) .if1 .left) (l .row-levels .result) (levels-of l) same
 
 slice-aggregate-draw : tie.Need-slice-aggregate-draw
 slice-aggregate-draw c = search needs

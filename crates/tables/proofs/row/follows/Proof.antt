@@ -47,7 +47,9 @@ component-requires : tie.Need-component-requires
 component-requires c κs = search needs
 
 returns-2 : tie.Need-returns-2
-returns-2 c = rows-child (read (c .before .before .before)) (c .before .before .if1 .taken) (c .before .if2 .left) (c .component .result) (c .component .ensures .0)
+returns-2 c =
+    let met = c .before in
+    rows-child (read (met .before .before)) (met .before .if1 .taken) (met .if2 .left) (c .component .result) (c .component .ensures .0)
 
 returns-3 : tie.Need-returns-3
 returns-3 c = rows-longer (read (c .before .before)) (c .before .if1 .left) (c .if3 .taken)

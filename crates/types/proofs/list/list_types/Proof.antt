@@ -66,7 +66,8 @@ level-some c =
 level-most : (c : tie.After-word Inv-loop μ-loop) → levelOf c ≤ 8
 level-most c =
     let l = turn c in
-    let fits = l-fits (formatOf l) (begun l .args .table .now) (begun l .pre .1) (l .loop .i) (here c) (levelOf c) (c .word .result) (level-is c) (label-is c) in
+    let b = begun l in
+    let fits = l-fits (formatOf l) (b .args .table .now) (b .pre .1) (l .loop .i) (here c) (levelOf c) (c .word .result) (level-is c) (label-is c) in
     omega (arith, fits, begun l .pre .0 .2)
 
 array-write-stack : tie.Need-array-write-stack Inv-loop μ-loop

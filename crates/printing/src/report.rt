@@ -1,5 +1,5 @@
-// What the program tells the command of an answer, beside its listing: the rows and the entries that it names.
-use crate::out::tell;
+// What the program reports to the command of an answer, beside its listing: the rows and the entries that it names.
+use crate::out::report;
 use facts::entry::put_entry;
 use facts::entry::put_entry_fields;
 use facts::row::put_row;
@@ -11,7 +11,7 @@ ghost use mathlib.Core.Path.{_≡_};
 ghost use lib.ListN.{length};
 
 // One more row: where it has a level, its label stands there, and the level is the length of the type.
-fn add_row(kind: &mut [u8; 16], row: &[u8]) {
+fn add_row(held: &mut [u8; 16], row: &[u8]) {
     if row.len() < 4 {
         return;
     }
@@ -22,39 +22,39 @@ fn add_row(kind: &mut [u8; 16], row: &[u8]) {
     if 6 < level {
         return;
     }
-    kind[1] = row[0];
-    kind[2 + 2 * level] = row[2];
-    kind[3 + 2 * level] = row[3];
+    held[1] = row[0];
+    held[2 + 2 * level] = row[2];
+    held[3 + 2 * level] = row[3];
 }
 
 // The type of a row, as an entry's record holds it: the labels that stand at each level when the rows up to it have passed.
-fn kind_of(table: &[u8], r: usize) -> [u8; 16] {
+fn type_held(table: &[u8], r: usize) -> [u8; 16] {
     let last = smaller(r, 1023);
-    let mut kind = [0u8; 16];
+    let mut held = [0u8; 16];
     let mut i = 0;
     while i <= last {
-        add_row(&mut kind, handed(table, i));
+        add_row(&mut held, handed(table, i));
         i += 1;
     }
-    kind
+    held
 }
 
 // A row that keeps the rules.
-fn tell_row(table: &[u8], r: usize) -> bool {
+fn report_row(table: &[u8], r: usize) -> bool {
     let row = handed(table, r);
     if row.len() != 24 {
         return false;
     }
-    let kind = kind_of(table, r);
+    let held = type_held(table, r);
     let mut text = [0u8; 512];
-    let n = put_row(&mut text, r, row, &kind);
-    tell(&text[..n])
+    let n = put_row(&mut text, r, row, &held);
+    report(&text[..n])
 }
 
 // A row that breaks a rule, after the row before it.
-fn tell_broken_row(table: &[u8], r: usize) -> bool {
+fn report_broken_row(table: &[u8], r: usize) -> bool {
     if 0 < r {
-        if !tell_row(table, r - 1) {
+        if !report_row(table, r - 1) {
             return false;
         }
     }
@@ -64,66 +64,66 @@ fn tell_broken_row(table: &[u8], r: usize) -> bool {
     }
     let mut text = [0u8; 512];
     let n = put_row_fields(&mut text, r, row);
-    tell(&text[..n])
+    report(&text[..n])
 }
 
 // An entry that keeps the rules.
-fn tell_entry(shape: &[u8], e: usize) -> bool {
+fn report_entry(shape: &[u8], e: usize) -> bool {
     if shape.len() / 16 <= e {
         return false;
     }
     let mut text = [0u8; 512];
     let n = put_entry(&mut text, e, bytes::record(shape, 16, e));
-    tell(&text[..n])
+    report(&text[..n])
 }
 
 // An entry that breaks a rule.
-fn tell_broken_entry(shape: &[u8], e: usize) -> bool {
+fn report_broken_entry(shape: &[u8], e: usize) -> bool {
     if shape.len() / 16 <= e {
         return false;
     }
     let mut text = [0u8; 512];
     let n = put_entry_fields(&mut text, e, bytes::record(shape, 16, e));
-    tell(&text[..n])
+    report(&text[..n])
 }
 
-// The row or the entry that a refusal names; refusals that name none tell nothing more.
-pub fn tell_refused(table: &[u8], shape: &[u8], number: usize, place: usize) -> bool {
+// The row or the entry that a refusal names; refusals that name none report nothing more.
+pub fn report_refused(table: &[u8], shape: &[u8], number: usize, place: usize) -> bool {
     if number == 3 {
-        return tell_broken_row(table, place);
+        return report_broken_row(table, place);
     }
     if number == 4 {
-        return tell_row(table, place);
+        return report_row(table, place);
     }
     if number == 6 {
-        return tell_broken_entry(shape, place);
+        return report_broken_entry(shape, place);
     }
     if number == 7 {
-        return tell_entry(shape, place);
+        return report_entry(shape, place);
     }
     true
 }
 
-fn tell_pair(shape: &[u8], first: usize, second: usize) -> bool {
-    if !tell_entry(shape, first) {
+fn report_pair(shape: &[u8], first: usize, second: usize) -> bool {
+    if !report_entry(shape, first) {
         return false;
     }
-    tell_entry(shape, second)
+    report_entry(shape, second)
 }
 
-fn tell_missing(table: &[u8], shape: &[u8], entry: usize, row: usize) -> bool {
-    if !tell_entry(shape, entry) {
+fn report_missing(table: &[u8], shape: &[u8], entry: usize, row: usize) -> bool {
+    if !report_entry(shape, entry) {
         return false;
     }
-    tell_row(table, row)
+    report_row(table, row)
 }
 
 // The row or the two entries that a verdict names.
-pub fn tell_verdict(table: &[u8], shape: &[u8], v: Verdict) -> bool {
+pub fn report_verdict(table: &[u8], shape: &[u8], v: Verdict) -> bool {
     match v {
         Verdict::Kept => true,
-        Verdict::Missing { entry, row } => tell_missing(table, shape, entry, row),
-        Verdict::Apart { first, second } => tell_pair(shape, first, second),
-        Verdict::Unsure { first, second } => tell_pair(shape, first, second),
+        Verdict::Missing { entry, row } => report_missing(table, shape, entry, row),
+        Verdict::Apart { first, second } => report_pair(shape, first, second),
+        Verdict::Unsure { first, second } => report_pair(shape, first, second),
     }
 }

@@ -1,14 +1,14 @@
--- `told::kind_of` is safe: the rows passed so far end at the last. Assumes nothing.
+-- `report::type_held` is safe: the rows passed so far end at the last. Assumes nothing.
 use Prim.Native.Nat.{_+_, _-_, _≤_}
 use borrow.Author.Needs.{needs}
-use Rattle.printing.proofs.told.kind_of.Statement.{statement}
-use Rattle.printing.proofs.told.kind_of.Tie as tie
+use Rattle.printing.proofs.report.type_held.Statement.{statement}
+use Rattle.printing.proofs.report.type_held.Tie as tie
 
 abbrev Inv-loop : tie.InvT-loop
-Inv-loop table r last kind₀ i₀ kind i = (i ≤ last + 1) × (last ≤ 1023)
+Inv-loop table r last held₀ i₀ held i = (i ≤ last + 1) × (last ≤ 1023)
 
 abbrev μ-loop : tie.MeasureT-loop
-μ-loop table r last kind₀ i₀ kind i = last + 1 - i
+μ-loop table r last held₀ i₀ held i = last + 1 - i
 
 smaller-requires : tie.Need-smaller-requires Inv-loop μ-loop
 smaller-requires c κs = search needs
@@ -34,8 +34,8 @@ loop-again c = search needs
 returns : tie.Need-returns Inv-loop μ-loop
 returns c = search needs
 
-pub kind-of-spec : {M : Type 1} → statement M
-kind-of-spec =
+pub type-held-spec : {M : Type 1} → statement M
+type-held-spec =
     tie.close
     (tie.spec
     Inv-loop
