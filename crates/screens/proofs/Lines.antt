@@ -8,10 +8,11 @@ use borrow.Author.Tests.{eq-eqb, ne-eqb}
 use Rattle.io.specs.Counts.{Counts}
 use Rattle.io.proofs.Counting.{counts}
 use Rattle.paper.specs.Adorned.{Summary}
+use Rattle.listing.specs.Text.{ascii}
 use Rattle.listing.specs.Listing.{lined}
 use Rattle.listing.specs.Put.{Put}
-use Rattle.listing.proofs.Putting.{as-long}
-use Rattle.screens.specs.Screens.{rowsText, underText, typeText}
+use Rattle.listing.proofs.Putting.{as-long, put-then}
+use Rattle.screens.specs.Screens.{counted, countsText, rowsText, underText, typeText}
 -- A wrong definition is refused first by the sample that it breaks, so the samples stand before the laws.
 use Rattle.screens.specs.Samples
 
@@ -19,6 +20,24 @@ use Rattle.screens.specs.Samples
 pub fits : {l : List ℕ} {at : ℕ} {line l' : List ℕ} {r : ℕ} → Put l at line l' r → r ≤ length l → Put l at line l' r × Counts r l'
 fits {l' = l'} {r = r} p le = (p, counts r l' (omega (arith, as-long p)))
 
+-- ---- counts
+-- the first two counts
+abbrev twoCounts : ℕ → ℕ → List ℕ
+twoCounts lines rows = counted lines (ascii "line") (ascii "lines") ++ ascii ", " ++ counted rows (ascii "row") (ascii "rows")
+
+module _ {l a b c : List ℕ} {at i j k : ℕ} (lines rows : ℕ) where
+  -- They are put, and what stands between them.
+  pub two-counts : Put l at (counted lines (ascii "line") (ascii "lines")) a i → Put a i (ascii ", ") b j
+      → Put b j (counted rows (ascii "row") (ascii "rows")) c k → Put l at (twoCounts lines rows) c k
+  two-counts p q r = put-then (put-then p q) r
+
+  -- The third is put after them.
+  pub three-counts : (copies : ℕ) → Put l at (twoCounts lines rows) a i → Put a i (ascii ", ") b j
+      → Put b j (counted copies (ascii "copy") (ascii "copies")) c k → Put l at (countsText lines rows copies) c k
+  unfolding countsText
+  three-counts copies p q r = put-then (put-then p q) r
+
+-- ---- a type
 module _ (s : Summary) (above : ℕ) where
   -- A root type stands under none.
   pub root-line : s .level ≡ 1 → lined (rowsText s) ≡ typeText s above

@@ -2,7 +2,6 @@
 use Prim.Native.Nat.{ℕ, _-_, _^_}
 use mathlib.Core.Path.{_≡_, refl}
 use mathlib.Core.List.{List, [], _∷_, map}
-use Rattle.paper.specs.Adorned.{Summary}
 use Rattle.listing.specs.Text.{ascii, digitsIn, decimal}
 use Rattle.listing.specs.Names.{names, nameOf, nameText}
 use Rattle.screens.specs.Screens.{counted, indent, vowel, article, withArticle, countsText, figuresText, rowsText, underText, typeText}

@@ -1,7 +1,6 @@
 -- `figures::put_counts`: three numbers with their words, a comma and a space between them. Assumes nothing.
 use native.Mathlib.Omega.{arith}
-use Rattle.listing.proofs.Putting.{put-then}
-use Rattle.screens.specs.Screens.{countsText}
+use Rattle.screens.proofs.Lines.{two-counts, three-counts}
 use borrow.Author.Needs.{needs}
 use Rattle.screens.proofs.figures.put_counts.Statement.{statement}
 use Rattle.screens.proofs.figures.put_counts.Tie as tie
@@ -49,16 +48,15 @@ same-length : tie.Need-same-length
 same-length c = search needs
 
 returns : tie.Need-returns
-unfolding countsText
 returns c =
     let copies = c .before .before in
     let comma2 = copies .before .before .before .before .before .before in
     let rows = comma2 .before .before .before .before .before in
     let comma = rows .before .before .before .before .before .before in
     let lines = comma .before .before .before .before .before in
-    let first = put-then (put-then (lines .put-counted .ensures .0) (comma .put-bytes .ensures)) (rows .put-counted2 .ensures .0) in
-    let whole = put-then (put-then first (comma2 .put-bytes2 .ensures)) (copies .put-counted3 .ensures .0) in
-    (whole, omega arith)
+    let f = lines .before .before .before .before .before .args .f in
+    let first = two-counts (f .lines) (f .rows) (lines .put-counted .ensures .0) (comma .put-bytes .ensures) (rows .put-counted2 .ensures .0) in
+    (three-counts (f .lines) (f .rows) (f .copies) first (comma2 .put-bytes2 .ensures) (copies .put-counted3 .ensures .0), omega arith)
 
 pub put-counts-spec : {M : Type 1} → statement M
 put-counts-spec =

@@ -26,7 +26,7 @@ returns c =
     let number = gap .before .before .before .before in
     let a = number .before .before .before .before .before .args in
     let whole = put-then (number .put-number .ensures .0) (put-then (gap .put-byte .ensures) (word .put-bytes .ensures)) in
-    (put-as whole (counted-one (a .n) (a .one .now) (a .more .now) (test .if1 .taken)), omega arith)
+    (put-as whole (counted-one (a .n) (a .one .now) (a .more .now) (omega arith)), omega arith)
 
 put-bytes-requires-2 : tie.Need-put-bytes-requires-2
 put-bytes-requires-2 c κs = search needs
@@ -42,7 +42,7 @@ returns-2 c =
     let number = gap .before .before .before .before in
     let a = number .before .before .before .before .before .args in
     let whole = put-then (number .put-number .ensures .0) (put-then (gap .put-byte .ensures) (word .put-bytes2 .ensures)) in
-    (put-as whole (counted-more (a .n) (a .one .now) (a .more .now) (test .if1 .left)), omega arith)
+    (put-as whole (counted-more (a .n) (a .one .now) (a .more .now) (λ e. let z : ⊥ = omega arith in z)), omega arith)
 
 pub put-counted-spec : {M : Type 1} → statement M
 put-counted-spec =
