@@ -2,8 +2,8 @@
 use listing::put::put_byte;
 use listing::put::put_bytes;
 use printing::out::print;
-use printing::screen::Screen;
 use printing::screen::print_screen;
+use printing::screen::screen_named;
 ghost use Rattle.io.specs.Counts.{Counts};
 
 // A folder's name, a slash and a file's name; no bytes where the two are too long.
@@ -21,12 +21,12 @@ fn put_path(path: &mut [u8; 128], folder: &[u8], file: &[u8]) -> usize
     put_bytes(path, from, file)
 }
 
-fn print_in(folder: &[u8], screen: Screen) -> bool {
+fn print_in(folder: &[u8], word: &[u8]) -> bool {
     let mut source = [0u8; 128];
     let mut shape = [0u8; 128];
     let n = put_path(&mut source, folder, b"source.tab");
     let m = put_path(&mut shape, folder, b"shape.tab");
-    print_screen(&source[..n], &shape[..m], screen)
+    print_screen(&source[..n], &shape[..m], screen_named(word))
 }
 
 fn print_heading(folder: &[u8]) -> bool {
@@ -39,24 +39,24 @@ fn print_heading(folder: &[u8]) -> bool {
     print(b"\n")
 }
 
-fn print_headed(heading: &[u8], folder: &[u8], screen: Screen) -> bool {
+fn print_headed(heading: &[u8], folder: &[u8], word: &[u8]) -> bool {
     if !print(heading) {
         return false;
     }
-    print_in(folder, screen)
+    print_in(folder, word)
 }
 
 fn print_folder(folder: &[u8]) -> bool {
     if !print_heading(folder) {
         return false;
     }
-    if !print_in(folder, Screen::Listing) {
+    if !print_in(folder, b"") {
         return false;
     }
-    if !print_headed(b"-- summary\n", folder, Screen::Summary) {
+    if !print_headed(b"-- summary\n", folder, b"summary") {
         return false;
     }
-    print_headed(b"-- types\n", folder, Screen::Types)
+    print_headed(b"-- types\n", folder, b"types")
 }
 
 fn print_named(i: usize) -> bool {

@@ -1,6 +1,7 @@
 // The screens of the program, each of two files by their names.
 use crate::files::read_file;
 use crate::new_table::print_listing;
+use check::same;
 
 // Which screen is asked for.
 pub enum Screen {
@@ -8,6 +9,20 @@ pub enum Screen {
     Reported, // the listing, with what its first line names reported to the command
     Summary,
     Types,
+}
+
+// The screen that a word asks for: with none the listing alone, and with a word that is no other screen's the listing with its report.
+pub fn screen_named(word: &[u8]) -> Screen {
+    if word.len() == 0 {
+        return Screen::Listing;
+    }
+    if same(word, b"summary") {
+        return Screen::Summary;
+    }
+    if same(word, b"types") {
+        return Screen::Types;
+    }
+    Screen::Reported
 }
 
 fn print_of(table: &[u8], shape: &[u8], screen: Screen) -> bool {
