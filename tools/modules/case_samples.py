@@ -24,8 +24,8 @@ VALUES = range(0, 1000, 100)
 
 P8_TABLE = "1[2[3] 2[4]]"
 
-# these folders are about the names of labels, which no call gives
-OF_NAMES = "labels_22a", "labels_22b"
+# these folders are about what the program prints, which no call gives
+OF_TEXT = "labels_22a", "labels_22b", "cut_off", "label_1000"
 
 
 def expect(what, hand, said):
@@ -90,7 +90,7 @@ def meeting_at_1():
 def sample_files():
     """The tables and shapes of samples/, with the program's room and with 4,096 lines."""
     for name, table, shape in folders.samples():
-        for room in (folders.ROOM, paper01.MOST_LINES) if name not in OF_NAMES else ():
+        for room in (folders.ROOM, paper01.MOST_LINES) if name not in OF_TEXT else ():
             yield Case(table, shape, room=(room, 0, room))
 
 

@@ -1,4 +1,4 @@
-"""What the program tells of an answer for ./intake --explain, and what the command says, read from docs/HELP.md: a second reading."""
+"""What the program reports of an answer for ./intake --explain, and what the command says, read from docs/HELP.md: a second reading."""
 import pathlib, re, struct
 
 import samples, table_text
@@ -54,7 +54,7 @@ NAMED = {
 }
 
 
-def told(table, shape):
+def reported(table, shape):
     """The answer, and what it names, a line each."""
     answer = samples.listing(table, shape).split("\n")[0]
     kind, places = " ".join(answer.split(" ")[:2]), answer.split(" ")[2:]
@@ -75,6 +75,6 @@ def helped(answer):
 
 def explained(table, shape):
     """What ./intake --explain says on standard error."""
-    answer, *facts = told(table, shape)
+    answer, *facts = reported(table, shape)
     means, then = helped(answer)
     return "\n".join([answer, f"What it means: {means}", *(f"  {fact}" for fact in facts), f"What to do next: {then}"]) + "\n"

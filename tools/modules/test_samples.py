@@ -15,7 +15,7 @@ class Samples(unittest.TestCase):
         "rows_1024": ("verdict 0", 1024), "rows_1025": ("refused 1 0", 0), "level_6": ("verdict 0", 6), "level_7": ("refused 3 6", 0),
         "types_64": ("verdict 0", 2), "types_65": ("refused 4 64", 0), "entries_16": ("verdict 0", 48), "entries_17": ("refused 5 0", 0),
         "lines_1024": ("verdict 2 1 3", 1024), "lines_1025": ("refused 8 0", 0),
-        "labels_22a": ("verdict 0", 23), "labels_22b": ("verdict 0", 19),
+        "labels_22a": ("verdict 0", 23), "labels_22b": ("verdict 0", 19), "cut_off": ("refused 2 0", 0), "label_1000": ("refused 6 2", 0),
     }
     P4 = """verdict 0
 1 0 lease 2 200

@@ -1,4 +1,6 @@
-// The gate's run of what the program does: every screen of every folder that is named, one after the other, beside the names.
+// The gate's run of what the program does: every screen of every folder that is named, one after the other, with a heading each. What the
+// program reports to the command stands in the listing here.
+use libc::STDOUT_FILENO;
 use listing::put::put_byte;
 use listing::put::put_bytes;
 use printing::out::print;
@@ -26,7 +28,7 @@ fn print_in(folder: &[u8], word: &[u8]) -> bool {
     let mut shape = [0u8; 128];
     let n = put_path(&mut source, folder, b"source.tab");
     let m = put_path(&mut shape, folder, b"shape.tab");
-    print_screen(&source[..n], &shape[..m], screen_named(word))
+    print_screen(&source[..n], &shape[..m], screen_named(word), STDOUT_FILENO)
 }
 
 fn print_heading(folder: &[u8]) -> bool {
@@ -51,6 +53,9 @@ fn print_folder(folder: &[u8]) -> bool {
         return false;
     }
     if !print_in(folder, b"") {
+        return false;
+    }
+    if !print_headed(b"-- report\n", folder, b"listing") {
         return false;
     }
     if !print_headed(b"-- summary\n", folder, b"summary") {

@@ -5,15 +5,18 @@ use printing::out::report_whole;
 use printing::screen::print_screen;
 use printing::screen::screen_named;
 
+// The channel that the command opens. Where it is not open, a write to it reports nothing.
+const REPORT: i32 = 3;
+
 fn main() {
     let mut word = [0u8; 16];
     let n = os::arg(1, &mut word);
     let screen = screen_named(&word[..n]);
-    let done = print_screen(b"source.tab", b"shape.tab", screen);
+    let done = print_screen(b"source.tab", b"shape.tab", screen, REPORT);
     if n == 0 {
         return;
     }
     if done {
-        report_whole(done);
+        report_whole(REPORT, done);
     }
 }

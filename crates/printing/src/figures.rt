@@ -1,5 +1,6 @@
 // The figures of a summary, a line for each entry.
 use crate::new_table::print_refused;
+use crate::out::NOWHERE;
 use crate::out::print;
 use screens::figures::Figures;
 use screens::figures::put_figures;
@@ -47,7 +48,7 @@ pub fn print_summary(table: &[u8], shape: &[u8]) -> bool {
     let number = s.number;
     let place = s.place;
     if number != 0 {
-        return print_refused(table, shape, number, place, false);
+        return print_refused(table, shape, number, place, NOWHERE);
     }
     let lines = s.lines;
     let rows = s.rows;

@@ -1,4 +1,5 @@
 // The listing: a refusal, or the verdict and a line for each line of the new table.
+use crate::out::NOWHERE;
 use crate::out::print;
 use crate::out::report;
 use crate::report::report_refused;
@@ -11,42 +12,42 @@ use silmezga::reader::handed;
 ghost use mathlib.Core.Path.{_≡_};
 ghost use lib.ListN.{length};
 
-// Prints a refusal, and reports it, with what it names, where that is wanted.
+// Prints a refusal, and reports it, with what it names, if there is a channel.
 pub fn print_refused(
     table: &[u8],
     shape: &[u8],
     number: usize,
     place: usize,
-    reported: bool,
+    channel: i32,
 ) -> bool {
     let mut text = [0u8; 256];
     let n = put_refused(&mut text, number, place);
     if !print(&text[..n]) {
         return false;
     }
-    if !reported {
+    if channel == NOWHERE {
         return true;
     }
-    if !report(&text[..n]) {
+    if !report(channel, &text[..n]) {
         return false;
     }
-    report_refused(table, shape, number, place)
+    report_refused(channel, table, shape, number, place)
 }
 
-// Prints a verdict, and reports it, with what it names, where that is wanted.
-fn print_verdict(table: &[u8], shape: &[u8], v: Verdict, reported: bool) -> bool {
+// Prints a verdict, and reports it, with what it names, if there is a channel.
+fn print_verdict(table: &[u8], shape: &[u8], v: Verdict, channel: i32) -> bool {
     let mut text = [0u8; 256];
     let n = put_verdict(&mut text, v);
     if !print(&text[..n]) {
         return false;
     }
-    if !reported {
+    if channel == NOWHERE {
         return true;
     }
-    if !report(&text[..n]) {
+    if !report(channel, &text[..n]) {
         return false;
     }
-    report_verdict(table, shape, v)
+    report_verdict(channel, table, shape, v)
 }
 
 fn print_line(row: &[u8], source: u32) -> bool
@@ -82,25 +83,25 @@ fn print_reshaped(
     shape: &[u8],
     table: &mut [u8],
     sources: &mut [u32],
-    reported: bool,
+    channel: i32,
 ) -> bool {
     let r = silmezga::reshape(source, shape, table, sources);
     let number = r.number;
     let place = r.place;
     if number != 0 {
-        return print_refused(source, shape, number, place, reported);
+        return print_refused(source, shape, number, place, channel);
     }
     let j = silmezga::judge(source, shape);
     let v = j.verdict;
-    if !print_verdict(source, shape, v, reported) {
+    if !print_verdict(source, shape, v, channel) {
         return false;
     }
     print_lines(table, sources, r.lines)
 }
 
-// Prints the listing of a table and a shape, with room for 1,024 lines. Where it is wanted, the answer and what it names are reported too.
-pub fn print_listing(source: &[u8], shape: &[u8], reported: bool) -> bool {
+// Prints the listing of a table and a shape, with room for 1,024 lines. If there is a channel, the answer and what it names are reported.
+pub fn print_listing(source: &[u8], shape: &[u8], channel: i32) -> bool {
     let mut new = [0u8; 24576];
     let mut sources = [0u32; 1024];
-    print_reshaped(source, shape, &mut new, &mut sources, reported)
+    print_reshaped(source, shape, &mut new, &mut sources, channel)
 }

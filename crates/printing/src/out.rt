@@ -3,8 +3,8 @@ use libc::STDOUT_FILENO;
 ghost use mathlib.Core.Path.{_≡_};
 ghost use mathlib.Core.Bool.{true};
 
-// Where the program reports to the command that ran it. The command opens it; a write to it that fails reports nothing.
-const REPORT: i32 = 3;
+// No channel, to which nothing is reported.
+pub const NOWHERE: i32 = -1;
 
 // Writes a text to standard output. Where not all of it is taken, standard error says that what stands there is not whole.
 pub fn print(text: &[u8]) -> bool {
@@ -15,14 +15,14 @@ pub fn print(text: &[u8]) -> bool {
     false
 }
 
-// Reports a text to the command.
-pub fn report(text: &[u8]) -> bool {
-    io::write_all(REPORT, text)
+// Reports a text on a channel.
+pub fn report(channel: i32, text: &[u8]) -> bool {
+    io::write_all(channel, text)
 }
 
 // Reports that everything was written, which nobody may who has not found it so.
-pub fn report_whole(done: bool) -> bool
+pub fn report_whole(channel: i32, done: bool) -> bool
     requires { ⌜ done ≡ true ⌝ }
 {
-    report(b"whole\n")
+    report(channel, b"whole\n")
 }

@@ -1,4 +1,4 @@
-// What the program reports to the command of an answer, beside its listing: the rows and the entries that it names.
+// What the program reports of an answer beside its listing, on a channel: the rows and the entries that it names.
 use crate::out::report;
 use facts::entry::put_entry;
 use facts::entry::put_entry_fields;
@@ -40,7 +40,7 @@ fn type_held(table: &[u8], r: usize) -> [u8; 16] {
 }
 
 // A row that keeps the rules.
-fn report_row(table: &[u8], r: usize) -> bool {
+fn report_row(channel: i32, table: &[u8], r: usize) -> bool {
     let row = handed(table, r);
     if row.len() != 24 {
         return false;
@@ -48,13 +48,13 @@ fn report_row(table: &[u8], r: usize) -> bool {
     let held = type_held(table, r);
     let mut text = [0u8; 512];
     let n = put_row(&mut text, r, row, &held);
-    report(&text[..n])
+    report(channel, &text[..n])
 }
 
 // A row that breaks a rule, after the row before it.
-fn report_broken_row(table: &[u8], r: usize) -> bool {
+fn report_broken_row(channel: i32, table: &[u8], r: usize) -> bool {
     if 0 < r {
-        if !report_row(table, r - 1) {
+        if !report_row(channel, table, r - 1) {
             return false;
         }
     }
@@ -64,66 +64,72 @@ fn report_broken_row(table: &[u8], r: usize) -> bool {
     }
     let mut text = [0u8; 512];
     let n = put_row_fields(&mut text, r, row);
-    report(&text[..n])
+    report(channel, &text[..n])
 }
 
 // An entry that keeps the rules.
-fn report_entry(shape: &[u8], e: usize) -> bool {
+fn report_entry(channel: i32, shape: &[u8], e: usize) -> bool {
     if shape.len() / 16 <= e {
         return false;
     }
     let mut text = [0u8; 512];
     let n = put_entry(&mut text, e, bytes::record(shape, 16, e));
-    report(&text[..n])
+    report(channel, &text[..n])
 }
 
 // An entry that breaks a rule.
-fn report_broken_entry(shape: &[u8], e: usize) -> bool {
+fn report_broken_entry(channel: i32, shape: &[u8], e: usize) -> bool {
     if shape.len() / 16 <= e {
         return false;
     }
     let mut text = [0u8; 512];
     let n = put_entry_fields(&mut text, e, bytes::record(shape, 16, e));
-    report(&text[..n])
+    report(channel, &text[..n])
 }
 
 // The row or the entry that a refusal names; refusals that name none report nothing more.
-pub fn report_refused(table: &[u8], shape: &[u8], number: usize, place: usize) -> bool {
+pub fn report_refused(
+    channel: i32,
+    table: &[u8],
+    shape: &[u8],
+    number: usize,
+    place: usize,
+) -> bool {
     if number == 3 {
-        return report_broken_row(table, place);
+        return report_broken_row(channel, table, place);
     }
     if number == 4 {
-        return report_row(table, place);
+        return report_row(channel, table, place);
     }
     if number == 6 {
-        return report_broken_entry(shape, place);
+        return report_broken_entry(channel, shape, place);
     }
     if number == 7 {
-        return report_entry(shape, place);
+        return report_entry(channel, shape, place);
     }
     true
 }
 
-fn report_pair(shape: &[u8], first: usize, second: usize) -> bool {
-    if !report_entry(shape, first) {
+fn report_pair(channel: i32, shape: &[u8], first: usize, second: usize) -> bool {
+    if !report_entry(channel, shape, first) {
         return false;
     }
-    report_entry(shape, second)
+    report_entry(channel, shape, second)
 }
 
-fn report_missing(table: &[u8], shape: &[u8], entry: usize, row: usize) -> bool {
-    if !report_entry(shape, entry) {
+fn report_missing(channel: i32, table: &[u8], shape: &[u8], entry: usize, row: usize) -> bool {
+    if !report_entry(channel, shape, entry) {
         return false;
     }
-    report_row(table, row)
+    report_row(channel, table, row)
 }
 
 // The row or the two entries that a verdict names.
-pub fn report_verdict(table: &[u8], shape: &[u8], v: Verdict) -> bool {
+pub fn report_verdict(channel: i32, table: &[u8], shape: &[u8], v: Verdict) -> bool {
     match v {
         Verdict::Kept => true,
-        Verdict::Missing { entry, row } => report_missing(table, shape, entry, row),
-        Verdict::Apart { first, second } => report_pair(shape, first, second),
-        Verdict::Unsure { first, second } => report_pair(shape, first, second),
+        Verdict::Missing { entry, row } => report_missing(channel, table, shape, entry, row),
+        Verdict::Apart { first, second } => report_pair(channel, shape, first, second),
+        Verdict::Unsure { first, second } => report_pair(channel, shape, first, second),
     }
 }

@@ -1,12 +1,13 @@
 // The screens of the program, each of two files by their names.
 use crate::files::read_file;
 use crate::new_table::print_listing;
+use crate::out::NOWHERE;
 use check::same;
 
 // Which screen is asked for.
 pub enum Screen {
     Listing,
-    Reported, // the listing, with what its first line names reported to the command
+    Reported, // the listing, with what its first line names reported
     Summary,
     Types,
 }
@@ -25,18 +26,18 @@ pub fn screen_named(word: &[u8]) -> Screen {
     Screen::Reported
 }
 
-fn print_of(table: &[u8], shape: &[u8], screen: Screen) -> bool {
+fn print_of(table: &[u8], shape: &[u8], screen: Screen, channel: i32) -> bool {
     match screen {
-        Screen::Listing => print_listing(table, shape, false),
-        Screen::Reported => print_listing(table, shape, true),
+        Screen::Listing => print_listing(table, shape, NOWHERE),
+        Screen::Reported => print_listing(table, shape, channel),
         Screen::Summary => crate::figures::print_summary(table, shape),
         Screen::Types => crate::types_tree::print_types(table, shape),
     }
 }
 
-// Reads the two files and prints a screen of them. One byte more than a table or a shape may have is read of each, so that one that is too
+// Reads the two files and prints a screen of them; a report goes to the channel. One byte more than a table or a shape may have is read of each, so that one that is too
 // long is refused.
-pub fn print_screen(source: &[u8], wanted: &[u8], screen: Screen) -> bool {
+pub fn print_screen(source: &[u8], wanted: &[u8], screen: Screen, channel: i32) -> bool {
     let mut table = [0u8; 24577];
     let mut shape = [0u8; 257];
     let t = read_file(source, &mut table);
@@ -49,5 +50,5 @@ pub fn print_screen(source: &[u8], wanted: &[u8], screen: Screen) -> bool {
     if !s.good {
         return false;
     }
-    print_of(&table[..n], &shape[..m], screen)
+    print_of(&table[..n], &shape[..m], screen, channel)
 }

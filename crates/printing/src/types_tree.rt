@@ -1,5 +1,6 @@
 // The types of a table, as an indented tree: below a type those whose parent it is, in the order of their first rows.
 use crate::new_table::print_refused;
+use crate::out::NOWHERE;
 use crate::out::print;
 use adorned::TypeSummary;
 use adorned::adorn_by_value;
@@ -81,7 +82,7 @@ pub fn print_types(table: &[u8], shape: &[u8]) -> bool {
     let number = a.number;
     let place = a.place;
     if number != 0 {
-        return print_refused(table, shape, number, place, false);
+        return print_refused(table, shape, number, place, NOWHERE);
     }
     let all = a.summaries;
     print_tree(all, a.count)
