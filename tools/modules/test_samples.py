@@ -1,7 +1,7 @@
 """Tests of the folders of samples/ and of their listings."""
 import re, unittest
 
-import paper01, samples, table_text
+import explained, paper01, samples, table_text
 from test_text import A_BYTES
 from testing import ROOT, loaded
 
@@ -59,16 +59,20 @@ class Samples(unittest.TestCase):
                 self.assertEqual(table_text.shape_from((folder / "shape.txt").read_text(), kinds), shape, name)
             self.assertRegex(told, rf"\b{name}\b")
 
+    # what is wrong with the tables and shapes that no text can say
+    TABLES = {"rows_1025": "at most 1,024 rows", "level_7": "row 6 breaks a rule: its level is 7", "cut_off": "the last 23 bytes are no whole row"}
+    SHAPES = {"entries_17": "at most 16 entries", "label_1000": "entry 2 breaks a rule"}
+
     def test_round_trips(self):
         for name, table, shape in samples.samples():
             text, fault = table_text.show_table(table)
-            if name in ("rows_1025", "level_7"):
-                self.assertIn({"rows_1025": "at most 1,024 rows", "level_7": "row 6 breaks a rule: its level is 7"}[name], fault)
+            if name in self.TABLES:
+                self.assertIn(self.TABLES[name], fault)
             else:
                 self.assertEqual((table_text.table_from(text), fault), (table, None), name)
             text, fault = table_text.show_shape(shape)
-            if name == "entries_17":
-                self.assertIn("at most 16 entries", fault)
+            if name in self.SHAPES:
+                self.assertIn(self.SHAPES[name], fault)
             else:
                 self.assertEqual((table_text.shape_from(text), fault), (shape, None), name)
                 self.assertEqual(table_text.shape_from(text, table_text.kinds_of(table)), shape, name)
@@ -101,8 +105,10 @@ class Samples(unittest.TestCase):
         both = {name: (table, shape) for name, table, shape in samples.samples()}
         for name, text in zip(parts[1::2], parts[2::2]):
             table, shape = both[name]
-            texts = re.split("(?m)^-- (?:summary|types)\n", text)
-            self.assertEqual(texts, [self.listed(name), samples.summary(table, shape), samples.types(table)], name)
+            texts = re.split("(?m)^-- (?:report|summary|types)\n", text)
+            first, lines = self.listed(name).split("\n", 1)
+            report = "\n".join([first, *explained.reported(table, shape), lines])
+            self.assertEqual(texts, [self.listed(name), report, samples.summary(table, shape), samples.types(table)], name)
 
     def test_fans(self):
         """The tape kept by asset is the new table of the tape kept by lessee."""
