@@ -2,6 +2,7 @@
 import re, unittest
 
 import explained, paper01, samples, table_text
+from case_samples import P4
 from test_text import A_BYTES
 from testing import ROOT, loaded
 
@@ -17,25 +18,13 @@ class Samples(unittest.TestCase):
         "lines_1024": ("verdict 2 1 3", 1024), "lines_1025": ("refused 8 0", 0),
         "labels_22a": ("verdict 0", 23), "labels_22b": ("verdict 0", 19), "cut_off": ("refused 2 0", 0), "label_1000": ("refused 6 2", 0),
     }
-    P4 = """verdict 0
-1 0 lease 2 200
-1.1 1 lessee 1 100
-1.2 2 asset 3 300
-1.3 2 asset 4 400
-2 0 lease 5 500
-2.1 1 lessee 1 100
-2.2 2 asset 6 600
-3 0 lease 8 800
-3.1 1 lessee 7 700
-"""
-
     def listed(self, name):
         return (samples.FOLDER / name / "listing").read_text()
 
     def test_by_hand(self):
         for name, (first, lines) in self.BY_HAND.items():
             self.assertEqual((self.listed(name).split("\n")[0], self.listed(name).count("\n") - 1), (first, lines), name)
-        self.assertEqual(self.listed("p4"), self.P4)
+        self.assertEqual(self.listed("p4"), P4)
         for name, verdict in (("fans_by_lessee", 0), ("fans_by_asset", 0), ("fans_lost", 1), ("fans_made_up", 2), ("fans_missing", 3)):
             self.assertTrue(self.listed(name).startswith(f"verdict {verdict}"), name)
 

@@ -1,7 +1,7 @@
 -- Facts of rows and entries, proved by computation. Assumes nothing.
 use Prim.Native.Nat.{ℕ, _-_, _^_}
 use mathlib.Core.Path.{_≡_, refl}
-use mathlib.Core.List.{List, [], _∷_, _++_, map}
+use mathlib.Core.List.{List, [], _∷_, map}
 use Rattle.paper.specs.Opened.{opened}
 use Rattle.paper.specs.Samples.{row, entry, portfolio, lessee, lease, asset}
 use Rattle.listing.specs.Text.{ascii, digitsIn, decimal, signedText, followed, parted}

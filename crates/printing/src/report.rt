@@ -7,8 +7,6 @@ use facts::row::put_row_fields;
 use silmezga::Verdict;
 use silmezga::reader::handed;
 use tables::row::smaller;
-ghost use mathlib.Core.Path.{_≡_};
-ghost use lib.ListN.{length};
 
 // One more row: where it has a level, its label stands there, and the level is the length of the type.
 fn add_row(held: &mut [u8; 16], row: &[u8]) {

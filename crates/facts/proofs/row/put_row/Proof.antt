@@ -1,6 +1,5 @@
 -- `row::put_row`: the parts, one after the other. Assumes nothing.
 use Rattle.io.proofs.Counting.{counts}
-use Rattle.paper.specs.Tables.{rowOf}
 use Rattle.listing.proofs.Putting.{put-then, put-last}
 use Rattle.facts.specs.Facts.{joined, joinedLine, rowText}
 use Rattle.facts.proofs.Telling.{room}
