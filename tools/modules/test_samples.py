@@ -18,6 +18,7 @@ class Samples(unittest.TestCase):
         "lines_1024": ("verdict 2 1 3", 1024), "lines_1025": ("refused 8 0", 0),
         "labels_22a": ("verdict 0", 23), "labels_22b": ("verdict 0", 19), "cut_off": ("refused 2 0", 0), "label_1000": ("refused 6 2", 0),
     }
+
     def listed(self, name):
         return (samples.FOLDER / name / "listing").read_text()
 
