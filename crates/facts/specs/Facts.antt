@@ -2,7 +2,7 @@
 use Prim.Native.Nat.{ℕ}
 use mathlib.Core.List.{List, [], _∷_, map}
 use lib.ListN.{take}
-use Rattle.paper.specs.Lists.{joinMap}
+use Rattle.paper.specs.Lists.{joined}
 use Rattle.paper.specs.Format.{base, signed}
 use Rattle.paper.specs.Tables.{rowOf, dewey}
 use Rattle.paper.specs.Shapes.{entryOf}
@@ -10,11 +10,7 @@ use Rattle.listing.specs.Text.{ascii, space, decimal, signedText, followed}
 use Rattle.listing.specs.Names.{nameText}
 use Rattle.listing.specs.Listing.{lined, deweyText}
 
--- the parts, one after the other
-unfoldable pub joined : List (List ℕ) → List ℕ
-joined ps = joinMap (λ p. p) ps
-
--- the same as a line
+-- the parts, one after the other, as a line
 unfoldable pub joinedLine : List (List ℕ) → List ℕ
 joinedLine ps = lined (joined ps)
 

@@ -7,7 +7,7 @@ use Rattle.paper.specs.Samples.{row, entry, portfolio, lessee, lease, asset}
 use Rattle.listing.specs.Text.{ascii, digitsIn, decimal, signedText, followed, parted}
 use Rattle.listing.specs.Names.{names, nameOf, nameText}
 use Rattle.listing.specs.Listing.{deweyText}
-use Rattle.facts.specs.Facts.{joined, joinedLine, namesText, labelsText, entryText, rowText, rowHead, rowFields, entryHead, entryFields}
+use Rattle.facts.specs.Facts.{joinedLine, namesText, labelsText, entryText, rowText, rowHead, rowFields, entryHead, entryFields}
 
 -- a level 7, and labels that are not there
 wrongEntry : List ℕ
@@ -31,5 +31,5 @@ samples =
 -- every sample is reported as it should be
 pub samples-hold : map (λ (p : List ℕ × List ℕ). p .0) samples ≡ map (λ (p : List ℕ × List ℕ). p .1) samples
 unfolding opened row entry portfolio lessee lease asset digitsIn decimal signedText followed parted names nameOf nameText deweyText
-    joined joinedLine namesText labelsText entryText rowText rowHead rowFields entryHead entryFields wrongEntry samples
+    joinedLine namesText labelsText entryText rowText rowHead rowFields entryHead entryFields wrongEntry samples
 samples-hold = refl

@@ -1,21 +1,28 @@
 -- Any two answers that a contract allows are equal. Assumes nothing.
-use Prim.Native.Nat.{ℕ}
+use Prim.Native.Nat.{ℕ, _*_}
 use mathlib.Core.Path.{_≡_, sym, _∙_, ap}
 use mathlib.Core.List.{List}
-use Rattle.paper.specs.Format.{base}
-use Rattle.paper.specs.Calls.{Reply, Figures, reshape, summarise}
-use Rattle.reshaping.specs.Reshaped.{reshaped, summarised}
+use lib.ListN.{take}
+use Rattle.paper.specs.Format.{base, rowBytes}
+use Rattle.paper.specs.Verdict.{kept}
+use Rattle.paper.specs.Links.{LinksKept}
+use Rattle.paper.specs.Calls.{Reply, Figures, judge, summarise}
+use Rattle.reshaping.specs.Reshaped.{summarised, Reshapes}
 use Rattle.reshaping.specs.declared.reshape.Reshaped.{Reshaped}
 use Rattle.reshaping.specs.declared.summarise.Summary.{Summary}
 
--- reshaping: the answer, and every lent byte and place after it
-pub reshape-unique : (t s table sources : List ℕ) (a b : Reshaped) (table₁ table₂ sources₁ sources₂ : List ℕ)
-    → reshaped a ≡ reshape base t s table sources .reply → reshaped b ≡ reshape base t s table sources .reply
-    → table₁ ≡ reshape base t s table sources .table → table₂ ≡ reshape base t s table sources .table
-    → sources₁ ≡ reshape base t s table sources .sources → sources₂ ≡ reshape base t s table sources .sources
-    → (a ≡ b) × (table₁ ≡ table₂) × (sources₁ ≡ sources₂)
-reshape-unique t s table sources a b table₁ table₂ sources₁ sources₂ ea eb ta tb sa sb =
-    (ap {B = Reshaped} (λ (r : Reply ℕ). record { number = r .number; place = r .place; lines = r .rest }) (ea ∙ sym eb), ta ∙ sym tb, sa ∙ sym sb)
+module _ {t s new sources new₁ sources₁ : List ℕ} {a : Reshaped} (p : Reshapes t s new sources a new₁ sources₁) where
+  -- Two reshapes that keep the promise give one answer, and leave the same in every lent byte and place.
+  pub reshape-unique : {new₂ sources₂ : List ℕ} {b : Reshaped} → Reshapes t s new sources b new₂ sources₂ → (a ≡ b) × (new₁ ≡ new₂) × (sources₁ ≡ sources₂)
+  reshape-unique q = (
+    ap {B = Reshaped} (λ (r : Reply ℕ). record { number = r .number; place = r .place; lines = r .rest }) (p .answer ∙ sym (q .answer)),
+    p .bytes ∙ sym (q .bytes),
+    p .places ∙ sym (q .places),
+  )
+
+  -- Demand 3 is a part of the promise.
+  pub links-promised : a .number ≡ 0 → judge base t s .rest ≡ kept → LinksKept base t s (take (a .lines * rowBytes base) new₁) (take (a .lines) sources₁)
+  links-promised = p .links
 
 pub summarise-unique : (t s : List ℕ) (a b : Summary) → summarised a ≡ summarise base t s → summarised b ≡ summarise base t s → a ≡ b
 summarise-unique t s a b ea eb =

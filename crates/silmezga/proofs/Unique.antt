@@ -60,16 +60,14 @@ reshape-asks κs a = tt
 -- the answer, and every lent byte and place after it
 pub reshape-settled : Settles {X = Reshaped × (List ℕ × List ℕ)} reshape.Learnt (λ κs r e. (r, (now (e .1 .1 .0), now (e .1 .1 .1 .0))))
 reshape-settled κs a r s e f x y =
-    let u = reshaping.reshape-unique (now (a .0)) (now (a .1 .0)) (now (a .1 .1 .0)) (now (a .1 .1 .1 .0)) r s
-    (now (e .1 .1 .0)) (now (f .1 .1 .0)) (now (e .1 .1 .1 .0)) (now (f .1 .1 .1 .0))
-    (x .answer) (y .answer) (x .bytes) (y .bytes) (x .places) (y .places) in
+    let u = reshaping.reshape-unique x y in
     λ i. (u .0 i, (u .1 i, u .2 i))
 
 -- demand 3: where the reshape is accepted and the verdict on the same table and shape is 0, what the call leaves keeps the links
 pub reshape-keeps-links : (κs : _) (a : _) (r : Reshaped) (e : _) → reshape.Learnt κs a r e
     → r .number ≡ 0 → judge base (now (a .0)) (now (a .1 .0)) .rest ≡ kept
     → LinksKept base (now (a .0)) (now (a .1 .0)) (take (r .lines * rowBytes base) (now (e .1 .1 .0))) (take (r .lines) (now (e .1 .1 .1 .0)))
-reshape-keeps-links κs a r e x = x .links
+reshape-keeps-links κs a r e x = reshaping.links-promised x
 
 pub summarise-asks : Asks-nothing summarise.Asked
 summarise-asks κs a = tt

@@ -2,7 +2,7 @@
 use native.Mathlib.Omega.{arith}
 use Rattle.io.proofs.Counting.{counts}
 use Rattle.listing.proofs.Putting.{as-long, put-then, put-last}
-use Rattle.facts.specs.Facts.{joined, joinedLine, entryText}
+use Rattle.facts.specs.Facts.{joinedLine, entryText}
 use borrow.Author.Needs.{needs}
 use Rattle.facts.proofs.entry.put_entry.Statement.{statement}
 use Rattle.facts.proofs.entry.put_entry.Tie as tie
@@ -23,7 +23,7 @@ put-byte-requires-2 : tie.Need-put-byte-requires-2
 put-byte-requires-2 c κs = search needs
 
 returns : tie.Need-returns
-unfolding joined joinedLine entryText
+unfolding joinedLine entryText
 returns c =
     let labels = c .before .before in
     let colon = labels .before .before in

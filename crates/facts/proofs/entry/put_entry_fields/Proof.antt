@@ -3,8 +3,8 @@ use Rattle.io.proofs.Counting.{counts}
 use Rattle.paper.specs.Format.{base}
 use Rattle.paper.specs.Shapes.{entryOf}
 use Rattle.listing.proofs.Putting.{put-then, put-last}
-use Rattle.facts.specs.Facts.{joined, joinedLine, entryFields}
-use Rattle.facts.proofs.Telling.{room}
+use Rattle.facts.specs.Facts.{joinedLine, entryFields}
+use Rattle.facts.proofs.Parts.{room}
 use borrow.Author.Needs.{needs}
 use Rattle.facts.proofs.entry.put_entry_fields.Statement.{statement}
 use Rattle.facts.proofs.entry.put_entry_fields.Tie as tie
@@ -25,7 +25,7 @@ put-byte-requires : tie.Need-put-byte-requires
 put-byte-requires c κs = search needs
 
 returns : tie.Need-returns
-unfolding base entryOf joined joinedLine entryFields
+unfolding base entryOf joinedLine entryFields
 returns c =
     let l = c .before .before in
     let w = l .before .before in

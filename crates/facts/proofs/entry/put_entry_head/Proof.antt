@@ -5,8 +5,8 @@ use Rattle.paper.specs.Format.{base}
 use Rattle.paper.specs.Shapes.{entryOf}
 use Rattle.listing.specs.Text.{ascii}
 use Rattle.listing.proofs.Putting.{put-then, put-last}
-use Rattle.facts.specs.Facts.{joined, entryHead}
-use Rattle.facts.proofs.Telling.{put-number-as}
+use Rattle.facts.specs.Facts.{entryHead}
+use Rattle.facts.proofs.Parts.{put-number-as}
 use borrow.Author.Needs.{needs}
 use Rattle.facts.proofs.entry.put_entry_head.Statement.{statement}
 use Rattle.facts.proofs.entry.put_entry_head.Tie as tie
@@ -51,7 +51,7 @@ put-named-requires-4 : tie.Need-put-named-requires-4
 put-named-requires-4 c κs = search needs
 
 returns : tie.Need-returns
-unfolding base entryOf joined entryHead
+unfolding base entryOf entryHead
 returns c =
     let word = c .before in
     let third = word .before .before .before in

@@ -10,7 +10,7 @@ use Rattle.listing.specs.Text.{space, followed}
 use Rattle.listing.specs.Names.{nameText}
 use Rattle.listing.proofs.Putting.{put-as}
 use Rattle.facts.specs.Facts.{namesText, labelsText}
-use Rattle.facts.proofs.Telling.{take-six}
+use Rattle.facts.proofs.Parts.{take-six}
 use borrow.Author.Needs.{needs}
 use Rattle.facts.proofs.entry.put_labels.Statement.{statement}
 use Rattle.facts.proofs.entry.put_labels.Tie as tie

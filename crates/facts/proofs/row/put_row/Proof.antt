@@ -1,8 +1,8 @@
 -- `row::put_row`: the parts, one after the other. Assumes nothing.
 use Rattle.io.proofs.Counting.{counts}
 use Rattle.listing.proofs.Putting.{put-then, put-last}
-use Rattle.facts.specs.Facts.{joined, joinedLine, rowText}
-use Rattle.facts.proofs.Telling.{room}
+use Rattle.facts.specs.Facts.{joinedLine, rowText}
+use Rattle.facts.proofs.Parts.{room}
 use borrow.Author.Needs.{needs}
 use Rattle.facts.proofs.row.put_row.Statement.{statement}
 use Rattle.facts.proofs.row.put_row.Tie as tie
@@ -41,7 +41,7 @@ put-byte-requires-2 : tie.Need-put-byte-requires-2
 put-byte-requires-2 c κs = search needs
 
 returns : tie.Need-returns
-unfolding joined joinedLine rowText
+unfolding joinedLine rowText
 returns c =
     let v = c .before .before in
     let w = v .before .before in

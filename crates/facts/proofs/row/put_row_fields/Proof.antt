@@ -3,8 +3,8 @@ use Rattle.io.proofs.Counting.{counts}
 use Rattle.paper.specs.Format.{base}
 use Rattle.paper.specs.Tables.{rowOf}
 use Rattle.listing.proofs.Putting.{put-then, put-last}
-use Rattle.facts.specs.Facts.{joined, joinedLine, rowFields}
-use Rattle.facts.proofs.Telling.{room}
+use Rattle.facts.specs.Facts.{joinedLine, rowFields}
+use Rattle.facts.proofs.Parts.{room}
 use borrow.Author.Needs.{needs}
 use Rattle.facts.proofs.row.put_row_fields.Statement.{statement}
 use Rattle.facts.proofs.row.put_row_fields.Tie as tie
@@ -34,7 +34,7 @@ put-byte-requires : tie.Need-put-byte-requires
 put-byte-requires c κs = search needs
 
 returns : tie.Need-returns
-unfolding base rowOf joined joinedLine rowFields
+unfolding base rowOf joinedLine rowFields
 returns c =
     let v = c .before .before in
     let w2 = v .before .before in

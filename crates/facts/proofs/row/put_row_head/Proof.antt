@@ -5,8 +5,8 @@ use Rattle.paper.specs.Format.{base}
 use Rattle.paper.specs.Tables.{rowOf}
 use Rattle.listing.specs.Text.{ascii}
 use Rattle.listing.proofs.Putting.{put-then, put-last}
-use Rattle.facts.specs.Facts.{joined, rowHead}
-use Rattle.facts.proofs.Telling.{put-number-as}
+use Rattle.facts.specs.Facts.{rowHead}
+use Rattle.facts.proofs.Parts.{put-number-as}
 use borrow.Author.Needs.{needs}
 use Rattle.facts.proofs.row.put_row_head.Statement.{statement}
 use Rattle.facts.proofs.row.put_row_head.Tie as tie
@@ -51,7 +51,7 @@ put-named-requires-4 : tie.Need-put-named-requires-4
 put-named-requires-4 c κs = search needs
 
 returns : tie.Need-returns
-unfolding base rowOf joined rowHead
+unfolding base rowOf rowHead
 returns c =
     let word = c .before in
     let third = word .before .before .before in
