@@ -1,6 +1,5 @@
 // The figures of a summary, a line for each entry.
 use crate::new_table::print_refused;
-use crate::out::NOWHERE;
 use crate::out::print;
 use screens::figures::Figures;
 use screens::figures::put_figures;
@@ -48,7 +47,7 @@ pub fn print_summary(table: &[u8], shape: &[u8]) -> bool {
     let number = s.number;
     let place = s.place;
     if number != 0 {
-        return print_refused(table, shape, number, place, NOWHERE);
+        return print_refused(number, place);
     }
     let lines = s.lines;
     let rows = s.rows;

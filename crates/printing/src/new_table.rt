@@ -1,7 +1,5 @@
 // The listing: a refusal, or the verdict and a line for each line of the new table.
-use crate::out::NOWHERE;
 use crate::out::print;
-use crate::out::report;
 use crate::report::report_refused;
 use crate::report::report_verdict;
 use listing::answers::put_refused;
@@ -12,42 +10,17 @@ use silmezga::reader::handed;
 ghost use mathlib.Core.Path.{_≡_};
 ghost use lib.ListN.{length};
 
-// Prints a refusal, and reports it, with what it names, if there is a channel.
-pub fn print_refused(
-    table: &[u8],
-    shape: &[u8],
-    number: usize,
-    place: usize,
-    channel: i32,
-) -> bool {
+// Prints a refusal, as every screen does.
+pub fn print_refused(number: usize, place: usize) -> bool {
     let mut text = [0u8; 256];
     let n = put_refused(&mut text, number, place);
-    if !print(&text[..n]) {
-        return false;
-    }
-    if channel == NOWHERE {
-        return true;
-    }
-    if !report(channel, &text[..n]) {
-        return false;
-    }
-    report_refused(channel, table, shape, number, place)
+    print(&text[..n])
 }
 
-// Prints a verdict, and reports it, with what it names, if there is a channel.
-fn print_verdict(table: &[u8], shape: &[u8], v: Verdict, channel: i32) -> bool {
+fn print_verdict(v: Verdict) -> bool {
     let mut text = [0u8; 256];
     let n = put_verdict(&mut text, v);
-    if !print(&text[..n]) {
-        return false;
-    }
-    if channel == NOWHERE {
-        return true;
-    }
-    if !report(channel, &text[..n]) {
-        return false;
-    }
-    report_verdict(channel, table, shape, v)
+    print(&text[..n])
 }
 
 fn print_line(row: &[u8], source: u32) -> bool
@@ -77,7 +50,7 @@ fn print_lines(table: &[u8], sources: &[u32], lines: usize) -> bool {
     true
 }
 
-// Reshapes a table into what is lent, and prints the listing.
+// Reshapes a table into what is lent, prints the listing, and reports the answer.
 fn print_reshaped(
     source: &[u8],
     shape: &[u8],
@@ -89,17 +62,23 @@ fn print_reshaped(
     let number = r.number;
     let place = r.place;
     if number != 0 {
-        return print_refused(source, shape, number, place, channel);
+        if !print_refused(number, place) {
+            return false;
+        }
+        return report_refused(channel, source, shape, number, place);
     }
     let j = silmezga::judge(source, shape);
     let v = j.verdict;
-    if !print_verdict(source, shape, v, channel) {
+    if !print_verdict(v) {
+        return false;
+    }
+    if !report_verdict(channel, source, shape, v) {
         return false;
     }
     print_lines(table, sources, r.lines)
 }
 
-// Prints the listing of a table and a shape, with room for 1,024 lines. If there is a channel, the answer and what it names are reported.
+// Prints the listing of a table and a shape, with room for 1,024 lines. The answer and what it names are reported on the channel.
 pub fn print_listing(source: &[u8], shape: &[u8], channel: i32) -> bool {
     let mut new = [0u8; 24576];
     let mut sources = [0u32; 1024];

@@ -1,9 +1,12 @@
-// What the program reports of an answer beside its listing, on a channel: the rows and the entries that it names.
+// What the program reports of a listing, on a channel: its answer, and the rows and the entries that this names.
+use crate::out::NOWHERE;
 use crate::out::report;
 use facts::entry::put_entry;
 use facts::entry::put_entry_fields;
 use facts::row::put_row;
 use facts::row::put_row_fields;
+use listing::answers::put_refused;
+use listing::answers::put_verdict;
 use silmezga::Verdict;
 use silmezga::reader::handed;
 use tables::row::smaller;
@@ -86,13 +89,7 @@ fn report_broken_entry(channel: i32, shape: &[u8], e: usize) -> bool {
 }
 
 // The row or the entry that a refusal names; refusals that name none report nothing more.
-pub fn report_refused(
-    channel: i32,
-    table: &[u8],
-    shape: &[u8],
-    number: usize,
-    place: usize,
-) -> bool {
+fn report_at_fault(channel: i32, table: &[u8], shape: &[u8], number: usize, place: usize) -> bool {
     if number == 3 {
         return report_broken_row(channel, table, place);
     }
@@ -106,6 +103,25 @@ pub fn report_refused(
         return report_entry(channel, shape, place);
     }
     true
+}
+
+// A refusal, and what it names; nothing where there is no channel.
+pub fn report_refused(
+    channel: i32,
+    table: &[u8],
+    shape: &[u8],
+    number: usize,
+    place: usize,
+) -> bool {
+    if channel == NOWHERE {
+        return true;
+    }
+    let mut text = [0u8; 256];
+    let n = put_refused(&mut text, number, place);
+    if !report(channel, &text[..n]) {
+        return false;
+    }
+    report_at_fault(channel, table, shape, number, place)
 }
 
 fn report_pair(channel: i32, shape: &[u8], first: usize, second: usize) -> bool {
@@ -123,11 +139,24 @@ fn report_missing(channel: i32, table: &[u8], shape: &[u8], entry: usize, row: u
 }
 
 // The row or the two entries that a verdict names.
-pub fn report_verdict(channel: i32, table: &[u8], shape: &[u8], v: Verdict) -> bool {
+fn report_named(channel: i32, table: &[u8], shape: &[u8], v: Verdict) -> bool {
     match v {
         Verdict::Kept => true,
         Verdict::Missing { entry, row } => report_missing(channel, table, shape, entry, row),
         Verdict::Apart { first, second } => report_pair(channel, shape, first, second),
         Verdict::Unsure { first, second } => report_pair(channel, shape, first, second),
     }
+}
+
+// A verdict, and what it names; nothing where there is no channel.
+pub fn report_verdict(channel: i32, table: &[u8], shape: &[u8], v: Verdict) -> bool {
+    if channel == NOWHERE {
+        return true;
+    }
+    let mut text = [0u8; 256];
+    let n = put_verdict(&mut text, v);
+    if !report(channel, &text[..n]) {
+        return false;
+    }
+    report_named(channel, table, shape, v)
 }

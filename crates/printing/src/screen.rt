@@ -31,7 +31,7 @@ fn print_of(table: &[u8], shape: &[u8], screen: Screen, channel: i32) -> bool {
         Screen::Listing => print_listing(table, shape, NOWHERE),
         Screen::Reported => print_listing(table, shape, channel),
         Screen::Summary => crate::figures::print_summary(table, shape),
-        Screen::Types => crate::types_tree::print_types(table, shape),
+        Screen::Types => crate::types_tree::print_types(table),
     }
 }
 

@@ -1,6 +1,5 @@
 // The types of a table, as an indented tree: below a type those whose parent it is, in the order of their first rows.
 use crate::new_table::print_refused;
-use crate::out::NOWHERE;
 use crate::out::print;
 use adorned::TypeSummary;
 use adorned::adorn_by_value;
@@ -77,12 +76,12 @@ fn print_tree(all: [TypeSummary; 64], count: usize) -> bool {
 }
 
 // Prints the refusal of adorning, or the tree. The figures are those that `adorn` stores in what it is lent.
-pub fn print_types(table: &[u8], shape: &[u8]) -> bool {
+pub fn print_types(table: &[u8]) -> bool {
     let a = adorn_by_value(table, 64);
     let number = a.number;
     let place = a.place;
     if number != 0 {
-        return print_refused(table, shape, number, place, NOWHERE);
+        return print_refused(number, place);
     }
     let all = a.summaries;
     print_tree(all, a.count)
