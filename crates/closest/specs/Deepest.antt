@@ -5,7 +5,7 @@ use mathlib.Core.Logic.{_⊎_}
 use mathlib.Core.Bool.{true, false}
 use mathlib.Core.List.{List}
 use lib.Dec.{eqb}
-use lib.ListN.{getD}
+use lib.ListN.{getD, replicate}
 use Rattle.paper.specs.Format.{Format, mostTypes, mostEntries}
 use Rattle.paper.specs.Closeness.{meet}
 use Rattle.closest.specs.Node.{node}
@@ -43,6 +43,10 @@ typesMeet levels types rows a b = max (deepest levels types a b rows) (deepest l
 pub record Deepened (count at : ℕ) (near before after : List ℕ) : Type 0 where
   pub deeper : (e : ℕ) → e < count → getD after (at + e) 0 ≡ max (getD before (at + e) 0) (getD near e 0)
   pub others : (j : ℕ) → (j < at) ⊎ (at + count ≤ j) → getD after j 0 ≡ getD before j 0
+
+-- the places before any row is walked
+abbrev pub noMeetings : List ℕ
+noMeetings = replicate (mostEntries * mostTypes) 0
 
 -- for each of 64 types, 16 places: how deep its rows meet those of each wanted type at or before them
 abbrev pub Meetings : ℕ → List ℕ → List ℕ → List ℕ → List ℕ → Type 0

@@ -1,25 +1,24 @@
 // Where types meet, found for all wanted types in one walk along the rows' levels.
 use paper::Format;
+ghost use mathlib.Core.Path.{_≡_};
 ghost use Prim.Native.Nat.{_+_, _≤_};
 ghost use lib.ListN.{length};
-ghost use Rattle.paper.specs.Format.{mostEntries};
+ghost use Rattle.paper.specs.Format.{mostRows, mostEntries};
 ghost use Rattle.closest.specs.Runs.{SoundRows, LevelsOf, Rows};
-ghost use Rattle.closest.specs.Deepest.{Onward, Deepened, Meetings};
+ghost use Rattle.closest.specs.Deepest.{Onward, Deepened, noMeetings, Meetings};
 
-// Each row's level.
-pub fn row_levels(table: &[u8], f: Format, rows: usize) -> [u8; 1024]
-    requires { ⌜ SoundRows f rows (now table) ⌝ }
-    ensures { λ r. ⌜ LevelsOf f rows (now (table .entry)) r ⌝ }
+// Each row's level, into the lent list.
+pub fn row_levels(table: &[u8], f: Format, rows: usize, levels: &mut [u8])
+    requires { ⌜ SoundRows f rows (now table) × (length (now levels) ≡ mostRows) ⌝ }
+    ensures { λ _. ⌜ LevelsOf f rows (now (table .entry)) (now (levels .exit)) ⌝ }
 {
     let w = bytes::row_bytes(f);
-    let mut levels = [0u8; 1024];
     let mut i = 0;
     while i < rows {
         let row = bytes::record(table, w, i);
         levels[i] = row[0];
         i += 1;
     }
-    levels
 }
 
 // How deep a row of type k and level l meets the rows of each wanted type at or before it, where the row before it meets them at `near`:
@@ -52,21 +51,19 @@ fn deepen(deepest: &mut [u8], at: usize, near: [u8; 16])
     }
 }
 
-// How deep the rows of each type meet those of each wanted type at or before them, 16 places a type. Two types meet at the deeper of
-// their two places.
-pub fn meetings(levels: &[u8], types: &[u8], rows: usize, wanted: [u8; 16]) -> [u8; 1024]
-    requires { ⌜ Rows rows (now levels) (now types) ⌝ }
-    ensures { λ r. ⌜ Meetings rows (now (levels .entry)) (now (types .entry)) wanted r ⌝ }
+// How deep the rows of each type meet those of each wanted type at or before them, 16 places a type, into the lent list of zeros. Two types
+// meet at the deeper of their two places.
+pub fn meetings(levels: &[u8], types: &[u8], rows: usize, wanted: [u8; 16], deepest: &mut [u8])
+    requires { ⌜ Rows rows (now levels) (now types) × (now deepest ≡ noMeetings) ⌝ }
+    ensures { λ _. ⌜ Meetings rows (now (levels .entry)) (now (types .entry)) wanted (now (deepest .exit)) ⌝ }
 {
-    let mut deepest = [0u8; 1024];
     let mut near = [0u8; 16];
     let mut i = 0;
     while i < rows {
         let k = types[i];
         let next = onward(near, wanted, k, levels[i]);
         near = next;
-        deepen(&mut deepest, 16 * bytes::wide(k), near);
+        deepen(deepest, 16 * bytes::wide(k), near);
         i += 1;
     }
-    deepest
 }

@@ -24,7 +24,7 @@ use Rattle.shapes.specs.EntryTypes.{Told, TypesAre, NumbersEach}
 use Rattle.shapes.specs.Ways.{Laid, wayAt}
 use Rattle.shapes.specs.Tests.{shapeReply, shapeExamined, shapeIn, Read, Passes}
 use Rattle.shapes.specs.declared.entry_types.EntryTypes.{EntryTypes}
-use Rattle.shapes.specs.declared.ways.Ways.{Ways}
+use Rattle.shapes.specs.declared.ways.Fields.{Fields}
 use Rattle.shapes.specs.declared.tests.ShapeExamined.{ShapeExamined}
 use Rattle.shapes.specs.declared.tests.Tested.{Tested}
 use Rattle.shapes.proofs.Told.{told}
@@ -33,8 +33,9 @@ use Rattle.shapes.proofs.Examined.{place-some, place-none}
 use Rattle.shapes.proofs.Tested.{missing-some, missing-none, refused-table, refused-types, refused-shape, refused-missing, none-refused, workOf}
 
 -- a refusal is no work
-pub refusal : (t s : List ℕ) (w : Tested) (k p : ℕ) → (w .number ≡ k) × (w .place ≡ p) → (k ≡ 0 → ⊥) → tests1-7 base t s ≡ refused k p → Passes t s w
-refusal t s w k p is ne e = record {
+pub refusal : (t s : List ℕ) (w : Tested) (ks ways : List ℕ) (k p : ℕ) → (w .number ≡ k) × (w .place ≡ p) → (k ≡ 0 → ⊥)
+    → tests1-7 base t s ≡ refused k p → Passes t s w ks ways
+refusal t s w ks ways k p is ne e = record {
   refused-is = λ _. e ∙ ap₂ (λ a b. refused a b) (sym (is .0)) (sym (is .1));
   given-is = λ z. absurd (ne (sym (is .0) ∙ z));
   typed = λ z. absurd (ne (sym (is .0) ∙ z));
@@ -71,22 +72,22 @@ list-asked {t} {n} {f} e table =
     ((table .whole-rows, table .few, base-levels base refl), table .kept)
 
 -- ---- test 4
--- the table passes test 4 too, and ty is the list of its types
-pub record Listed (t : List ℕ) (n : ℕ) (ty : Types) : Type 0 where
+-- the table passes test 4 too, ty is the list of its types, and ks has its rows' type numbers
+pub record Listed (t : List ℕ) (n : ℕ) (ks : List ℕ) (ty : Types) : Type 0 where
   pub table : Tabled t n
-  pub lists : Lists (rows base t) ty
+  pub lists : Lists (rows base t) ks ty
   pub late : length (rows base t) ≤ ty .over
 
-module _ {t : List ℕ} {n : ℕ} {ty : Types} (table : Tabled t n) (lists : Lists (rows base t) ty) where
+module _ {t : List ℕ} {n : ℕ} {ks : List ℕ} {ty : Types} (table : Tabled t n) (lists : Lists (rows base t) ks ty) where
   pub types-refused : (s : List ℕ) → ty .over < n → tests1-7 base t s ≡ refused 4 (ty .over)
   types-refused s lt =
       refused-types base t s (table .passed) (ty .over)
       (lists .over ∙ place-some (ty .over) (length (rows base t)) (omega (arith, table .whole-rows, count-rows base t)))
 
-  pub types-listed : n ≤ ty .over → Listed t n ty
+  pub types-listed : n ≤ ty .over → Listed t n ks ty
   types-listed le = record { table = table; lists = lists; late = omega (arith, table .whole-rows, count-rows base t) }
 
-module _ {t : List ℕ} {n : ℕ} {ty : Types} (l : Listed t n ty) where
+module _ {t : List ℕ} {n : ℕ} {ks : List ℕ} {ty : Types} (l : Listed t n ks ty) where
   none-over : typeTooMany (rows base t) ≡ none
   none-over = l .lists .over ∙ place-none (ty .over) (length (rows base t)) (l .late)
 
@@ -94,15 +95,15 @@ module _ {t : List ℕ} {n : ℕ} {ty : Types} (l : Listed t n ty) where
   few-listed = few-from (rows base t) (ty .over) (length (rows base t)) (l .lists .over) (l .late)
 
   pub told-types : Told (types (rows base t)) (ty .parents) (ty .labels) (ty .count)
-  told-types = told (rows base t) ty (l .lists) (l .late)
+  told-types = told (rows base t) ks ty (l .lists) (l .late)
 
-  typed-rows : Typed base n t (ty .types)
+  typed-rows : Typed base n t ks
   typed-rows =
       let rows-n : n ≡ length (rows base t) = l .table .whole-rows ∙ sym (count-rows base t) in
       record {
         sound = record { kept = l .table .kept; shallow = omega (arith, base-levels base refl) };
         rows-n = rows-n;
-        listed = ap (λ m. take m (ty .types)) rows-n ∙ l .lists .typed (l .late);
+        listed = ap (λ m. take m ks) rows-n ∙ l .lists .typed (l .late);
       }
 
 -- ---- tests 5 and 6
@@ -114,7 +115,7 @@ pub record Shaped (s : List ℕ) (m : ℕ) : Type 0 where
   pub few : m ≤ mostEntries
 
 module _ (s : List ℕ) (x : ShapeExamined) (e : shapeExamined x ≡ shapeReply base s) where
-  pub shape-refused : {t : List ℕ} {n : ℕ} {ty : Types} → Listed t n ty → (x .number ≡ 0 → ⊥) → tests1-7 base t s ≡ refused (x .number) (x .place)
+  pub shape-refused : {t : List ℕ} {n : ℕ} {ks : List ℕ} {ty : Types} → Listed t n ks ty → (x .number ≡ 0 → ⊥) → tests1-7 base t s ≡ refused (x .number) (x .place)
   shape-refused {t} l ne =
       refused-shape base t s (l .table .passed) (none-over l) (x .number) (x .place)
       (shape-laws.examined-refused base s (x .number) (x .place) (x .entries) e ne)
@@ -135,38 +136,36 @@ shape-asked {s} {m} {f} e shape =
     ((shape .whole-entries, shape .few, base-levels base refl), shape .kept)
 
 -- ---- test 7, and the work
-module _ {t s : List ℕ} {n m : ℕ} {ty : Types} (l : Listed t n ty) (h : Shaped s m) (ks : EntryTypes)
-    (k : NumbersEach (ty .parents) (ty .labels) (ty .count) (entries base s) m ks) where
-  numbered : TypesAre (types (rows base t)) (entries base s) m ks
+module _ {t s : List ℕ} {n m : ℕ} {ks : List ℕ} {ty : Types} (l : Listed t n ks ty) (h : Shaped s m) (es : EntryTypes)
+    (k : NumbersEach (ty .parents) (ty .labels) (ty .count) (entries base s) m es) where
+  numbered : TypesAre (types (rows base t)) (entries base s) m es
   numbered = k (types (rows base t)) (told-types l)
 
   entries-m : m ≡ length (entries base s)
   entries-m = h .whole-entries ∙ sym (count-entries base s)
 
-  pub types-missing : ks .place < m → tests1-7 base t s ≡ refused 7 (ks .place)
+  pub types-missing : es .place < m → tests1-7 base t s ≡ refused 7 (es .place)
   types-missing lt =
-      refused-missing base t s (l .table .passed) (none-over l) (h .passed) (ks .place)
-      (missing-some (rows base t) (entries base s) (ks .place) (numbered .place-is) (omega (arith, entries-m)))
+      refused-missing base t s (l .table .passed) (none-over l) (h .passed) (es .place)
+      (missing-some (rows base t) (entries base s) (es .place) (numbered .place-is) (omega (arith, entries-m)))
 
-  module _ (le : m ≤ ks .place) (ws : Ways) (laid : Laid (shapeOver [] (entries base s)) m ws) where
+  module _ (le : m ≤ es .place) (fs : Fields) (ways : List ℕ) (laid : Laid (shapeOver [] (entries base s)) m fs ways) where
     abbrev work : Tested
     work = record {
       number = 0;
       place = 0;
       rows = n;
-      «row_types» = ty .types;
       entries = m;
-      levels = ws .levels;
-      labels = ws .labels;
-      parents = ws .parents;
-      types = ks .types;
-      ways = ws .ways;
+      levels = fs .levels;
+      labels = fs .labels;
+      parents = fs .parents;
+      types = es .types;
     }
 
     all-passed : tests1-7 base t s ≡ given (workOf (rows base t) (entries base s))
     all-passed =
         none-refused base t s (l .table .passed) (none-over l) (h .passed)
-        (missing-none (rows base t) (entries base s) (ks .place) (numbered .place-is) (omega (arith, entries-m)))
+        (missing-none (rows base t) (entries base s) (es .place) (numbered .place-is) (omega (arith, entries-m)))
 
     ways-m : m ≡ length (shapeIn base t s .ways)
     unfolding badEntry
@@ -174,7 +173,7 @@ module _ {t s : List ℕ} {n m : ℕ} {ty : Types} (l : Listed t n ty) (h : Shap
         entries-m
         ∙ sym (size base (types (rows base t)) (entries base s) (none-rules (entryKept base) levelOf 0 0 (entries base s) (h .kept)))
 
-    held : Read (shapeIn base t s) work
+    held : Read (shapeIn base t s) work ways
     unfolding shapeOver
     held = record {
       counted = ways-m;
@@ -183,10 +182,10 @@ module _ {t s : List ℕ} {n m : ℕ} {ty : Types} (l : Listed t n ty) (h : Shap
       label = laid .label;
       parent-is = laid .parent-is;
       type-is = numbered .type-is le;
-      way-is = λ e lt. ap (wayAt (ws .ways) e) (laid .level e lt) ∙ laid .way-is e lt;
+      way-is = λ e lt. ap (wayAt ways e) (laid .level e lt) ∙ laid .way-is e lt;
     }
 
-    pub passes : Passes t s work
+    pub passes : Passes t s work ks ways
     passes = record {
       refused-is = λ ne. absurd (ne refl);
       given-is = λ _. all-passed;

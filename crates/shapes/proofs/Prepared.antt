@@ -17,27 +17,27 @@ use Rattle.shapes.specs.Ways.{wayAt}
 use Rattle.shapes.specs.Tests.{Read, Passes, shapeIn}
 use Rattle.shapes.specs.Edges.{Inside, Known, meetingOf}
 use Rattle.shapes.specs.Shape.{levelOf, typeOf, parentOf, edgeOf, Sized, Shaped, Drawn}
-use Rattle.shapes.specs.Work.{Holds, Ready, Prepared}
+use Rattle.shapes.specs.Work.{Work, Holds, Ready, Prepared}
 use Rattle.shapes.specs.declared.shape.Shape.{Shape}
 use Rattle.shapes.specs.declared.tests.Tested.{Tested}
-use Rattle.shapes.specs.declared.work.Work.{Work}
 use Rattle.shapes.proofs.Given as Given
 
 -- A refusal is no work.
-pub refusal : (t s : List ℕ) (r : Tested) (w : Work) → Passes t s r → (r .number ≡ 0 → ⊥) → (w .number ≡ r .number) × (w .place ≡ r .place) → Prepared t s w
-refusal t s r w p ne is = record {
+pub refusal : (t s : List ℕ) (r : Tested) (ks ways : List ℕ) (w : Work) → Passes t s r ks ways → (r .number ≡ 0 → ⊥)
+    → (w .number ≡ r .number) × (w .place ≡ r .place) → Prepared t s w
+refusal t s r ks ways w p ne is = record {
   refused-is = λ _. p .refused-is ne ∙ ap₂ (λ a b. refused a b) (sym (is .0)) (sym (is .1));
   ready = λ z. absurd (ne (sym (is .0) ∙ z));
 }
 
-module _ {t s : List ℕ} {r : Tested} (p : Passes t s r) (z : r .number ≡ 0) where
+module _ {t s : List ℕ} {r : Tested} {ks ways : List ℕ} (p : Passes t s r ks ways) (z : r .number ≡ 0) where
   abbrev ns : List Node
   ns = nodes (rows base t)
 
   abbrev sh : Paper.Shape
   sh = shapeIn base t s
 
-  held : Read (shapeIn base t s) r
+  held : Read (shapeIn base t s) r ways
   held = p .reads z
 
   inways : (e : ℕ) → e < r .entries → e < length (sh .ways)
@@ -59,19 +59,19 @@ module _ {t s : List ℕ} {r : Tested} (p : Passes t s r) (z : r .number ≡ 0) 
     typed = λ e lt. omega (arith, p .known z e lt, p .few-types z);
   }
 
-  pub rows-are : (levels : List ℕ) → LevelsOf base (r .rows) t levels → length levels ≡ 1024 → Rows (r .rows) levels (r .«row_types»)
+  pub rows-are : (levels : List ℕ) → LevelsOf base (r .rows) t levels → length levels ≡ 1024 → Rows (r .rows) levels ks
   rows-are levels ls long = record {
     few = p .few-rows z;
     levels-long = omega (arith, p .few-rows z);
-    types-long = ks-long base (r .rows) t (r .«row_types») (p .typed z);
+    types-long = ks-long base (r .rows) t ks (p .typed z);
     level-some = ls .level-some;
-    type-few = λ i lt. omega (arith, kind-few base (r .rows) t (r .«row_types») (p .typed z) i lt, p .few-types z);
+    type-few = λ i lt. omega (arith, kind-few base (r .rows) t ks (p .typed z) i lt, p .few-types z);
   }
 
   module _ (levels meetings : List ℕ) (ls : LevelsOf base (r .rows) t levels) (long : length levels ≡ 1024)
-      (met : Meetings (r .rows) levels (r .«row_types») (r .types) meetings)
+      (met : Meetings (r .rows) levels ks (r .types) meetings)
       (d : Shape) (drawn : Drawn (r .entries) (r .levels) (r .labels) (r .types) (r .parents) meetings d) where
-    levelled : Levelled base (r .rows) t levels (r .«row_types»)
+    levelled : Levelled base (r .rows) t levels ks
     levelled = record { typed = p .typed z; level-is = ls .level-is }
 
     -- ---- an entry of the shape as it was read
@@ -95,7 +95,7 @@ module _ {t s : List ℕ} {r : Tested} (p : Passes t s r) (z : r .number ≡ 0) 
     meeting-is e f le lf =
         let few = held .few in
         ap₂ (λ a b. max a b) (met (getD (r .types) f 0) e (type-few f lf) (omega arith)) (met (getD (r .types) e 0) f (type-few e le) (omega arith))
-        ∙ types-meet base (r .rows) t levels (r .«row_types») levelled (getD (r .types) e 0) (getD (r .types) f 0)
+        ∙ types-meet base (r .rows) t levels ks levelled (getD (r .types) e 0) (getD (r .types) f 0)
 
     meets : (e f : ℕ) → e < d .entries → f < d .entries → meetingOf meetings (d .types) e f ≡ kindsMeet ns (typeOf d e) (typeOf d f)
     meets e f le lf =
@@ -137,7 +137,7 @@ module _ {t s : List ℕ} {r : Tested} (p : Passes t s r) (z : r .number ≡ 0) 
       under = λ c pos lt. nearest c pos lt .0;
       top = top;
       down = λ c pos lt. nearest c pos lt .1;
-      deep = λ c lt. shallow (edge-is c lt) (kinds-shallow base (r .rows) t (r .«row_types») (p .typed z) (typeOf d (parentOf d c)) (typeOf d c));
+      deep = λ c lt. shallow (edge-is c lt) (kinds-shallow base (r .rows) t ks (p .typed z) (typeOf d (parentOf d c)) (typeOf d c));
       before = λ e lt. omega (arith, drawn .ends-are .before e, drawn .entries-are);
       last = λ c pos lt. subst (λ q. c < getD (d .ends) q 0) (sym (parent-at c)) (drawn .ends-are .last c pos (inside c lt));
     }
@@ -148,10 +148,10 @@ module _ {t s : List ℕ} {r : Tested} (p : Passes t s r) (z : r .number ≡ 0) 
       place = 0;
       rows = r .rows;
       levels = levels;
-      types = r .«row_types»;
+      types = ks;
       meetings = meetings;
       shape = d;
-      ways = r .ways;
+      ways = ways;
     }
 
     holds : Holds sh work
@@ -161,7 +161,7 @@ module _ {t s : List ℕ} {r : Tested} (p : Passes t s r) (z : r .number ≡ 0) 
       label-is = λ e lt. ap (λ l. getD l e 0) (drawn .labels-are) ∙ held .label e (inside e lt);
       type-is = λ e lt. type-at e ∙ held .type-is e (inside e lt);
       parent-is = λ e lt. parent-at e ∙ held .parent-is e (inside e lt);
-      way-is = λ e lt. ap (wayAt (r .ways) e) (level-at e) ∙ held .way-is e (inside e lt);
+      way-is = λ e lt. ap (wayAt ways e) (level-at e) ∙ held .way-is e (inside e lt);
     }
 
     pub prepared : Prepared t s (record {
@@ -169,10 +169,10 @@ module _ {t s : List ℕ} {r : Tested} (p : Passes t s r) (z : r .number ≡ 0) 
       place = 0;
       rows = r .rows;
       levels = levels;
-      types = r .«row_types»;
+      types = ks;
       meetings = meetings;
       shape = d;
-      ways = r .ways;
+      ways = ways;
     })
     prepared = record {
       refused-is = λ ne. absurd (ne refl);

@@ -22,7 +22,7 @@ use Rattle.shapes.proofs.Fields.{shape, level-is, label-is, way-long, l
 
 -- the arrays hold the entries before i
 pub record Read (f : Format) (s : List ℕ) (i : ℕ) (levels labels parents ways : List ℕ) : Type 0 where
-  pub laid : Laid (shape f s) i (record { levels = levels; labels = labels; parents = parents; ways = ways })
+  pub laid : Laid (shape f s) i (record { levels = levels; labels = labels; parents = parents }) ways
   pub levels-long : length levels ≡ mostEntries
   pub labels-long : length labels ≡ mostEntries
   pub parents-long : length parents ≡ mostEntries
@@ -49,7 +49,7 @@ Asked f s n =
     ((n ≡ whole (entryBytes f) s) × (n ≤ mostEntries) × (f .levels ≤ wayPlaces)) × (badEntry f (entries f s) ≡ none)
 
 pub read-all : (f : Format) (s : List ℕ) (i n : ℕ) (levels labels parents ways : List ℕ) → i ≤ n → n ≤ i → Read f s i levels labels parents ways
-    → Laid (shape f s) n (record { levels = levels; labels = labels; parents = parents; ways = ways })
+    → Laid (shape f s) n (record { levels = levels; labels = labels; parents = parents }) ways
 read-all f s i n levels labels parents ways le ge read =
     let x = read .laid in
     record {

@@ -31,8 +31,8 @@ type-above rs v h k pos le =
     (subst (λ l. Has (take k v) l) all (closed (map step rs) (length ws) v (subst (λ l. Has v l) (sym all) (distinct-has v ws h)) k pos le))
 
 -- a type list with no type too many tells the table's types
-pub told : (rs : List Row) (ty : Types) → Lists rs ty → length rs ≤ ty .over → Told (types rs) (ty .parents) (ty .labels) (ty .count)
-told rs ty l le = record {
+pub told : (rs : List Row) (ks : List ℕ) (ty : Types) → Lists rs ks ty → length rs ≤ ty .over → Told (types rs) (ty .parents) (ty .labels) (ty .count)
+told rs ks ty l le = record {
   count-is = l .count le;
   few = omega (arith, l .count le, few-from rs (ty .over) (length rs) (l .over) le);
   parent = l .parent le;

@@ -27,21 +27,21 @@ abbrev pub shapeIn : Format → List ℕ → List ℕ → Shape
 shapeIn f t s = shapeOver (types (rows f t)) (entries f s)
 
 -- the entries of a shape as they were read: number, level, last label, parent, type number, way
-pub record Read (s : Shape) (w : Tested) : Type 0 where
+pub record Read (s : Shape) (w : Tested) (ways : List ℕ) : Type 0 where
   pub counted : w .entries ≡ length (s .ways)
   pub few : w .entries ≤ mostEntries
   pub level : (e : ℕ) → e < w .entries → getD (w .levels) e 0 ≡ getD (s .levels) e 0
   pub label : (e : ℕ) → e < w .entries → getD (w .labels) e 0 ≡ getD (s .labels) e 0
   pub parent-is : (e : ℕ) → e < w .entries → getD (w .parents) e 0 ≡ parent s e
   pub type-is : (e : ℕ) → e < w .entries → getD (w .types) e 0 ≡ kind s e
-  pub way-is : (e : ℕ) → e < w .entries → wayAt (w .ways) e (getD (w .levels) e 0) ≡ way s e
+  pub way-is : (e : ℕ) → e < w .entries → wayAt ways e (getD (w .levels) e 0) ≡ way s e
 
--- what tests 1 to 7 say of a table t and a shape s, and where none refuses, the rows' type numbers and the entries
-pub record Passes (t s : List ℕ) (w : Tested) : Type 0 where
+-- what tests 1 to 7 say of a table t and a shape s, and where none refuses, the rows' type numbers ks and the entries
+pub record Passes (t s : List ℕ) (w : Tested) (ks ways : List ℕ) : Type 0 where
   pub refused-is : (w .number ≡ 0 → ⊥) → tests1-7 base t s ≡ refused (w .number) (w .place)
   pub given-is : w .number ≡ 0 → tests1-7 base t s ≡ given (record { rows = rows base t; nodes = nodes (rows base t); shape = shapeIn base t s })
-  pub typed : w .number ≡ 0 → Typed base (w .rows) t (w .«row_types»)
+  pub typed : w .number ≡ 0 → Typed base (w .rows) t ks
   pub few-rows : w .number ≡ 0 → w .rows ≤ mostRows
   pub few-types : w .number ≡ 0 → length (types (rows base t)) ≤ mostTypes
   pub known : w .number ≡ 0 → (e : ℕ) → e < w .entries → getD (w .types) e 0 < length (types (rows base t))
-  pub reads : w .number ≡ 0 → Read (shapeIn base t s) w
+  pub reads : w .number ≡ 0 → Read (shapeIn base t s) w ways

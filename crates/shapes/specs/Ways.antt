@@ -4,7 +4,7 @@ use mathlib.Core.Path.{_≡_}
 use mathlib.Core.List.{List}
 use lib.ListN.{getD, take, drop}
 use Rattle.paper.specs.Shapes.{Shape, way, parent}
-use Rattle.shapes.specs.declared.ways.Ways.{Ways}
+use Rattle.shapes.specs.declared.ways.Fields.{Fields}
 
 -- the places that the way of one entry has
 abbrev pub wayPlaces : ℕ
@@ -21,8 +21,8 @@ pub record Put (before : List ℕ) (e l : ℕ) (after : List ℕ) : Type 0 where
   pub own : getD after (wayPlaces * e + (l - 1)) 0 ≡ e
 
 -- each of so many entries of a shape as it was read: level, last label, parent, way
-pub record Laid (s : Shape) (entries : ℕ) (r : Ways) : Type 0 where
+pub record Laid (s : Shape) (entries : ℕ) (r : Fields) (ways : List ℕ) : Type 0 where
   pub level : (e : ℕ) → e < entries → getD (r .levels) e 0 ≡ getD (s .levels) e 0
   pub label : (e : ℕ) → e < entries → getD (r .labels) e 0 ≡ getD (s .labels) e 0
   pub parent-is : (e : ℕ) → e < entries → getD (r .parents) e 0 ≡ parent s e
-  pub way-is : (e : ℕ) → e < entries → wayAt (r .ways) e (getD (s .levels) e 0) ≡ way s e
+  pub way-is : (e : ℕ) → e < entries → wayAt ways e (getD (s .levels) e 0) ≡ way s e

@@ -5,7 +5,10 @@ use crate::ways::entry_ways;
 use tables::table::examine;
 use types::list::list_types;
 ghost use mathlib.Core.Path.{_≡_};
-ghost use Rattle.paper.specs.Format.{base};
+ghost use Prim.Native.Nat.{_*_};
+ghost use lib.ListN.{length};
+ghost use Rattle.paper.specs.Format.{base, mostRows, mostEntries};
+ghost use Rattle.shapes.specs.Ways.{wayPlaces};
 ghost use Rattle.shapes.specs.Tests.{shapeExamined, shapeReply, Passes};
 
 // What examining a shape by itself answers.
@@ -58,19 +61,16 @@ pub fn examine_shape(shape: &[u8]) -> ShapeExamined
     }
 }
 
-// A refusal, or the number of rows with each row's type number, and the number of entries with the level, last label, parent, type
-// number and way of each.
+// A refusal, or the number of rows, and the number of entries with the level, last label, parent and type number of each.
 pub struct Tested {
     pub number: usize,
     pub place: usize,
     pub rows: usize,
-    pub row_types: [u8; 1024],
     pub entries: usize,
     pub levels: [u8; 16],
     pub labels: [u16; 16],
     pub parents: [u8; 16],
     pub types: [u8; 16],
-    pub ways: [u8; 128],
 }
 
 fn refused(number: usize, place: usize) -> Tested
@@ -80,19 +80,18 @@ fn refused(number: usize, place: usize) -> Tested
         number: number,
         place: place,
         rows: 0,
-        row_types: [0u8; 1024],
         entries: 0,
         levels: [0u8; 16],
         labels: [0u16; 16],
         parents: [0u8; 16],
         types: [0u8; 16],
-        ways: [0u8; 128],
     }
 }
 
-// Refusals 1 to 7 in their order, or what was read.
-pub fn tests1_7(table: &[u8], shape: &[u8]) -> Tested
-    ensures { λ r. ⌜ Passes (now (table .entry)) (now (shape .entry)) r ⌝ }
+// Refusals 1 to 7 in their order, or what was read: each row's type number and each entry's way in the lent lists.
+pub fn tests1_7(table: &[u8], shape: &[u8], types: &mut [u8], ways: &mut [u8]) -> Tested
+    requires { ⌜ (length (now types) ≡ mostRows) × (length (now ways) ≡ wayPlaces * mostEntries) ⌝ }
+    ensures { λ r. ⌜ Passes (now (table .entry)) (now (shape .entry)) r (now (types .exit)) (now (ways .exit)) ⌝ }
 {
     let f = paper::base();
     let examined = examine(table);
@@ -102,7 +101,7 @@ pub fn tests1_7(table: &[u8], shape: &[u8]) -> Tested
     if number != 0 {
         return refused(number, place);
     }
-    let listed = list_types(table, f, rows);
+    let listed = list_types(table, f, rows, types);
     let over = listed.over;
     let count = listed.count;
     if over < rows {
@@ -115,30 +114,24 @@ pub fn tests1_7(table: &[u8], shape: &[u8]) -> Tested
     if shape_number != 0 {
         return refused(shape_number, shape_place);
     }
-    let type_parents = listed.parents;
-    let type_labels = listed.labels;
-    let named = entry_types(shape, f, entries, &type_parents, &type_labels, count);
+    let named = entry_types(shape, f, entries, &listed.parents, &listed.labels, count);
     let missing = named.place;
     if missing < entries {
         return refused(7, missing);
     }
-    let laid = entry_ways(shape, f, entries);
-    let row_types = listed.types;
+    let laid = entry_ways(shape, f, entries, ways);
     let levels = laid.levels;
     let labels = laid.labels;
     let parents = laid.parents;
-    let types = named.types;
-    let ways = laid.ways;
+    let wanted = named.types;
     Tested {
         number: 0,
         place: 0,
         rows: rows,
-        row_types: row_types,
         entries: entries,
         levels: levels,
         labels: labels,
         parents: parents,
-        types: types,
-        ways: ways,
+        types: wanted,
     }
 }

@@ -2,33 +2,25 @@
 use crate::shape::Shape;
 use crate::shape::draw;
 use crate::tests::tests1_7;
-use closest::meet::meetings;
 use closest::meet::row_levels;
 ghost use mathlib.Core.Path.{_≡_};
-ghost use Rattle.shapes.specs.Work.{Prepared};
+ghost use Rattle.shapes.specs.Work.{Blank, Prepares};
 
-// A refusal, or the number of rows with the level and the type number of each, where the types meet, the shape, and the ways of its entries.
-pub struct Work {
+// A refusal, or the number of rows and the shape.
+pub struct Start {
     pub number: usize,
     pub place: usize,
     pub rows: usize,
-    pub levels: [u8; 1024],
-    pub types: [u8; 1024],
-    pub meetings: [u8; 1024],
     pub shape: Shape,
-    pub ways: [u8; 128],
 }
 
-fn unprepared(number: usize, place: usize) -> Work
+fn unprepared(number: usize, place: usize) -> Start
     ensures { λ r. ⌜ (r .number ≡ number) × (r .place ≡ place) ⌝ }
 {
-    Work {
+    Start {
         number: number,
         place: place,
         rows: 0,
-        levels: [0u8; 1024],
-        types: [0u8; 1024],
-        meetings: [0u8; 1024],
         shape: Shape {
             entries: 0,
             levels: [0u8; 16],
@@ -38,15 +30,23 @@ fn unprepared(number: usize, place: usize) -> Work
             edges: [0u8; 16],
             ends: [0u8; 16],
         },
-        ways: [0u8; 128],
     }
 }
 
-// Refusals 1 to 7 in their order, or the work.
-pub fn prepare(table: &[u8], shape: &[u8]) -> Work
-    ensures { λ r. ⌜ Prepared (now (table .entry)) (now (shape .entry)) r ⌝ }
+// Refusals 1 to 7 in their order, or the work: each row's level and type number, where the types meet, and the ways of the entries are found
+// in the lent lists, so that none of them is copied on its way to a walk.
+pub fn prepare(
+    table: &[u8],
+    shape: &[u8],
+    levels: &mut [u8],
+    types: &mut [u8],
+    meetings: &mut [u8],
+    ways: &mut [u8],
+) -> Start
+    requires { ⌜ Blank (now levels) (now types) (now meetings) (now ways) ⌝ }
+    ensures { λ r. ⌜ Prepares (now (table .entry)) (now (shape .entry)) r (now (levels .exit)) (now (types .exit)) (now (meetings .exit)) (now (ways .exit)) ⌝ }
 {
-    let read = tests1_7(table, shape);
+    let read = tests1_7(table, shape, types, ways);
     let number = read.number;
     let place = read.place;
     if number != 0 {
@@ -54,23 +54,24 @@ pub fn prepare(table: &[u8], shape: &[u8]) -> Work
     }
     let rows = read.rows;
     let entries = read.entries;
-    let types = read.row_types;
     let entry_types = read.types;
     let entry_levels = read.levels;
     let labels = read.labels;
     let parents = read.parents;
-    let ways = read.ways;
-    let levels = row_levels(table, paper::base(), rows);
-    let met = meetings(&levels, &types, rows, entry_types);
-    let drawn = draw(entries, entry_levels, labels, entry_types, parents, &met);
-    Work {
+    row_levels(table, paper::base(), rows, levels);
+    closest::meet::meetings(levels, types, rows, entry_types, meetings);
+    let drawn = draw(
+        entries,
+        entry_levels,
+        labels,
+        entry_types,
+        parents,
+        meetings,
+    );
+    Start {
         number: 0,
         place: 0,
         rows: rows,
-        levels: levels,
-        types: types,
-        meetings: met,
         shape: drawn,
-        ways: ways,
     }
 }

@@ -90,7 +90,7 @@ module _ (rs : List Row) (i count : ℕ) (ks first parents labels stack : List �
   -- a 65th type begins at row i
   pub lists-full : i < length rs → (mostTypes < length (distinct (ways [] (map step rs))))
       × (place (same (getD (distinct (ways [] (map step rs))) mostTypes [])) (ways [] (map step rs)) ≡ i)
-      → Lists rs (record { count = 64; over = i; types = ks; first = first; parents = parents; labels = labels })
+      → Lists rs ks (record { count = 64; over = i; first = first; parents = parents; labels = labels })
   unfolding typeTooMany types rowTypes
   lists-full lt (more, at) =
       let late : length rs ≤ i → ⊥ = λ le. omega arith in
@@ -104,7 +104,7 @@ module _ (rs : List Row) (i count : ℕ) (ks first parents labels stack : List �
       }
 
   pub lists-end : length rs ≡ i → length rs ≤ length ks → Pass (map step rs) i count ks first parents labels stack
-      → Lists rs (record { count = count; over = i; types = ks; first = first; parents = parents; labels = labels })
+      → Lists rs ks (record { count = count; over = i; first = first; parents = parents; labels = labels })
   unfolding typeTooMany types rowTypes kinds
   lists-end e long pass =
       let ws = ways [] (map step rs) in
@@ -205,7 +205,7 @@ module _ (f : Format) (t : List ℕ) (sound : badRow f (rows f t) ≡ none) (i :
         stack-long = length-set stack l count ∙ walk .stack-long;
       }
 
-      pub walk-full : count ≡ mostTypes → Lists (rows f t) (record { count = 64; over = i; types = ks; first = first; parents = parents; labels = labels })
+      pub walk-full : count ≡ mostTypes → Lists (rows f t) ks (record { count = 64; over = i; first = first; parents = parents; labels = labels })
       walk-full full =
           lists-full (rows f t) i count ks first parents labels stack in-rows
           (pass-full (map step (rows f t)) i l a in-ways l-is a-is l-pos l-next count p ks first parents labels stack (walk .pass) ep′

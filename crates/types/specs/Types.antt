@@ -19,11 +19,11 @@ abbrev pub parentOf : List (List ℕ) → List ℕ → ℕ
 parentOf ts [] = mostTypes
 parentOf ts (x ∷ v) = typeNumber ts (x ∷ v)
 
--- `over` is the first row of the 65th type, the number of rows where there is none; then the rest is the table's types
-pub record Lists (rs : List Row) (t : Types) : Type 0 where
+-- `over` is the first row of the 65th type, the number of rows where there is none; then the rest is the table's types, and ks each row's number
+pub record Lists (rs : List Row) (ks : List ℕ) (t : Types) : Type 0 where
   pub over : typeTooMany rs ≡ placeOf (t .over) (length rs)
   pub count : length rs ≤ t .over → t .count ≡ length (types rs)
-  pub typed : length rs ≤ t .over → take (length rs) (t .types) ≡ kinds rs
+  pub typed : length rs ≤ t .over → take (length rs) ks ≡ kinds rs
   pub first : length rs ≤ t .over → (k : ℕ) → k < t .count → getD (t .first) k 0 ≡ place (same (getD (types rs) k [])) (rowTypes rs)
   pub label : length rs ≤ t .over → (k : ℕ) → k < t .count → getD (t .labels) k 0 ≡ lastOr 0 (getD (types rs) k [])
   pub parent : length rs ≤ t .over → (k : ℕ) → k < t .count → getD (t .parents) k 0 ≡ parentOf (types rs) (up (getD (types rs) k []))

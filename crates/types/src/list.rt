@@ -9,12 +9,10 @@ ghost use Rattle.paper.specs.Tables as Tables;
 ghost use Rattle.paper.specs.Tables.{badRow};
 ghost use Rattle.types.specs.Types.{Lists, Found, FoundNear};
 
-// Each row's type number, and each type's first row, parent type (64 for none) and last label. `over` is the first row of the 65th
-// type, or the number of rows.
+// Each type's first row, parent type (64 for none) and last label. `over` is the first row of the 65th type, or the number of rows.
 pub struct Types {
     pub count: usize,
     pub over: usize,
-    pub types: [u8; 1024],
     pub first: [u16; 64],
     pub parents: [u8; 64],
     pub labels: [u16; 64],
@@ -54,14 +52,13 @@ fn find_near(parents: &[u8], labels: &[u16], count: usize, p: u8, a: u16, guess:
     find_type(parents, labels, count, p, a)
 }
 
-// The type list of a table that keeps the row rules. What came last after a row of the same type is the guess for a row's type: `after`
-// has it for each type, and for none before the first row.
-pub fn list_types(table: &[u8], f: Format, rows: usize) -> Types
+// The type list of a table that keeps the row rules, and each row's type number in the lent list. What came last after a row of the same
+// type is the guess for a row's type: `after` has it for each type, and for none before the first row.
+pub fn list_types(table: &[u8], f: Format, rows: usize, types: &mut [u8]) -> Types
     requires { ⌜ (rows ≡ whole (rowBytes f) (now table)) × (rows ≤ mostRows) × (f .levels ≤ 8) ⌝ }
-    requires { ⌜ badRow f (Tables.rows f (now table)) ≡ none ⌝ }
-    ensures { λ r. ⌜ Lists (Tables.rows f (now (table .entry))) r ⌝ }
+    requires { ⌜ (badRow f (Tables.rows f (now table)) ≡ none) × (length (now types) ≡ mostRows) ⌝ }
+    ensures { λ r. ⌜ Lists (Tables.rows f (now (table .entry))) (now (types .exit)) r ⌝ }
 {
-    let mut types = [0u8; 1024];
     let mut first = [0u16; 64];
     let mut parents = [0u8; 64];
     let mut labels = [0u16; 64];
@@ -89,7 +86,6 @@ pub fn list_types(table: &[u8], f: Format, rows: usize) -> Types
                 return Types {
                     count: 64,
                     over: i,
-                    types: types,
                     first: first,
                     parents: parents,
                     labels: labels,
@@ -109,7 +105,6 @@ pub fn list_types(table: &[u8], f: Format, rows: usize) -> Types
     Types {
         count: count,
         over: rows,
-        types: types,
         first: first,
         parents: parents,
         labels: labels,

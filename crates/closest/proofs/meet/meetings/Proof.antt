@@ -1,7 +1,8 @@
 -- `meet::meetings`: after i turns the array holds how deep the first i rows meet the wanted types. Assumes nothing.
 use Prim.Native.Nat.{_-_, _≤_}
 use native.Mathlib.Omega.{arith}
-use mathlib.Core.Path.{_≡_, refl, subst}
+use mathlib.Core.Path.{_≡_, _∙_, ap, subst}
+use lib.ListN.{length, getD}
 use Rattle.closest.specs.Deepest.{Meetings}
 use Rattle.closest.proofs.Deepest.{zeros-at}
 use Rattle.closest.proofs.Meetings.{Walked, walked-none, walked-more}
@@ -16,15 +17,17 @@ abbrev μ-loop : tie.MeasureT-loop
 μ-loop levels types rows wanted deepest₀ near₀ i₀ deepest near i = rows - i
 
 abbrev begun : tie.At-loop Inv-loop μ-loop → tie.Start Inv-loop μ-loop
-begun l = l .before .before .before
+begun l = l .before .before .before .before
 
 abbrev turn : tie.After-shared-slice-known4 Inv-loop μ-loop → tie.At-loop Inv-loop μ-loop
 turn c = c .before .before .before
 
 loop-holds : tie.Need-loop-holds Inv-loop μ-loop
 loop-holds c =
-    let a = c .before .before .args in
-    (omega arith, walked-none (a .levels .now) (a .types .now) (a .wanted) _ _ refl (zeros-at 16) (zeros-at 1024))
+    let s = c .before .before .before in
+    let a = s .args in
+    let none = s .pre .1 in
+    (omega arith, walked-none (a .levels .now) (a .types .now) (a .wanted) _ _ (ap length none) (zeros-at 16) (λ j. ap (λ l. getD l j 0) none ∙ zeros-at 1024 j))
 
 shared-slice-read-k : tie.Need-shared-slice-read-k Inv-loop μ-loop
 shared-slice-read-k c = search needs
@@ -33,10 +36,7 @@ shared-slice-read-onward : tie.Need-shared-slice-read-onward Inv-loop μ-loop
 shared-slice-read-onward c = search needs
 
 onward-requires : tie.Need-onward-requires Inv-loop μ-loop
-onward-requires c κs = let l = turn c in begun l .pre .level-some (l .loop .i) (omega arith)
-
-slice-aggregate-deepen : tie.Need-slice-aggregate-deepen Inv-loop μ-loop
-slice-aggregate-deepen c = search needs
+onward-requires c κs = let l = turn c in begun l .pre .0 .level-some (l .loop .i) (omega arith)
 
 wide-requires : tie.Need-wide-requires Inv-loop μ-loop
 wide-requires c κs = search needs
@@ -47,7 +47,7 @@ mul-deepen c = search needs
 deepen-requires : tie.Need-deepen-requires Inv-loop μ-loop
 deepen-requires c κs =
     let l = turn (c .before .before .before) in
-    omega (arith, begun l .pre .type-few (l .loop .i) (omega arith), c .wide .ensures .0, l .loop .inv .1 .long)
+    omega (arith, begun l .pre .0 .type-few (l .loop .i) (omega arith), c .wide .ensures .0, l .loop .inv .1 .long)
 
 add-i : tie.Need-add-i Inv-loop μ-loop
 add-i c = search needs
@@ -57,11 +57,14 @@ loop-less c = search needs
 
 loop-again : tie.Need-loop-again Inv-loop μ-loop
 loop-again c =
-    let d = c .before in
+    let d = c .before .before in
     let w = d .before in
     let o = w .before .before in
     let l = turn (o .before) in
     (omega arith, walked-more (l .loop .inv .1) (o .onward .result) (o .onward .ensures) _ _ (w .wide .ensures .0) (d .deepen .ensures) (omega arith))
+
+same-length : tie.Need-same-length Inv-loop μ-loop
+same-length c = search needs
 
 returns : tie.Need-returns Inv-loop μ-loop
 returns c =
@@ -80,11 +83,11 @@ meetings-spec =
     shared-slice-read-k
     shared-slice-read-onward
     onward-requires
-    slice-aggregate-deepen
     wide-requires
     mul-deepen
     deepen-requires
     add-i
     loop-less
     loop-again
+    same-length
     returns)

@@ -1,7 +1,7 @@
 -- `meet::row_levels`: the first byte of each row so far stands in its place. Assumes nothing.
 use Prim.Native.Nat.{_-_, _≤_}
 use native.Mathlib.Omega.{arith}
-use mathlib.Core.Path.{refl, ap}
+use mathlib.Core.Path.{ap}
 use Rattle.paper.specs.Format.{mostRows, byte}
 use Rattle.closest.proofs.Filled.{Filled, filled-none, filled-more}
 use Rattle.closest.proofs.Meetings.{firstByte, row-inside, levels-read}
@@ -10,31 +10,31 @@ use Rattle.closest.proofs.meet.row_levels.Statement.{statement}
 use Rattle.closest.proofs.meet.row_levels.Tie as tie
 
 abbrev Inv-loop : tie.InvT-loop
-Inv-loop table rows w levels₀ i₀ levels i = (i ≤ rows) × Filled (firstByte w table) 0 mostRows i levels
+Inv-loop table rows levels₀ w i₀ levels i = (i ≤ rows) × Filled (firstByte w table) 0 mostRows i levels
 
 abbrev μ-loop : tie.MeasureT-loop
-μ-loop table rows w levels₀ i₀ levels i = rows - i
+μ-loop table rows levels₀ w i₀ levels i = rows - i
 
 abbrev begun : tie.At-loop Inv-loop μ-loop → tie.Start Inv-loop μ-loop
-begun l = l .before .before .before
+begun l = l .before .before .before .before
 
 row-bytes-requires : tie.Need-row-bytes-requires Inv-loop μ-loop
 row-bytes-requires c κs = search needs
 
 loop-holds : tie.Need-loop-holds Inv-loop μ-loop
-loop-holds c = (omega arith, filled-none _ 0 mostRows _ refl)
+loop-holds c = (omega arith, filled-none _ 0 mostRows _ (c .before .before .before .pre .1))
 
 record-requires : tie.Need-record-requires Inv-loop μ-loop
 record-requires c κs =
     let l = c .before in
     let a = begun l .args in
-    row-inside (a .f) (a .rows) (a .table .now) (begun l .pre) _ (l .before .row-bytes .ensures) (l .loop .i) (c .loop-test .taken)
+    row-inside (a .f) (a .rows) (a .table .now) (begun l .pre .0) _ (l .before .row-bytes .ensures) (l .loop .i) (c .loop-test .taken)
 
 shared-slice-read-levels : tie.Need-shared-slice-read-levels Inv-loop μ-loop
 shared-slice-read-levels c = search needs
 
-array-write-levels : tie.Need-array-write-levels Inv-loop μ-loop
-array-write-levels c = search needs
+slice-write-levels : tie.Need-slice-write-levels Inv-loop μ-loop
+slice-write-levels c = search needs
 
 add-i : tie.Need-add-i Inv-loop μ-loop
 add-i c = search needs
@@ -48,12 +48,15 @@ loop-again c =
     let first = ap (λ b. byte b 0) (c .before .«record» .ensures .0) in
     (omega arith, filled-more _ 0 mostRows (l .loop .i) (l .loop .levels) _ (omega arith) (l .loop .inv .1) first)
 
+same-length : tie.Need-same-length Inv-loop μ-loop
+same-length c = search needs
+
 returns : tie.Need-returns Inv-loop μ-loop
 returns c =
     let l = c .before in
     let a = begun l .args in
     let wide = l .before .row-bytes .ensures in
-    levels-read (a .f) (a .rows) (a .table .now) (begun l .pre) _ wide (l .loop .i) (l .loop .levels) (omega arith) (l .loop .inv .1)
+    levels-read (a .f) (a .rows) (a .table .now) (begun l .pre .0) _ wide (l .loop .i) (l .loop .levels) (omega arith) (l .loop .inv .1)
 
 pub row-levels-spec : {M : Type 1} → statement M
 row-levels-spec =
@@ -65,8 +68,9 @@ row-levels-spec =
     loop-holds
     record-requires
     shared-slice-read-levels
-    array-write-levels
+    slice-write-levels
     add-i
     loop-less
     loop-again
+    same-length
     returns)

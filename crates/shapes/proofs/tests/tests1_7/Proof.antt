@@ -17,46 +17,56 @@ use Rattle.shapes.proofs.tests.tests1_7.Tie as tie
 
 -- the table and the shape that are lent
 abbrev table : tie.After-examine → List ℕ
-table x = x .before .before .before .before .args .table .now
+table x = x .before .before .before .before .before .before .args .table .now
 
 abbrev shape : tie.After-examine → List ℕ
-shape x = x .before .before .before .before .args .shape .now
+shape x = x .before .before .before .before .before .before .args .shape .now
 
--- where the table is examined
+-- where the table is examined, and where its types are listed
+abbrev examinedAt : tie.After-list-types → tie.After-examine
+examinedAt l = l .before .before .before
+
+abbrev listedAt : tie.Else2 → tie.After-list-types
+listedAt c = c .before .before .before
+
 abbrev tableAt : tie.Else3 → tie.After-examine
-tableAt c = c .before .before .before .before .before
+tableAt c = examinedAt (listedAt (c .before .before))
 
 -- where the shape has passed its tests
 abbrev shapeAt : tie.After-entry-types → tie.Else3
-shapeAt k = k .before .before .before .before .before
+shapeAt k = k .before .before .before .before .before .before
+
+-- the rows' type numbers, in the lent list
+abbrev numbers : tie.After-list-types → List ℕ
+numbers l = l .list-types .last .1 .1 .1 .0
 
 -- ---- what each test that passed leaves known
 tabled : (c : tie.Else1) → Tabled (table (c .before)) (c .before .examine .result .rows)
 tabled c = let x = c .before in table-passed (table x) (x .examine .result) (x .examine .ensures) (c .if1 .left)
 
-lists : (c : tie.After-list-types) → Lists (Tables.rows base (table (c .before .before))) (c .list-types .result)
-lists c =
-    let x = c .before .before in
-    subst (λ f. Lists (Tables.rows f (table x)) (c .list-types .result)) (x .before .base .ensures) (c .list-types .ensures)
+lists : (l : tie.After-list-types) → Lists (Tables.rows base (table (examinedAt l))) (numbers l) (l .list-types .result)
+lists l =
+    let x = examinedAt l in
+    subst (λ f. Lists (Tables.rows f (table x)) (numbers l) (l .list-types .result)) (x .before .base .ensures) (l .list-types .ensures)
 
 listed : (c : tie.Else2) →
-    let l = c .before in
-    let x = l .before .before in
-    Listed (table x) (x .examine .result .rows) (l .list-types .result)
-listed c = types-listed (tabled (c .before .before)) (lists (c .before)) (omega (arith, c .if2 .left))
+    let l = listedAt c in
+    let x = examinedAt l in
+    Listed (table x) (x .examine .result .rows) (numbers l) (l .list-types .result)
+listed c = let l = listedAt c in types-listed (tabled (l .before .before)) (lists l) (omega (arith, c .if2 .left))
 
 shaped : (c : tie.Else3) → Shaped (shape (tableAt c)) (c .before .examine-shape .result .entries)
 shaped c = let x = c .before in shape-passed (shape (tableAt c)) (x .examine-shape .result) (x .examine-shape .ensures) (c .if3 .left)
 
 named : (k : tie.After-entry-types) →
     let s = shapeAt k in
-    let t = s .before .before .before .list-types .result in
+    let t = listedAt (s .before .before) .list-types .result in
     let n = s .before .examine-shape .result .entries in
     NumbersEach (t .parents) (t .labels) (t .count) (Shapes.entries base (shape (tableAt s))) n (k .entry-types .result)
 named k =
     let s = shapeAt k in
     let x = tableAt s in
-    let t = s .before .before .before .list-types .result in
+    let t = listedAt (s .before .before) .list-types .result in
     let n = s .before .examine-shape .result .entries in
     subst (λ f. NumbersEach (t .parents) (t .labels) (t .count) (Shapes.entries f (shape x)) n (k .entry-types .result)) (x .before .base .ensures)
     (k .entry-types .ensures)
@@ -74,21 +84,28 @@ returns : tie.Need-returns
 returns c =
     let x = c .before .before in
     let r = x .examine .result in
-    refusal (table x) (shape x) (c .refused .result) (r .number) (r .place) (c .refused .ensures) (c .before .if1 .taken)
+    refusal (table x) (shape x) (c .refused .result) _ _ (r .number) (r .place) (c .refused .ensures) (c .before .if1 .taken)
     (table-refused (table x) r (x .examine .ensures) (shape x) (c .before .if1 .taken))
 
 list-types-requires : tie.Need-list-types-requires
-list-types-requires c κs = list-asked (c .before .before .base .ensures) (tabled c)
+list-types-requires c κs =
+    let u = c .before in
+    let x = u .before in
+    let (asked, kept) = list-asked (x .before .base .ensures) (tabled u) in
+    (asked, (kept, x .before .before .before .before .before .before .pre .0))
 
 refused-requires-2 : tie.Need-refused-requires-2
 refused-requires-2 c κs = search needs
 
+same-length : tie.Need-same-length
+same-length c = search needs
+
 returns-2 : tie.Need-returns-2
 returns-2 c =
-    let l = c .before .before in
-    let x = l .before .before in
-    refusal (table x) (shape x) (c .refused2 .result) 4 (l .list-types .result .over) (c .refused2 .ensures) (λ z. omega (arith, z))
-    (types-refused (tabled (l .before)) (lists l) (shape x) (omega (arith, c .before .if2 .taken)))
+    let l = c .before .before .before .before in
+    let x = examinedAt l in
+    refusal (table x) (shape x) (c .refused2 .result) _ _ 4 (l .list-types .result .over) (c .refused2 .ensures) (λ z. omega (arith, z))
+    (types-refused (tabled (l .before .before)) (lists l) (shape x) (omega (arith, c .before .if2 .taken)))
 
 examine-shape-requires : tie.Need-examine-shape-requires
 examine-shape-requires c κs = search needs
@@ -96,51 +113,61 @@ examine-shape-requires c κs = search needs
 refused-requires-3 : tie.Need-refused-requires-3
 refused-requires-3 c κs = search needs
 
+same-length-2 : tie.Need-same-length-2
+same-length-2 c = search needs
+
 returns-3 : tie.Need-returns-3
 returns-3 c =
     let z = c .before .before in
-    let x = z .before .before .before .before in
+    let x = examinedAt (listedAt (z .before)) in
     let r = z .examine-shape .result in
-    refusal (table x) (shape x) (c .refused3 .result) (r .number) (r .place) (c .refused3 .ensures) (c .before .if3 .taken)
+    refusal (table x) (shape x) (c .refused3 .result) _ _ (r .number) (r .place) (c .refused3 .ensures) (c .before .if3 .taken)
     (shape-refused (shape x) r (z .examine-shape .ensures) (listed (z .before)) (c .before .if3 .taken))
-
-slice-aggregate-entry-types : tie.Need-slice-aggregate-entry-types
-slice-aggregate-entry-types c = search needs
-
-slice-aggregate-entry-types-2 : tie.Need-slice-aggregate-entry-types-2
-slice-aggregate-entry-types-2 c = search needs
 
 entry-types-requires : tie.Need-entry-types-requires
 entry-types-requires c κs =
-    let s = c .before .before .before .before in
+    let s = c .before .before .before .before .before in
     let few = told-types (listed (s .before .before)) .few in
     let ((whole, some, deep), kept) = shape-asked (tableAt s .before .base .ensures) (shaped s) in
-    ((whole, some, omega arith), (kept, (omega (arith, slice-aggregate-entry-types (c .before)), omega (arith, slice-aggregate-entry-types-2 c), few)))
+    ((whole, some, omega arith), (kept, (search needs, search needs, few)))
 
 refused-requires-4 : tie.Need-refused-requires-4
 refused-requires-4 c κs = search needs
+
+same-length-3 : tie.Need-same-length-3
+same-length-3 c = search needs
 
 returns-4 : tie.Need-returns-4
 returns-4 c =
     let k = c .before .before in
     let s = shapeAt k in
     let x = tableAt s in
-    refusal (table x) (shape x) (c .refused4 .result) 7 (k .entry-types .result .place) (c .refused4 .ensures) (λ z. omega (arith, z))
+    refusal (table x) (shape x) (c .refused4 .result) _ _ 7 (k .entry-types .result .place) (c .refused4 .ensures) (λ z. omega (arith, z))
     (types-missing (listed (s .before .before)) (shaped s) (k .entry-types .result) (named k) (omega (arith, c .before .if4 .taken)))
 
 entry-ways-requires : tie.Need-entry-ways-requires
-entry-ways-requires c κs = let s = shapeAt (c .before) in shape-asked (tableAt s .before .base .ensures) (shaped s)
+entry-ways-requires c κs =
+    let s = shapeAt (c .before .before) in
+    let x = tableAt s in
+    let (asked, kept) = shape-asked (x .before .base .ensures) (shaped s) in
+    (asked, (kept, x .before .before .before .before .before .before .pre .1))
+
+same-length-4 : tie.Need-same-length-4
+same-length-4 c = search needs
+
+same-length-5 : tie.Need-same-length-5
+same-length-5 c = search needs
 
 returns-5 : tie.Need-returns-5
 returns-5 c =
     let v = c .before .before .before .before .before .before in
-    let k = v .before .before in
+    let k = v .before .before .before in
     let s = shapeAt k in
     let x = tableAt s in
     let n = s .before .examine-shape .result .entries in
     let w = v .entry-ways in
-    let laid = subst (λ f. Laid (Shapes.shapeOver [] (Shapes.entries f (shape x))) n (w .result)) (x .before .base .ensures) (w .ensures) in
-    passes (listed (s .before .before)) (shaped s) (k .entry-types .result) (named k) (omega (arith, v .before .if4 .left)) (w .result) laid
+    let laid = subst (λ f. Laid (Shapes.shapeOver [] (Shapes.entries f (shape x))) n (w .result) (w .last .1 .1 .1 .0)) (x .before .base .ensures) (w .ensures) in
+    passes (listed (s .before .before)) (shaped s) (k .entry-types .result) (named k) (omega (arith, v .before .before .if4 .left)) (w .result) (w .last .1 .1 .1 .0) laid
 
 pub tests1-7-spec : {M : Type 1} → statement M
 tests1-7-spec =
@@ -152,14 +179,17 @@ tests1-7-spec =
     returns
     list-types-requires
     refused-requires-2
+    same-length
     returns-2
     examine-shape-requires
     refused-requires-3
+    same-length-2
     returns-3
-    slice-aggregate-entry-types
-    slice-aggregate-entry-types-2
     entry-types-requires
     refused-requires-4
+    same-length-3
     returns-4
     entry-ways-requires
+    same-length-4
+    same-length-5
     returns-5)

@@ -5,20 +5,24 @@ use denote.Ref.{now}
 use Rattle.paper.specs.Format.{mostEntries, entryBytes, whole}
 use Rattle.tables.proofs.Rows.{rec, row-in}
 use Rattle.shapes.specs.Ways.{wayPlaces}
-use Rattle.shapes.proofs.Reading.{Read, read-none, size-read, level-read, read-more, read-all}
+use Rattle.shapes.proofs.Reading.{Asked, Read, read-none, size-read, level-read, read-more, read-all}
 use native.Mathlib.Omega.{arith}
 use borrow.Author.Needs.{needs}
 use Rattle.shapes.proofs.ways.entry_ways.Statement.{statement}
 use Rattle.shapes.proofs.ways.entry_ways.Tie as tie
 
 abbrev Inv-loop : tie.InvT-loop
-Inv-loop s f entries w levels₀ labels₀ parents₀ ways₀ e₀ levels labels parents ways e = (e ≤ entries) × Read f s e levels labels parents ways
+Inv-loop s f entries ways₀ w levels₀ labels₀ parents₀ e₀ ways levels labels parents e = (e ≤ entries) × Read f s e levels labels parents ways
 
 abbrev μ-loop : tie.MeasureT-loop
-μ-loop s f entries w levels₀ labels₀ parents₀ ways₀ e₀ levels labels parents ways e = entries - e
+μ-loop s f entries ways₀ w levels₀ labels₀ parents₀ e₀ ways levels labels parents e = entries - e
 
 abbrev begun : tie.At-loop Inv-loop μ-loop → tie.Start Inv-loop μ-loop
-begun l = l .before .before .before
+begun l = l .before .before .before .before
+
+-- what the reading of the shape asks for
+asked : (l : tie.At-loop Inv-loop μ-loop) → let a = begun l .args in Asked (a .f) (a .shape .now) (a .entries)
+asked l = let p = begun l .pre in (p .0, p .1 .0)
 
 abbrev turn : tie.After-record Inv-loop μ-loop → tie.At-loop Inv-loop μ-loop
 turn r = r .before .before
@@ -51,7 +55,7 @@ size-fits z =
     let l = turn r in
     let s = begun l in
     let a = s .args in
-    size-read (a .f) (a .shape .now) (a .entries) (s .pre) (l .loop .e) (here r) (now (r .«record» .result)) (entry-is r)
+    size-read (a .f) (a .shape .now) (a .entries) (asked l) (l .loop .e) (here r) (now (r .«record» .result)) (entry-is r)
     (z .wide2 .result) (z .wide2 .ensures .0)
 
 level-fits : (w : tie.After-wide Inv-loop μ-loop) →
@@ -63,16 +67,20 @@ level-fits w =
     let l = turn r in
     let s = begun l in
     let a = s .args in
-    level-read (a .f) (a .shape .now) (a .entries) (s .pre) (l .loop .e) (here r) (now (r .«record» .result)) (entry-is r)
+    level-read (a .f) (a .shape .now) (a .entries) (asked l) (l .loop .e) (here r) (now (r .«record» .result)) (entry-is r)
     (w .wide .result) (w .wide .ensures .0)
+
+-- where the entry's way is put
+abbrev placed : tie.After-parent-of-arg Inv-loop μ-loop → tie.After-put-way Inv-loop μ-loop
+placed c = c .before .before .before
 
 entry-bytes-requires : tie.Need-entry-bytes-requires Inv-loop μ-loop
 entry-bytes-requires c κs = search needs
 
 loop-holds : tie.Need-loop-holds Inv-loop μ-loop
 loop-holds c =
-    let a = c .before .before .args in
-    (omega arith, read-none (a .f) (a .shape .now) _ _ _ _ refl refl refl refl)
+    let s = c .before .before .before in
+    (omega arith, read-none (s .args .f) (s .args .shape .now) _ _ _ _ refl refl refl (s .pre .1 .1))
 
 record-requires : tie.Need-record-requires Inv-loop μ-loop
 record-requires c κs =
@@ -118,11 +126,17 @@ mul-labels c = search needs
 array-write-labels : tie.Need-array-write-labels Inv-loop μ-loop
 array-write-labels c = search needs
 
-with-way-requires : tie.Need-with-way-requires Inv-loop μ-loop
-with-way-requires c κs = level-fits (sized (c .before .before))
+put-way-requires : tie.Need-put-way-requires Inv-loop μ-loop
+put-way-requires c κs =
+    let w = sized (c .before .before .before) in
+    let (inside, lo, hi, first) = level-fits w in
+    (turn (levelled w) .loop .inv .1 .ways-long, inside, lo, hi, first)
 
 parent-of-requires : tie.Need-parent-of-requires Inv-loop μ-loop
-parent-of-requires c κs = let (inside, lo, hi, first) = level-fits (sized (c .before .before .before)) in (inside, lo, hi)
+parent-of-requires c κs =
+    let w = sized (placed c .before .before .before .before) in
+    let (inside, lo, hi, first) = level-fits w in
+    (omega (arith, turn (levelled w) .loop .inv .1 .ways-long), inside, lo, hi)
 
 array-write-parents : tie.Need-array-write-parents Inv-loop μ-loop
 array-write-parents c = search needs
@@ -135,8 +149,8 @@ loop-less c = search needs
 
 loop-again : tie.Need-loop-again Inv-loop μ-loop
 loop-again c =
-    let y = c .before .with-way in
-    let x = c .before .before in
+    let y = placed (c .before) in
+    let x = y .before .before in
     let z = x .before .before in
     let w = sized z in
     let r = levelled w in
@@ -145,10 +159,13 @@ loop-again c =
     let a = s .args in
     let v = l .loop in (
       omega (arith, here r),
-      read-more (a .f) (a .shape .now) (a .entries) (s .pre) (v .e) (here r) (now (r .«record» .result)) (entry-is r) (w .wide .result) (w .wide .ensures .0)
-          (v .levels) (v .labels) (v .parents) (v .ways) (v .inv .1) (y .result) (y .ensures) (omega (arith, y .ok)) _ _ _ (z .wide2 .result)
+      read-more (a .f) (a .shape .now) (a .entries) (asked l) (v .e) (here r) (now (r .«record» .result)) (entry-is r) (w .wide .result) (w .wide .ensures .0)
+          (v .levels) (v .labels) (v .parents) (v .ways) (v .inv .1) _ (y .put-way .ensures) (omega (arith, v .inv .1 .ways-long)) _ _ _ (z .wide2 .result)
           refl (z .wide2 .ensures .0) (x .component .ensures .0) (c .parent-of .ensures),
     )
+
+same-length : tie.Need-same-length Inv-loop μ-loop
+same-length c = search needs
 
 returns : tie.Need-returns Inv-loop μ-loop
 returns c =
@@ -178,10 +195,11 @@ entry-ways-spec =
     cast-labels
     mul-labels
     array-write-labels
-    with-way-requires
+    put-way-requires
     parent-of-requires
     array-write-parents
     add-e
     loop-less
     loop-again
+    same-length
     returns)

@@ -1,77 +1,130 @@
 -- `shapes::work::prepare` meets its contract. Assumes nothing.
 use Prim.Native.Nat.{ℕ}
-use mathlib.Core.Path.{sym, subst}
+use native.Mathlib.Omega.{arith}
+use mathlib.Core.Path.{_≡_, sym, ap, subst}
 use mathlib.Core.List.{List}
+use lib.ListN.{length}
 use Rattle.paper.specs.Format.{base}
 use Rattle.closest.specs.Runs.{SoundRows, LevelsOf}
+use Rattle.shapes.specs.Tests.{Passes}
 use Rattle.shapes.proofs.Prepared as laws
 use borrow.Author.Needs.{needs}
 use Rattle.shapes.proofs.work.prepare.Statement.{statement}
 use Rattle.shapes.proofs.work.prepare.Tie as tie
 
--- the tests are passed, and what they read
+-- where the function begins; where the tests are passed; where the levels are read; where types are found to meet
+abbrev begun : tie.After-tests1-7 → tie.Start
+begun p = p .before .before .before .before .before .before .before .before .before
+
+abbrev read : tie.Else1 → tie.After-tests1-7
+read u = u .before .before .before .before .before
+
 abbrev passed : tie.After-base → tie.Else1
-passed c = c .before .before .before .before .before .before .before
+passed b = b .before .before .before .before .before
 
-abbrev read : tie.After-base → tie.After-tests1-7
-read c = passed c .before
+abbrev format : tie.After-row-levels → tie.After-base
+format l = l .before .before
 
--- the table that is lent
-abbrev lent : tie.After-base → List ℕ
-lent c = read c .before .before .before .args .table .now
+abbrev levelled : tie.After-meetings → tie.After-row-levels
+levelled m = m .before .before .before .before .before .before
+
+abbrev met : tie.After-draw → tie.After-meetings
+met d = d .before .before .before .before
+
+-- where the list of type numbers is had back
+abbrev typed : tie.Else1 → tie.After-types
+typed u = u .before .before .before .before
+
+-- what the lent lists hold after them
+abbrev types : tie.After-tests1-7 → List ℕ
+types p = p .tests1-7 .last .1 .1 .0
+
+abbrev ways : tie.After-tests1-7 → List ℕ
+ways p = p .tests1-7 .last .1 .1 .1 .0
+
+abbrev levels : tie.After-row-levels → List ℕ
+levels l = l .row-levels .last .1 .1 .1 .0
+
+abbrev meetings : tie.After-meetings → List ℕ
+meetings m = m .meetings .last .1 .1 .1 .1 .0
+
+-- the tests are passed
+passes : (u : tie.Else1) → let p = read u in let a = begun p .args in Passes (a .table .now) (a .shape .now) (p .tests1-7 .result) (types p) (ways p)
+passes u = read u .tests1-7 .ensures
 
 -- the rows' levels
-levels-of : (c : tie.After-row-levels) → LevelsOf base (read (c .before) .tests1-7 .result .rows) (lent (c .before)) (c .row-levels .result)
-levels-of c =
-    let b = c .before in
-    subst (λ f. LevelsOf f (read b .tests1-7 .result .rows) (lent b) (c .row-levels .result)) (b .base .ensures) (c .row-levels .ensures)
+levels-of : (l : tie.After-row-levels) →
+    let p = read (passed (format l)) in
+    LevelsOf base (p .tests1-7 .result .rows) (begun p .args .table .now) (levels l)
+levels-of l =
+    let b = format l in
+    let p = read (passed b) in
+    subst (λ f. LevelsOf f (p .tests1-7 .result .rows) (begun p .args .table .now) (levels l)) (b .base .ensures) (l .row-levels .ensures)
 
 tests1-7-requires : tie.Need-tests1-7-requires
-tests1-7-requires c κs = search needs
+tests1-7-requires c κs =
+    let blank = c .before .before .before .before .before .before .before .before .pre in
+    (blank .types-long, blank .ways-long)
 
 unprepared-requires : tie.Need-unprepared-requires
 unprepared-requires c κs = search needs
 
+same-length : tie.Need-same-length
+same-length c = search needs
+
+same-length-2 : tie.Need-same-length-2
+same-length-2 c = search needs
+
 returns : tie.Need-returns
 returns c =
-    let r = c .before .before .tests1-7 in
-    laws.refusal _ _ (r .result) (c .unprepared .result) (r .ensures) (c .before .if1 .taken) (c .unprepared .ensures)
+    let p = c .before .before .before .before .before .before in
+    laws.refusal _ _ (p .tests1-7 .result) (types p) (ways p) _ (p .tests1-7 .ensures) (c .before .if1 .taken) (c .unprepared .ensures)
 
 base-requires : tie.Need-base-requires
 base-requires c κs = search needs
 
 row-levels-requires : tie.Need-row-levels-requires
 row-levels-requires c κs =
-    let r = read c .tests1-7 in
-    subst (λ f. SoundRows f (r .result .rows) (lent c)) (sym (c .base .ensures)) (laws.sound-rows (r .ensures) (passed c .if1 .left))
-
-slice-aggregate-meetings : tie.Need-slice-aggregate-meetings
-slice-aggregate-meetings c = search needs
-
-slice-aggregate-meetings-2 : tie.Need-slice-aggregate-meetings-2
-slice-aggregate-meetings-2 c = search needs
+    let b = c .before in
+    let u = passed b in
+    let s = begun (read u) in (
+      subst (λ f. SoundRows f (read u .tests1-7 .result .rows) (s .args .table .now)) (sym (b .base .ensures)) (laws.sound-rows (passes u) (u .if1 .left)),
+      s .pre .levels-long,
+    )
 
 meetings-requires : tie.Need-meetings-requires
 meetings-requires c κs =
-    let l = c .before .before in
-    let same = sym (slice-aggregate-meetings (c .before)) in
-    laws.rows-are (read (l .before) .tests1-7 .ensures) (passed (l .before) .if1 .left) (l .row-levels .result) (levels-of l) same
-
-slice-aggregate-draw : tie.Need-slice-aggregate-draw
-slice-aggregate-draw c = search needs
+    let v = c .before .before .before .before in
+    let l = v .before in
+    let u = passed (format l) in
+    let blank = begun (read u) .pre in
+    (laws.rows-are (passes u) (u .if1 .left) (levels l) (levels-of l) (omega (arith, blank .levels-long, v .levels .given)), blank .none-met)
 
 draw-requires : tie.Need-draw-requires
 draw-requires c κs =
-    let b = c .before .before .before .before .before in
-    (laws.known (read b .tests1-7 .ensures) (passed b .if1 .left), sym (slice-aggregate-draw c))
+    let v = c .before .before in
+    let u = passed (format (levelled (v .before))) in
+    (laws.known (passes u) (u .if1 .left), omega (arith, ap length (begun (read u) .pre .none-met), v .meetings2 .given))
+
+same-length-3 : tie.Need-same-length-3
+same-length-3 c = search needs
+
+same-length-4 : tie.Need-same-length-4
+same-length-4 c = omega (arith, typed (passed (format (levelled (met c)))) .types .given)
+
+same-length-5 : tie.Need-same-length-5
+same-length-5 c = search needs
+
+same-length-6 : tie.Need-same-length-6
+same-length-6 c = search needs
 
 returns-2 : tie.Need-returns-2
 returns-2 c =
-    let m = c .before .before in
-    let l = m .before .before .before in
-    let b = l .before in
-    laws.prepared (read b .tests1-7 .ensures) (passed b .if1 .left) (l .row-levels .result) (m .meetings .result) (levels-of l)
-    (sym (slice-aggregate-meetings (m .before .before))) (m .meetings .ensures) (c .draw .result) (c .draw .ensures)
+    let m = met c in
+    let l = levelled m in
+    let u = passed (format l) in
+    let long : length (levels l) ≡ 1024 = omega (arith, begun (read u) .pre .levels-long, m .before .before .before .before .before .levels .given) in
+    laws.prepared (passes u) (u .if1 .left) (levels l) (meetings m) (levels-of l) long (m .meetings .ensures) (c .draw .result) (c .draw .ensures)
 
 pub prepare-spec : {M : Type 1} → statement M
 prepare-spec =
@@ -79,12 +132,15 @@ prepare-spec =
     (tie.spec
     tests1-7-requires
     unprepared-requires
+    same-length
+    same-length-2
     returns
     base-requires
     row-levels-requires
-    slice-aggregate-meetings
-    slice-aggregate-meetings-2
     meetings-requires
-    slice-aggregate-draw
     draw-requires
+    same-length-3
+    same-length-4
+    same-length-5
+    same-length-6
     returns-2)

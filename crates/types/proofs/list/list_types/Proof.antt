@@ -21,7 +21,7 @@ abbrev μ-loop : tie.MeasureT-loop
 μ-loop t f rows types₀ first₀ parents₀ labels₀ stack₀ after₀ last₀ count₀ i₀ types first parents labels stack after last count i = rows - i
 
 abbrev begun : tie.At-loop Inv-loop μ-loop → tie.Start Inv-loop μ-loop
-begun l = l .before .before
+begun l = l .before .before .before
 
 abbrev formatOf : tie.At-loop Inv-loop μ-loop → Format
 formatOf l = begun l .args .f
@@ -61,13 +61,13 @@ label-is c =
 level-some : (c : tie.After-word Inv-loop μ-loop) → 1 ≤ levelOf c
 level-some c =
     let l = turn c in
-    l-pos (formatOf l) (begun l .args .table .now) (begun l .pre .1) (l .loop .i) (here c) (levelOf c) (c .word .result) (level-is c) (label-is c)
+    l-pos (formatOf l) (begun l .args .table .now) (begun l .pre .1 .0) (l .loop .i) (here c) (levelOf c) (c .word .result) (level-is c) (label-is c)
 
 level-most : (c : tie.After-word Inv-loop μ-loop) → levelOf c ≤ 8
 level-most c =
     let l = turn c in
     let b = begun l in
-    let fits = l-fits (formatOf l) (b .args .table .now) (b .pre .1) (l .loop .i) (here c) (levelOf c) (c .word .result) (level-is c) (label-is c) in
+    let fits = l-fits (formatOf l) (b .args .table .now) (b .pre .1 .0) (l .loop .i) (here c) (levelOf c) (c .word .result) (level-is c) (label-is c) in
     omega (arith, fits, begun l .pre .0 .2)
 
 array-write-stack : tie.Need-array-write-stack Inv-loop μ-loop
@@ -75,8 +75,8 @@ array-write-stack c = search needs
 
 loop-holds : tie.Need-loop-holds Inv-loop μ-loop
 loop-holds c =
-    let a = c .before .args in
-    (omega arith, walk-start (a .f) (a .table .now) _ _ _ _ _ refl refl refl refl refl refl, omega arith)
+    let s = c .before .before in
+    (omega arith, walk-start (s .args .f) (s .args .table .now) _ _ _ _ _ refl (s .pre .1 .1) refl refl refl refl, omega arith)
 
 row-bytes-requires : tie.Need-row-bytes-requires Inv-loop μ-loop
 row-bytes-requires c κs = search needs
@@ -124,8 +124,8 @@ find-near-requires c κs = search needs
 cast-types : tie.Need-cast-types Inv-loop μ-loop
 cast-types c = search needs
 
-array-write-types : tie.Need-array-write-types Inv-loop μ-loop
-array-write-types c = search needs
+slice-write-types : tie.Need-slice-write-types Inv-loop μ-loop
+slice-write-types c = search needs
 
 cast-stack : tie.Need-cast-stack Inv-loop μ-loop
 cast-stack c = search needs
@@ -155,11 +155,14 @@ loop-again c =
     let parent = getD (v .stack) (levelOf r - 1) 0 in
     let found = x .find-near .ensures .found (c .if1 .taken) in (
       omega (arith, width-known r .before .loop-test .taken),
-      walk-known (formatOf l) (s .args .table .now) (s .pre .1) (v .i) (here r) (levelOf r) (r .word .result) (level-is r) (label-is r)
+      walk-known (formatOf l) (s .args .table .now) (s .pre .1 .0) (v .i) (here r) (levelOf r) (r .word .result) (level-is r) (label-is r)
           (v .count) parent (v .types) (v .first) (v .parents) (v .labels) (v .stack) (v .inv .1) refl (omega (arith, s .pre .0 .0)) (s .pre .0 .2)
           (x .find-near .result) (c .if1 .taken) (found .0) (found .1),
       omega (arith, c .if1 .taken, v .inv .1 .pass .few),
     )
+
+same-length : tie.Need-same-length Inv-loop μ-loop
+same-length c = search needs
 
 returns : tie.Need-returns Inv-loop μ-loop
 returns c =
@@ -169,7 +172,7 @@ returns c =
     let s = begun l in
     let v = l .loop in
     let parent = getD (v .stack) (levelOf r - 1) 0 in
-    walk-full (formatOf l) (s .args .table .now) (s .pre .1) (v .i) (here r) (levelOf r) (r .word .result) (level-is r) (label-is r)
+    walk-full (formatOf l) (s .args .table .now) (s .pre .1 .0) (v .i) (here r) (levelOf r) (r .word .result) (level-is r) (label-is r)
     (v .count) parent (v .types) (v .first) (v .parents) (v .labels) (v .stack) (v .inv .1) refl (omega (arith, s .pre .0 .0)) (s .pre .0 .2)
     (λ k lk. x .find-near .ensures .none (omega arith) k lk) (c .if2 .taken)
 
@@ -194,8 +197,8 @@ array-write-first c = search needs
 cast-types-2 : tie.Need-cast-types-2 Inv-loop μ-loop
 cast-types-2 c = search needs
 
-array-write-types-2 : tie.Need-array-write-types-2 Inv-loop μ-loop
-array-write-types-2 c = search needs
+slice-write-types-2 : tie.Need-slice-write-types-2 Inv-loop μ-loop
+slice-write-types-2 c = search needs
 
 cast-stack-2 : tie.Need-cast-stack-2 Inv-loop μ-loop
 cast-stack-2 c = search needs
@@ -226,12 +229,15 @@ loop-again-2 c =
     let s = begun l in
     let v = l .loop in
     let parent = getD (v .stack) (levelOf r - 1) 0 in (
-      omega arith,
-      walk-new (formatOf l) (s .args .table .now) (s .pre .1) (v .i) (here r) (levelOf r) (r .word .result) (level-is r) (label-is r)
+      omega (arith, width-known r .before .loop-test .taken),
+      walk-new (formatOf l) (s .args .table .now) (s .pre .1 .0) (v .i) (here r) (levelOf r) (r .word .result) (level-is r) (label-is r)
           (v .count) parent (v .types) (v .first) (v .parents) (v .labels) (v .stack) (v .inv .1) refl (omega (arith, s .pre .0 .0)) (s .pre .0 .2)
           (λ k lk. x .find-near .ensures .none (omega arith) k lk) (omega (arith, v .inv .1 .pass .few)),
       omega (arith, v .inv .1 .pass .few),
     )
+
+same-length-2 : tie.Need-same-length-2 Inv-loop μ-loop
+same-length-2 c = search needs
 
 returns-2 : tie.Need-returns-2 Inv-loop μ-loop
 returns-2 c =
@@ -241,7 +247,7 @@ returns-2 c =
     let count = count-rows (formatOf l) (s .args .table .now) in
     let n : v .i ≡ s .args .rows = omega (arith, v .inv .0) in
     let rs = Tables.rows (formatOf l) (s .args .table .now) in
-    subst (λ m. Lists rs (record { count = v .count; over = m; types = v .types; first = v .first; parents = v .parents; labels = v .labels })) n
+    subst (λ m. Lists rs (v .types) (record { count = v .count; over = m; first = v .first; parents = v .parents; labels = v .labels })) n
     (lists-end rs (v .i) (v .count) (v .types) (v .first) (v .parents) (v .labels) (v .stack)
     (omega (arith, count, s .pre .0 .0)) (omega (arith, count, s .pre .0 .0, v .inv .1 .ks-long)) (v .inv .1 .pass))
 
@@ -267,7 +273,7 @@ list-types-spec =
     slice-aggregate-find-near-2
     find-near-requires
     cast-types
-    array-write-types
+    slice-write-types
     cast-stack
     array-write-stack-2
     cast-after
@@ -275,6 +281,7 @@ list-types-spec =
     add-i
     loop-less
     loop-again
+    same-length
     returns
     array-write-parents
     mul-labels
@@ -283,7 +290,7 @@ list-types-spec =
     mul-first
     array-write-first
     cast-types-2
-    array-write-types-2
+    slice-write-types-2
     cast-stack-2
     array-write-stack-3
     cast-after-2
@@ -292,4 +299,5 @@ list-types-spec =
     add-i-2
     loop-less-2
     loop-again-2
+    same-length-2
     returns-2)
