@@ -12,8 +12,6 @@ use Rattle.paper.specs.Lists.{Has, all, any, joinMap, count}
 use Rattle.paper.specs.Closeness.{Node, shared}
 use Rattle.paper.specs.Shapes as Paper
 use Rattle.paper.specs.Shapes.{way, side, path}
-use Rattle.shapes.specs.Shape.{edgeOf}
-use Rattle.shapes.specs.declared.shape.Shape.{Shape}
 use Rattle.paper.specs.Verdict
 use Rattle.paper.specs.Verdict.{kept, apart, unsure, isLeast, overPairs, meeting, edgeLevel, sureDown, meetsLeast, sure, pairFault}
 use Rattle.paper.proofs.Lists.{both, and, or-left, has-left, has-right, has-all, any-has, has-any, map-append}
@@ -27,38 +25,38 @@ verdictBy e f t u = elim t [ true ↦ elim u [ true ↦ kept | false ↦ unsure 
 
 -- ---- from what is found
 -- k entries are shared; d is the least level of the edges from there down to e, and l the least of d and those down to f
-pub record Found (s : Shape) (ways : List ℕ) (e f k d l : ℕ) : Type 0 where
-  pub shared-is : k ≡ shared (wayOf s ways e) (wayOf s ways f)
-  pub down-is : d ≡ lowest 255 (levelsOn s (drop k (wayOf s ways e)))
-  pub least-is : l ≡ lowest d (levelsOn s (drop k (wayOf s ways f)))
+pub record Found (levels edges ways : List ℕ) (e f k d l : ℕ) : Type 0 where
+  pub shared-is : k ≡ shared (wayOf levels ways e) (wayOf levels ways f)
+  pub down-is : d ≡ lowest 255 (levelsOn edges (drop k (wayOf levels ways e)))
+  pub least-is : l ≡ lowest d (levelsOn edges (drop k (wayOf levels ways f)))
 
-module _ {s : Shape} {ways : List ℕ} {e f k d l : ℕ} (w : Found s ways e f k d l) (full : List Bool) (m : ℕ) where
+module _ {levels edges ways : List ℕ} {e f k d l : ℕ} (w : Found levels edges ways e f k d l) (full : List Bool) (m : ℕ) where
   -- is a way sure from place k on?
   abbrev pub sureTo : ℕ → Bool
-  sureTo e = sureOn s full m (drop k (wayOf s ways e))
+  sureTo e = sureOn edges full m (drop k (wayOf levels ways e))
 
-  earned-by : (t u : Bool) → eqb l m ≡ t → sureTo e || sureTo f ≡ u → verdictBy e f t u ≡ earned s ways full m e f
+  earned-by : (t u : Bool) → eqb l m ≡ t → sureTo e || sureTo f ≡ u → verdictBy e f t u ≡ earned levels edges full ways m e f
   earned-by t u qt qu = rw (← qt, ← qu, w .least-is, w .down-is, w .shared-is) refl
 
   -- the least level is another than that at which the types meet
-  pub earned-apart : (l ≡ m → ⊥) → apart e f ≡ earned s ways full m e f
+  pub earned-apart : (l ≡ m → ⊥) → apart e f ≡ earned levels edges full ways m e f
   earned-apart ne = earned-by false (sureTo e || sureTo f) (ne-eqb l m ne) refl
 
-  module _ (meets : l ≡ m) (x : Bool) (qx : x ≡ sureOn s full m (drop k (wayOf s ways e))) where
+  module _ (meets : l ≡ m) (x : Bool) (qx : x ≡ sureOn edges full m (drop k (wayOf levels ways e))) where
     -- one way is sure
-    pub earned-down : x ≡ true → kept ≡ earned s ways full m e f
+    pub earned-down : x ≡ true → kept ≡ earned levels edges full ways m e f
     earned-down h = earned-by true true (eq-eqb l m meets) (or-left (sureTo f) (sym qx ∙ h))
 
-    module _ (lost : x ≡ false) (y : Bool) (qy : y ≡ sureOn s full m (drop k (wayOf s ways f))) where
-      earned-up : (u : Bool) → y ≡ u → verdictBy e f true u ≡ earned s ways full m e f
+    module _ (lost : x ≡ false) (y : Bool) (qy : y ≡ sureOn edges full m (drop k (wayOf levels ways f))) where
+      earned-up : (u : Bool) → y ≡ u → verdictBy e f true u ≡ earned levels edges full ways m e f
       earned-up u h = earned-by true u (eq-eqb l m meets) (ap₂ (λ x y. x || y) (sym qx ∙ lost) (sym qy ∙ h))
 
       -- only the other way is sure
-      pub earned-kept : y ≡ true → kept ≡ earned s ways full m e f
+      pub earned-kept : y ≡ true → kept ≡ earned levels edges full ways m e f
       earned-kept = earned-up true
 
       -- no way is sure
-      pub earned-unsure : y ≡ false → unsure e f ≡ earned s ways full m e f
+      pub earned-unsure : y ≡ false → unsure e f ≡ earned levels edges full ways m e f
       earned-unsure = earned-up false
 
 -- ---- the least level
@@ -115,20 +113,20 @@ fault-by e f true true = refl
 fault-by e f true false = refl
 fault-by e f false u = refl
 
-module _ (t : List Node) (p : Paper.Shape) (s : Shape) (full : List Bool) where
+module _ (t : List Node) (p : Paper.Shape) (edges : List ℕ) (full : List Bool) where
   -- the array has the levels of these edges
   abbrev pub Levels : List ℕ → Type 0
-  Levels cs = (c : ℕ) → Has c cs → edgeOf s c ≡ edgeLevel t p c
+  Levels cs = (c : ℕ) → Has c cs → getD edges c 0 ≡ edgeLevel t p c
 
   -- the array says of these edges whether they are full
   abbrev pub Fulls : List ℕ → Type 0
   Fulls cs = (c : ℕ) → Has c cs → getD full c false ≡ Verdict.full t p c
 
-  levels-same : (cs : List ℕ) → Levels cs → levelsOn s cs ≡ map (edgeLevel t p) cs
+  levels-same : (cs : List ℕ) → Levels cs → levelsOn edges cs ≡ map (edgeLevel t p) cs
   levels-same [] h = refl
   levels-same (c ∷ cs) h = ap₂ {C = List ℕ} (λ x xs. x ∷ xs) (h c (inl refl)) (levels-same cs (λ d i. h d (inr i)))
 
-  sure-same : (l : ℕ) (cs : List ℕ) → Levels cs → Fulls cs → sureOn s full l cs ≡ sureDown t p l cs
+  sure-same : (l : ℕ) (cs : List ℕ) → Levels cs → Fulls cs → sureOn edges full l cs ≡ sureDown t p l cs
   sure-same l [] h k = refl
   sure-same l (c ∷ cs) h k =
       ap₂ (λ x y. eqb x l || y) (h c (inl refl)) (ap₂ (λ x y. x && y) (k c (inl refl)) (sure-same l cs (λ d i. h d (inr i)) (λ d i. k d (inr i))))
@@ -138,14 +136,14 @@ module _ (t : List Node) (p : Paper.Shape) (s : Shape) (full : List Bool) where
     up-is : drop (shared (way p e) (way p f)) (way p f) ≡ side p f e
     up-is = ap (λ k. drop k (way p f)) (shared-sym (way p e) (way p f))
 
-    least-is : eqb (lowest (lowest 255 (levelsOn s (side p e f))) (levelsOn s (side p f e))) m ≡ meetsLeast t p e f
+    least-is : eqb (lowest (lowest 255 (levelsOn edges (side p e f))) (levelsOn edges (side p f e))) m ≡ meetsLeast t p e f
     unfolding meetsLeast
     least-is =
-        ap (λ x. eqb x m) (lowest-append 255 (levelsOn s (side p e f)) (levelsOn s (side p f e))
-        ∙ ap (lowest 255) (sym (map-append (edgeOf s) (side p e f) (side p f e)) ∙ levels-same (path p e f) levels))
+        ap (λ x. eqb x m) (lowest-append 255 (levelsOn edges (side p e f)) (levelsOn edges (side p f e))
+        ∙ ap (lowest 255) (sym (map-append (λ c. getD edges c 0) (side p e f) (side p f e)) ∙ levels-same (path p e f) levels))
         ∙ lowest-least m 255 (map (edgeLevel t p) (path p e f)) low ∙ ap (λ x. isLeast x (map (edgeLevel t p) (path p e f))) meets
 
-    sure-is : sureOn s full m (side p e f) || sureOn s full m (side p f e) ≡ sure t p e f
+    sure-is : sureOn edges full m (side p e f) || sureOn edges full m (side p f e) ≡ sure t p e f
     unfolding sure
     sure-is =
         ap₂ (λ x y. x || y)
@@ -154,11 +152,11 @@ module _ (t : List Node) (p : Paper.Shape) (s : Shape) (full : List Bool) where
         ∙ ap (λ x. sureDown t p x (side p e f) || sureDown t p x (side p f e)) meets
 
     -- a pair earns what the paper says
-    pub earned-fault : fault (earnedBy s full m e f (way p e) (way p f)) ≡ pairFault t p e f
+    pub earned-fault : fault (earnedBy edges full m e f (way p e) (way p f)) ≡ pairFault t p e f
     unfolding pairFault
     earned-fault =
-        ap (λ u. fault (verdictBy e f (eqb (lowest (lowest 255 (levelsOn s (side p e f))) (levelsOn s u)) m)
-        (sureOn s full m (side p e f) || sureOn s full m u))) up-is
+        ap (λ u. fault (verdictBy e f (eqb (lowest (lowest 255 (levelsOn edges (side p e f))) (levelsOn edges u)) m)
+        (sureOn edges full m (side p e f) || sureOn edges full m u))) up-is
         ∙ ap₂ (λ w u. fault (verdictBy e f w u)) least-is sure-is ∙ fault-by e f (meetsLeast t p e f) (sure t p e f)
 
 -- ---- all pairs

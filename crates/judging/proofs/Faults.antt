@@ -66,12 +66,12 @@ module _ (g : ℕ → ℕ → List Verdict.Verdict) (n : ℕ) where
 -- ---- one pair
 -- what each pair of entries earns, where it is a fault
 abbrev pub faultsOf : Shape → List ℕ → List Bool → List ℕ → ℕ → ℕ → List Verdict.Verdict
-faultsOf s ways full meetings e f = fault (earned s ways full (meetingOf meetings (s .types) e f) e f)
+faultsOf s ways full meetings e f = fault (earned (s .levels) (s .edges) full ways (meetingOf meetings (s .types) e f) e f)
 
 module _ (s : Shape) (ways : List ℕ) (full : List Bool) (meetings : List ℕ) (e f m : ℕ) (qm : m ≡ meetingOf meetings (s .types) e f) (v : Verdict)
-    (qv : told v ≡ earned s ways full m e f) where
+    (qv : told v ≡ earned (s .levels) (s .edges) full ways m e f) where
   faults-told : faultsOf s ways full meetings e f ≡ fault (told v)
-  faults-told = ap (λ m. fault (earned s ways full m e f)) (sym qm) ∙ ap fault (sym qv)
+  faults-told = ap (λ m. fault (earned (s .levels) (s .edges) full ways m e f)) (sym qm) ∙ ap fault (sym qv)
 
   pub faults-none : v ≡ Kept → faultsOf s ways full meetings e f ≡ []
   faults-none q = faults-told ∙ ap (λ v. fault (told v)) q

@@ -33,7 +33,7 @@ use Rattle.judging.specs.declared.verdict.Verdict.the-variants.{Kept, Mi
 use Rattle.judging.specs.declared.judge.Judged.{Judged}
 use Rattle.judging.specs.Lone.{aloneOf, aloneRows, loneFrom}
 use Rattle.judging.specs.Edges.{Fulls}
-use Rattle.judging.specs.Pairs.{wayOf, Room, firstFault, fault, earnedBy}
+use Rattle.judging.specs.Pairs.{Room, firstFault, fault, earned, earnedBy}
 use Rattle.judging.proofs.Closest.{alone-empty, alone-missing}
 use Rattle.judging.proofs.Found.{first-found, none-lone}
 use Rattle.judging.proofs.Earned.{earned-fault, faults-same}
@@ -170,12 +170,12 @@ module _ {t sb : List ℕ} {w : Work} (r : Ready t sb w) where
         ∙ ap (λ n. overPairs (pairFault ns p) (count 0 n)) (r .holds .counted))
       where
         pair : (e f : ℕ) → e < f → f < s .entries
-            → fault (earnedBy s fulls (meetingOf (w .meetings) (s .types) e f) e f (wayOf s (w .ways) e) (wayOf s (w .ways) f)) ≡ pairFault ns p e f
+            → fault (earned (s .levels) (s .edges) fulls (w .ways) (meetingOf (w .meetings) (s .types) e f) e f) ≡ pairFault ns p e f
         pair e f lt lf =
             let le : e < s .entries = omega arith in
             let m = meeting-is e f le lf in
-            ap₂ (λ a b. fault (earnedBy s fulls (meetingOf (w .meetings) (s .types) e f) e f a b)) (r .holds .way-is e le) (r .holds .way-is f lf)
-            ∙ earned-fault ns p s fulls e f (meetingOf (w .meetings) (s .types) e f) m (omega (arith, m, meeting-small e f))
+            ap₂ (λ a b. fault (earnedBy (s .edges) fulls (meetingOf (w .meetings) (s .types) e f) e f a b)) (r .holds .way-is e le) (r .holds .way-is f lf)
+            ∙ earned-fault ns p (s .edges) fulls e f (meetingOf (w .meetings) (s .types) e f) m (omega (arith, m, meeting-small e f))
             (λ c h. edge-is c (inside c h)) (λ c h. fulls-are c (inside c h))
           where
             inside : (c : ℕ) → Has c (path p e f) → c < s .entries

@@ -10,7 +10,7 @@ use Rattle.paper.specs.Format.{mostEntries}
 use Rattle.paper.specs.Closeness.{shared}
 use Rattle.paper.specs.Verdict.{Verdict, kept, missing, apart, unsure, overPairs}
 use Rattle.shapes.specs.Edges.{meetingOf}
-use Rattle.shapes.specs.Shape.{levelOf, edgeOf, Sized}
+use Rattle.shapes.specs.Shape.{levelOf, Sized}
 use Rattle.shapes.specs.Ways.{wayPlaces, wayAt}
 use Rattle.shapes.specs.declared.shape.Shape.{Shape}
 
@@ -25,14 +25,15 @@ fault (missing e r) = missing e r ∷ []
 fault (apart e f) = apart e f ∷ []
 fault (unsure e f) = unsure e f ∷ []
 
-module _ (s : Shape) where
+module _ (edges : List ℕ) where
+  -- the levels of these edges
   abbrev pub levelsOn : List ℕ → List ℕ
-  levelsOn cs = map (edgeOf s) cs
+  levelsOn cs = map (λ c. getD edges c 0) cs
 
   -- some edge of level l has only full edges between it and the fork, from which the edges run down
   abbrev pub sureOn : List Bool → ℕ → List ℕ → Bool
   sureOn full l [] = false
-  sureOn full l (c ∷ cs) = eqb (edgeOf s c) l || (getD full c false && sureOn full l cs)
+  sureOn full l (c ∷ cs) = eqb (getD edges c 0) l || (getD full c false && sureOn full l cs)
 
   -- what a pair earns whose types meet at m and whose ways are these
   abbrev pub earnedBy : List Bool → ℕ → ℕ → ℕ → List ℕ → List ℕ → Verdict
@@ -44,20 +45,26 @@ module _ (s : Shape) where
         | false ↦ apart e f
       ]
 
-  module _ (ways : List ℕ) where
-    -- the entries from entry 0 down to e
-    abbrev pub wayOf : ℕ → List ℕ
-    wayOf e = wayAt ways e (levelOf s e)
+-- the entries from entry 0 down to e
+abbrev pub wayOf : (levels ways : List ℕ) → ℕ → List ℕ
+wayOf levels ways e = wayAt ways e (getD levels e 0)
 
-    abbrev pub earned : List Bool → ℕ → ℕ → ℕ → Verdict
-    earned full m e f = earnedBy full m e f (wayOf e) (wayOf f)
+abbrev pub earned : (levels edges : List ℕ) → List Bool → (ways : List ℕ) → ℕ → ℕ → ℕ → Verdict
+earned levels edges full ways m e f = earnedBy edges full m e f (wayOf levels ways e) (wayOf levels ways f)
 
-    -- the first pair of entries, by e, then f, that earns a 2 or a 3
-    unfoldable pub firstFault : List Bool → List ℕ → Verdict
-    firstFault full meetings =
-        firstOr kept (overPairs (λ e f. fault (earned full (meetingOf meetings (s .types) e f) e f)) (count 0 (s .entries)))
+-- the first pair of entries, by e, then f, that earns a 2 or a 3
+unfoldable pub firstFault : Shape → List ℕ → List Bool → List ℕ → Verdict
+firstFault s ways full meetings =
+    firstOr kept (overPairs (λ e f. fault (earned (s .levels) (s .edges) full ways (meetingOf meetings (s .types) e f) e f)) (count 0 (s .entries)))
 
--- a way has a place for each level, and holds entries
+-- the way of entry e, of n levels, has a place for each level, and holds entries
+pub record WayFits (ways : List ℕ) (e n : ℕ) : Type 0 where
+  pub entry : e < mostEntries
+  pub ways-long : length ways ≡ wayPlaces * mostEntries
+  pub short : n ≤ wayPlaces
+  pub inside : (k : ℕ) → k < n → getD ways (wayPlaces * e + k) 0 < mostEntries
+
+-- each way has a place for each level, and holds entries
 pub record Room (s : Shape) (ways : List ℕ) : Type 0 where
   pub sized : Sized s
   pub ways-long : length ways ≡ wayPlaces * mostEntries

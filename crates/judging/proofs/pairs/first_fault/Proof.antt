@@ -6,26 +6,27 @@ use borrow.Author.Needs.{needs}
 use Rattle.paper.specs.Verdict.{Verdict}
 use Rattle.judging.specs.Told.{told}
 use Rattle.judging.specs.Pairs.{firstFault}
+use Rattle.judging.proofs.Ways.{way-fits}
 use Rattle.judging.proofs.Faults.{Outer, Inner, outer-start, inner-start, inner-step, inner-found, inner-end, outer-end}
 use Rattle.judging.proofs.Faults.{faultsOf, faults-none, faults-one}
 use Rattle.judging.proofs.pairs.first_fault.Statement.{statement}
 use Rattle.judging.proofs.pairs.first_fault.Tie as tie
 
 abbrev Inv-loop2 : tie.InvT-loop2
-Inv-loop2 shape ways full meetings types e f₀ f = Inner (faultsOf shape ways full meetings) (shape .entries) e f
+Inv-loop2 shape ways full meetings levels edges types e f₀ f = Inner (faultsOf shape ways full meetings) (shape .entries) e f
 
 abbrev μ-loop2 : tie.MeasureT-loop2
-μ-loop2 shape ways full meetings types e f₀ f = shape .entries - f
+μ-loop2 shape ways full meetings levels edges types e f₀ f = shape .entries - f
 
 abbrev Inv-loop : tie.InvT-loop
-Inv-loop shape ways full meetings types e₀ e = Outer (faultsOf shape ways full meetings) (shape .entries) e
+Inv-loop shape ways full meetings levels edges types e₀ e = Outer (faultsOf shape ways full meetings) (shape .entries) e
 
 abbrev μ-loop : tie.MeasureT-loop
-μ-loop shape ways full meetings types e₀ e = shape .entries - e
+μ-loop shape ways full meetings levels edges types e₀ e = shape .entries - e
 
 -- where the walk begins
 abbrev begun : tie.At-loop Inv-loop2 μ-loop2 Inv-loop μ-loop → tie.Start Inv-loop2 μ-loop2 Inv-loop μ-loop
-begun w = w .before .before .before .before
+begun w = w .before .before .before .before .before .before
 
 -- what each pair of entries earns, where it is a fault
 abbrev faults : (w : tie.At-loop Inv-loop2 μ-loop2 Inv-loop μ-loop) → ℕ → ℕ → List Verdict
@@ -36,7 +37,7 @@ entries w = begun w .args .shape .entries
 
 loop-holds : tie.Need-loop-holds Inv-loop2 μ-loop2 Inv-loop μ-loop
 loop-holds c =
-    let a = c .before .before .before .args in
+    let a = c .before .before .before .before .before .args in
     outer-start (faultsOf (a .shape) (a .ways .now) (a .full) (a .meetings .now)) (a .shape .entries)
 
 add-f : tie.Need-add-f Inv-loop2 μ-loop2 Inv-loop μ-loop
@@ -57,7 +58,11 @@ meeting-requires c κs =
     (p .1, omega (arith, z .few, le), omega (arith, z .few, c .if2 .taken), z .typed (w .loop .e) le, z .typed (d .loop2 .f) (c .if2 .taken))
 
 pair-verdict-requires : tie.Need-pair-verdict-requires Inv-loop2 μ-loop2 Inv-loop μ-loop
-pair-verdict-requires c κs = search needs
+pair-verdict-requires c κs =
+    let d = c .before .before .before in
+    let w = d .before .before .before in
+    let room = begun w .pre .0 in
+    (way-fits room (w .loop .e) (d .before .if1 .taken), way-fits room (d .loop2 .f) (c .before .if2 .taken))
 
 enum-told : tie.Need-enum-told Inv-loop2 μ-loop2 Inv-loop μ-loop
 enum-told c = search needs

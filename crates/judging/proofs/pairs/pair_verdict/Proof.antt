@@ -12,7 +12,7 @@ begun w = w .before .before .before .before
 found : (w : tie.After-least-level2)
     → let k = w .before .before in
     let a = begun w .args in
-    Found (a .shape) (a .ways .now) (a .e) (a .f) (k .shared-way .result) (w .before .least-level .result) (w .least-level2 .result)
+    Found (a .levels) (a .edges) (a .ways .now) (a .e) (a .f) (k .shared-way .result) (w .before .least-level .result) (w .least-level2 .result)
 found w = record {
   shared-is = w .before .before .shared-way .ensures;
   down-is = w .before .least-level .ensures;

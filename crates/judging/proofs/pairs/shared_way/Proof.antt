@@ -3,36 +3,36 @@ use Prim.Native.Nat.{_-_, _≤_, min}
 use native.Mathlib.Nat.{not-suc-le-zero}
 use native.Mathlib.Omega.{arith}
 use mathlib.Core.Path.{_≡_, _∙_, ap₂}
+use lib.ListN.{getD}
 use borrow.Author.Count.{below-more}
 use borrow.Author.Needs.{needs}
-use Rattle.shapes.specs.Shape.{levelOf}
 use Rattle.judging.proofs.Ways.{Alike, way-within, shared-apart, shared-whole}
 use Rattle.judging.proofs.pairs.shared_way.Statement.{statement}
 use Rattle.judging.proofs.pairs.shared_way.Tie as tie
 
 abbrev Inv-loop : tie.InvT-loop
-Inv-loop ways e f m k₀ k = (k ≤ m) × Alike ways e f k
+Inv-loop ways e f most k₀ k = (k ≤ most) × Alike ways e f k
 
 abbrev μ-loop : tie.MeasureT-loop
-μ-loop ways e f m k₀ k = m - k
+μ-loop ways e f most k₀ k = most - k
 
 -- where the walk begins
 abbrev begun : tie.After-smaller Inv-loop μ-loop → tie.Start Inv-loop μ-loop
-begun p = p .before .before .before .before .before .before
+begun p = p .before .before .before .before
 
 -- the smaller of the two levels
 least : (p : tie.After-smaller Inv-loop μ-loop)
-    → let a = begun p .args in p .smaller .result ≡ min (levelOf (a .t1) (a .e)) (levelOf (a .t1) (a .f))
-least p = p .smaller .ensures ∙ ap₂ min (p .before .before .before .wide .ensures .0) (p .before .wide2 .ensures .0)
+    → let a = begun p .args in p .smaller .result ≡ min (getD (a .t1) (a .e) 0) (getD (a .t1) (a .f) 0)
+least p = p .smaller .ensures ∙ ap₂ min (p .before .before .wide .ensures .0) (p .before .wide2 .ensures .0)
 
-element-copy-out-wide : tie.Need-element-copy-out-wide Inv-loop μ-loop
-element-copy-out-wide c = search needs
+array-read-wide : tie.Need-array-read-wide Inv-loop μ-loop
+array-read-wide c = search needs
 
 wide-requires : tie.Need-wide-requires Inv-loop μ-loop
 wide-requires c κs = search needs
 
-element-copy-out-wide-2 : tie.Need-element-copy-out-wide-2 Inv-loop μ-loop
-element-copy-out-wide-2 c = search needs
+array-read-wide-2 : tie.Need-array-read-wide-2 Inv-loop μ-loop
+array-read-wide-2 c = search needs
 
 wide-requires-2 : tie.Need-wide-requires-2 Inv-loop μ-loop
 wide-requires-2 c κs = search needs
@@ -53,8 +53,7 @@ shared-slice-read-if1 : tie.Need-shared-slice-read-if1 Inv-loop μ-loop
 shared-slice-read-if1 c =
     let w = c .before .before in
     let s = begun (w .before) in
-    let a = s .args in
-    omega (arith, least (w .before), way-within (s .pre .0) (a .e) (s .pre .1))
+    omega (arith, least (w .before), way-within (s .pre .0))
 
 mul-if1-2 : tie.Need-mul-if1-2 Inv-loop μ-loop
 mul-if1-2 c = search needs
@@ -66,15 +65,13 @@ shared-slice-read-if1-2 : tie.Need-shared-slice-read-if1-2 Inv-loop μ-loop
 shared-slice-read-if1-2 c =
     let w = c .before .before .before in
     let s = begun (w .before) in
-    let a = s .args in
-    omega (arith, least (w .before), way-within (s .pre .0) (a .f) (s .pre .2))
+    omega (arith, least (w .before), way-within (s .pre .1))
 
 returns : tie.Need-returns Inv-loop μ-loop
 returns c =
     let w = c .before .before .before .before in
     let s = begun (w .before) in
-    let a = s .args in
-    shared-apart (s .pre .0) (a .e) (a .f) (s .pre .1) (s .pre .2) (w .before .smaller .result) (w .loop .k) (least (w .before)) (w .loop .inv .1)
+    shared-apart (s .pre .0) (s .pre .1) (w .before .smaller .result) (w .loop .k) (least (w .before)) (w .loop .inv .1)
     (c .before .before .before .loop-test .taken) (c .if1 .taken)
 
 add-k : tie.Need-add-k Inv-loop μ-loop
@@ -92,8 +89,7 @@ returns-2 : tie.Need-returns-2 Inv-loop μ-loop
 returns-2 c =
     let w = c .before in
     let s = begun (w .before) in
-    let a = s .args in
-    shared-whole (s .pre .0) (a .e) (a .f) (s .pre .1) (s .pre .2) (w .before .smaller .result) (w .loop .k) (least (w .before)) (w .loop .inv .1)
+    shared-whole (s .pre .0) (s .pre .1) (w .before .smaller .result) (w .loop .k) (least (w .before)) (w .loop .inv .1)
     (w .loop .inv .0) (c .loop-test .left)
 
 pub shared-way-spec : {M : Type 1} → statement M
@@ -102,9 +98,9 @@ shared-way-spec =
     (tie.spec
     Inv-loop
     μ-loop
-    element-copy-out-wide
+    array-read-wide
     wide-requires
-    element-copy-out-wide-2
+    array-read-wide-2
     wide-requires-2
     smaller-requires
     loop-holds

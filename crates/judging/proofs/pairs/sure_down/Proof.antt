@@ -1,38 +1,48 @@
 -- `judging::pairs::sure_down` meets its contract: the edges so far are full and of other levels. Assumes nothing.
 use Prim.Native.Nat.{_-_, _<_}
 use native.Mathlib.Omega.{arith}
-use mathlib.Core.Path.{_≡_, refl, sym, _∙_}
+use mathlib.Core.Path.{_≡_, refl, sym, _∙_, ap}
 use lib.ListN.{drop}
 use borrow.Author.Needs.{needs}
 use borrow.Author.Tests.{not-true, not-false}
-use Rattle.shapes.specs.Shape.{levelOf}
-use Rattle.judging.specs.Pairs.{wayOf, sureOn}
-use Rattle.judging.proofs.Ways.{way-within, way-entry, sure-found, sure-lost, sure-step, sure-end}
+use Rattle.shapes.specs.Ways.{wayAt}
+use Rattle.judging.specs.Pairs.{WayFits, wayOf, sureOn}
+use Rattle.judging.proofs.Ways.{fits-read, way-within, way-entry, sure-found, sure-lost, sure-step, sure-end}
 use Rattle.judging.proofs.pairs.sure_down.Statement.{statement}
 use Rattle.judging.proofs.pairs.sure_down.Tie as tie
 
 abbrev Inv-loop : tie.InvT-loop
-Inv-loop ways e k l shape full size i₀ i =
-    sureOn shape full l (drop i (wayOf shape ways e)) ≡ sureOn shape full l (drop k (wayOf shape ways e))
+Inv-loop ways e k l edges full size i₀ i =
+    sureOn edges full l (drop i (wayAt ways e size)) ≡ sureOn edges full l (drop k (wayAt ways e size))
 
 abbrev μ-loop : tie.MeasureT-loop
-μ-loop ways e k l shape full size i₀ i = size - i
+μ-loop ways e k l edges full size i₀ i = size - i
 
 -- where the walk begins
 abbrev begun : tie.At-loop Inv-loop μ-loop → tie.Start Inv-loop μ-loop
-begun w = w .before .before .before .before
+begun w = w .before .before .before
+
+-- the way is as long as was read
+fits : (w : tie.At-loop Inv-loop μ-loop) → WayFits (begun w .args .ways .now) (begun w .args .e) (w .before .wide .result)
+fits w = fits-read (w .before .wide .ensures .0) (begun w .pre)
+
+-- what is so from place i on is the answer
+answer : (w : tie.At-loop Inv-loop μ-loop)
+    → let a = begun w .args in
+    sureOn (a .t2) (a .t3) (a .l) (drop (w .loop .i) (wayAt (a .ways .now) (a .e) (w .before .wide .result)))
+    ≡ sureOn (a .t2) (a .t3) (a .l) (drop (a .k) (wayOf (a .t1) (a .ways .now) (a .e)))
+answer w =
+    let a = begun w .args in
+    w .loop .inv ∙ ap (λ n. sureOn (a .t2) (a .t3) (a .l) (drop (a .k) (wayAt (a .ways .now) (a .e) n))) (w .before .wide .ensures .0)
 
 -- what stands on the way is an entry
 entry-few : (c : tie.After-wide2 Inv-loop μ-loop) → c .wide2 .result < 16
 entry-few c =
-    let w = c .before .before .before in
-    let s = begun w in
-    let a = s .args in
-    let in-way : w .loop .i < levelOf (a .t1) (a .e) = omega (arith, w .before .wide .ensures .0) in
-    omega (arith, s .pre .0 .sized .few, way-entry (s .pre .0) (a .e) (s .pre .1) (w .loop .i) (c .wide2 .result) in-way (c .wide2 .ensures .0))
+    let test = c .before .before in
+    way-entry (fits (test .before)) (test .before .loop .i) (c .wide2 .result) (test .loop-test .taken) (c .wide2 .ensures .0)
 
-element-copy-out-wide : tie.Need-element-copy-out-wide Inv-loop μ-loop
-element-copy-out-wide c = search needs
+array-read-wide : tie.Need-array-read-wide Inv-loop μ-loop
+array-read-wide c = search needs
 
 wide-requires : tie.Need-wide-requires Inv-loop μ-loop
 wide-requires c κs = search needs
@@ -47,17 +57,13 @@ add-wide : tie.Need-add-wide Inv-loop μ-loop
 add-wide c = search needs
 
 shared-slice-read-wide : tie.Need-shared-slice-read-wide Inv-loop μ-loop
-shared-slice-read-wide c =
-    let w = c .before .before in
-    let s = begun w in
-    let a = s .args in
-    omega (arith, w .before .wide .ensures .0, way-within (s .pre .0) (a .e) (s .pre .1))
+shared-slice-read-wide c = omega (arith, way-within (fits (c .before .before)))
 
 wide-requires-2 : tie.Need-wide-requires-2 Inv-loop μ-loop
 wide-requires-2 c κs = search needs
 
-element-copy-out-wide-2 : tie.Need-element-copy-out-wide-2 Inv-loop μ-loop
-element-copy-out-wide-2 c = entry-few c
+array-read-wide-2 : tie.Need-array-read-wide-2 Inv-loop μ-loop
+array-read-wide-2 c = entry-few c
 
 wide-requires-3 : tie.Need-wide-requires-3 Inv-loop μ-loop
 wide-requires-3 c κs = search needs
@@ -65,26 +71,26 @@ wide-requires-3 c κs = search needs
 returns : tie.Need-returns Inv-loop μ-loop
 returns c =
     let v = c .before in
-    let d = v .before .before in
-    let w = d .before .before .before in
-    let s = begun w in
-    let a = s .args in
-    sym (sure-found (s .pre .0) (a .e) (s .pre .1) (w .loop .i) (omega (arith, w .before .wide .ensures .0)) (a .t3)
-    (d .wide2 .result) (v .wide3 .result) (a .l) (d .wide2 .ensures .0) (v .wide3 .ensures .0) (c .if1 .taken)) ∙ w .loop .inv
+    let d = v .before in
+    let test = d .before .before in
+    let w = test .before in
+    let a = begun w .args in
+    sym (sure-found (fits w) (a .t2) (w .loop .i) (test .loop-test .taken) (a .t3)
+    (d .wide2 .result) (v .wide3 .result) (a .l) (d .wide2 .ensures .0) (v .wide3 .ensures .0) (c .if1 .taken)) ∙ answer w
 
 array-read-if2 : tie.Need-array-read-if2 Inv-loop μ-loop
-array-read-if2 c = entry-few (c .before .before .before)
+array-read-if2 c = entry-few (c .before .before)
 
 returns-2 : tie.Need-returns-2 Inv-loop μ-loop
 returns-2 c =
     let v = c .before .before in
-    let d = v .before .before in
-    let w = d .before .before .before in
-    let s = begun w in
-    let a = s .args in
-    sym (sure-lost (s .pre .0) (a .e) (s .pre .1) (w .loop .i) (omega (arith, w .before .wide .ensures .0)) (a .t3)
+    let d = v .before in
+    let test = d .before .before in
+    let w = test .before in
+    let a = begun w .args in
+    sym (sure-lost (fits w) (a .t2) (w .loop .i) (test .loop-test .taken) (a .t3)
     (d .wide2 .result) (v .wide3 .result) (a .l) (d .wide2 .ensures .0) (v .wide3 .ensures .0) (c .before .if1 .left)
-    (not-true _ (c .if2 .taken))) ∙ w .loop .inv
+    (not-true _ (c .if2 .taken))) ∙ answer w
 
 add-i : tie.Need-add-i Inv-loop μ-loop
 add-i c = search needs
@@ -95,20 +101,19 @@ loop-less c = search needs
 loop-again : tie.Need-loop-again Inv-loop μ-loop
 loop-again c =
     let v = c .before .before in
-    let d = v .before .before in
-    let w = d .before .before .before in
-    let s = begun w in
-    let a = s .args in
-    sym (sure-step (s .pre .0) (a .e) (s .pre .1) (w .loop .i) (omega (arith, w .before .wide .ensures .0)) (a .t3)
+    let d = v .before in
+    let test = d .before .before in
+    let w = test .before in
+    let a = begun w .args in
+    sym (sure-step (fits w) (a .t2) (w .loop .i) (test .loop-test .taken) (a .t3)
     (d .wide2 .result) (v .wide3 .result) (a .l) (d .wide2 .ensures .0) (v .wide3 .ensures .0) (c .before .if1 .left)
     (not-false _ (c .if2 .left))) ∙ w .loop .inv
 
 returns-3 : tie.Need-returns-3 Inv-loop μ-loop
 returns-3 c =
     let w = c .before in
-    let s = begun w in
-    let a = s .args in
-    sym (sure-end (s .pre .0) (a .e) (s .pre .1) (w .loop .i) (omega (arith, w .before .wide .ensures .0)) (a .t3) (a .l)) ∙ w .loop .inv
+    let a = begun w .args in
+    sym (sure-end (fits w) (a .t2) (w .loop .i) (c .loop-test .left) (a .t3) (a .l)) ∙ answer w
 
 pub sure-down-spec : {M : Type 1} → statement M
 sure-down-spec =
@@ -116,14 +121,14 @@ sure-down-spec =
     (tie.spec
     Inv-loop
     μ-loop
-    element-copy-out-wide
+    array-read-wide
     wide-requires
     loop-holds
     mul-wide
     add-wide
     shared-slice-read-wide
     wide-requires-2
-    element-copy-out-wide-2
+    array-read-wide-2
     wide-requires-3
     returns
     array-read-if2
