@@ -17,3 +17,4 @@ pub mod Going
 pub mod Children
 pub mod Walking
 pub mod Tops
+pub mod Planned
