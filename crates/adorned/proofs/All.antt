@@ -86,7 +86,7 @@ module _ (rs : List Row) where
       ∙ ap₂ {C = List Summary} (λ a b. a ++ b) (e ∙ take-all k (adorned rs) (omega (arith, n))) (z ∙ ap (λ m. replicate (mostTypes - m) noSummary) n)
 
 -- ---- the type list of a table with no type too many
-module _ (f : Format) (n : ℕ) (t : List ℕ) (ty : Types) (c : Counted f n t ty) where
+module _ (f : Format) (n : ℕ) (t ks : List ℕ) (ty : Types) (c : Counted f n t ks ty) where
   abbrev rs : List Row
   rs = rows f t
 
@@ -99,8 +99,8 @@ module _ (f : Format) (n : ℕ) (t : List ℕ) (ty : Types) (c : Counted f n t t
   pub count-is : ty .count ≡ length (types (rows f t))
   count-is = c .lists .count late
 
-  pub typed : Typed f n t (ty .types)
-  typed = record { sound = c .sound; rows-n = c .rows-n; listed = ap (λ m. take m (ty .types)) (c .rows-n) ∙ c .lists .typed late }
+  pub typed : Typed f n t ks
+  typed = record { sound = c .sound; rows-n = c .rows-n; listed = ap (λ m. take m ks) (c .rows-n) ∙ c .lists .typed late }
 
   pub listed : (k p a i : ℕ) → k < ty .count → p ≡ getD (ty .parents) k 0 → a ≡ getD (ty .labels) k 0 → i ≡ getD (ty .first) k 0 → Listed (rows f t) k p a i
   listed k p a i lt ep ea ei = record {

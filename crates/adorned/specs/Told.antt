@@ -39,11 +39,11 @@ noSummary = record { parent = 0; label = 0; level = 0; rows = 0; least = 0; grea
 abbrev pub placed : List Summary → List Summary
 placed ss = ss ++ replicate (mostTypes - length ss) noSummary
 
--- the type list is that of this table of so many rows, and no type is one too many
-pub record Counted (f : Format) (rows : ℕ) (t : List ℕ) (ty : Types) : Type 0 where
+-- the type list is that of this table of so many rows, whose type numbers are ks, and no type is one too many
+pub record Counted (f : Format) (rows : ℕ) (t ks : List ℕ) (ty : Types) : Type 0 where
   pub sound : Sound f t
   pub rows-n : rows ≡ length (Tables.rows f t)
-  pub lists : Lists (Tables.rows f t) ty
+  pub lists : Lists (Tables.rows f t) ks ty
   pub whole : rows ≤ ty .over
   pub small : rows ≤ mostRows
 

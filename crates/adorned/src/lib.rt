@@ -159,22 +159,24 @@ fn no_summaries() -> [TypeSummary; 64]
 }
 
 // The summaries of a listed table, one a type in type order.
-fn summaries_of(table: &[u8], f: Format, rows: usize, listed: Types) -> [TypeSummary; 64]
-    requires { ⌜ Counted f rows (now table) listed ⌝ }
+fn summaries_of(
+    table: &[u8],
+    f: Format,
+    rows: usize,
+    types: &[u8],
+    listed: Types,
+) -> [TypeSummary; 64]
+    requires { ⌜ Counted f rows (now table) (now types) listed ⌝ }
     ensures { λ r. ⌜ map told r ≡ placed (adorned (Tables.rows f (now (table .entry)))) ⌝ }
 {
-    let types = listed.types;
-    let first = listed.first;
-    let parents = listed.parents;
-    let labels = listed.labels;
     let count = listed.count;
     let mut all = no_summaries();
     let mut k = 0;
     while k < count {
-        let p = bytes::wide(parents[k]);
-        let a = labels[k] as usize;
-        let i = first[k] as usize;
-        all[k] = summary_of(table, f, rows, &types, k, p, a, i);
+        let p = bytes::wide(listed.parents[k]);
+        let a = bytes::wide16(listed.labels[k]);
+        let i = bytes::wide16(listed.first[k]);
+        all[k] = summary_of(table, f, rows, types, k, p, a, i);
         k += 1;
     }
     all
@@ -204,7 +206,8 @@ pub fn adorn_by_value(table: &[u8], lent: usize) -> Adorned
         return refused(number, place);
     }
     let f = paper::base();
-    let listed = list_types(table, f, rows);
+    let mut types = [0u8; 1024];
+    let listed = list_types(table, f, rows, &mut types);
     let over = listed.over;
     let count = listed.count;
     if over < rows {
@@ -213,7 +216,7 @@ pub fn adorn_by_value(table: &[u8], lent: usize) -> Adorned
     if lent < count {
         return refused(10, 0);
     }
-    let all = summaries_of(table, f, rows, listed);
+    let all = summaries_of(table, f, rows, &types, listed);
     Adorned {
         number: 0,
         place: 0,

@@ -20,9 +20,8 @@ use Rattle.closest.proofs.Levels.{level-most}
 use Rattle.shapes.specs.Edges.{meetingOf}
 use Rattle.shapes.specs.Shape.{levelOf, typeOf, parentOf, edgeOf}
 use Rattle.shapes.specs.Tests.{shapeIn}
-use Rattle.shapes.specs.Work.{Ready, Prepared}
+use Rattle.shapes.specs.Work.{Work, Ready, Prepared}
 use Rattle.shapes.specs.declared.shape.Shape.{Shape}
-use Rattle.shapes.specs.declared.work.Work.{Work}
 use Rattle.shapes.proofs.Given.{ways-are, way-deep}
 use Rattle.shapes.proofs.Inside.{way-inside, path-inside}
 use Rattle.shapes.proofs.Places.{way-place}

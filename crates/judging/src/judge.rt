@@ -30,9 +30,20 @@ fn given(verdict: Verdict) -> Judged
 pub fn judge(table: &[u8], shape: &[u8]) -> Judged
     ensures { λ r. ⌜ judged r ≡ inNumbers (judge base (now (table .entry)) (now (shape .entry))) ⌝ }
 {
-    let work = prepare(table, shape);
-    let number = work.number;
-    let place = work.place;
+    let mut levels = [0u8; 1024];
+    let mut types = [0u8; 1024];
+    let mut meetings = [0u8; 1024];
+    let mut ways = [0u8; 128];
+    let start = prepare(
+        table,
+        shape,
+        &mut levels,
+        &mut types,
+        &mut meetings,
+        &mut ways,
+    );
+    let number = start.number;
+    let place = start.place;
     if number != 0 {
         return Judged {
             number: number,
@@ -40,17 +51,13 @@ pub fn judge(table: &[u8], shape: &[u8]) -> Judged
             verdict: Verdict::Kept,
         };
     }
-    let rows = work.rows;
-    let levels = work.levels;
-    let types = work.types;
-    let drawn = work.shape;
+    let rows = start.rows;
+    let drawn = start.shape;
     let edges = walk_edges(&levels, &types, rows, drawn);
     let met = edges.met;
     let lone = first_lone(&levels, &types, rows, drawn, met);
     match lone {
         Verdict::Kept => {
-            let ways = work.ways;
-            let meetings = work.meetings;
             let full = edges.full;
             given(first_fault(drawn, &ways, full, &meetings))
         }

@@ -13,7 +13,7 @@ use Rattle.paper.specs.Calls.{Answer, Work, given, _>>=_, refuse, refuseAt, rep
 use Rattle.paper.proofs.Promises.{written-kept}
 use Rattle.shapes.specs.Tests.{shapeIn}
 use Rattle.shapes.specs.Work.{Prepared}
-use Rattle.shapes.specs.declared.work.Work
+use Rattle.shapes.specs.Work
 
 module _ {t s : List ℕ} {w : Work.Work} (p : Prepared t s w) where
   abbrev ns : List Node

@@ -19,8 +19,7 @@ use Rattle.paper.proofs.Papers.{same-test}
 use Rattle.paper.proofs.Verdict.{last-way, child-parent, child-pos}
 use Rattle.shapes.specs.Tests.{shapeIn}
 use Rattle.shapes.specs.Shape.{parentOf}
-use Rattle.shapes.specs.Work.{Ready}
-use Rattle.shapes.specs.declared.work.Work.{Work}
+use Rattle.shapes.specs.Work.{Work, Ready}
 use Rattle.shapes.proofs.Given.{ways-are, over}
 use Rattle.lines.specs.Lines.{childrenOf}
 

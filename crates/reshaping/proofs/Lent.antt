@@ -18,9 +18,8 @@ use Rattle.tables.proofs.Rows.{row-in}
 use Rattle.shapes.specs.Tests.{shapeIn}
 use Rattle.closest.specs.Runs.{Runs}
 use Rattle.shapes.specs.Shape.{mostLevels}
-use Rattle.shapes.specs.Work.{Ready, Prepared}
+use Rattle.shapes.specs.Work.{Work, Ready, Prepared}
 use Rattle.shapes.specs.declared.shape.Shape.{Shape}
-use Rattle.shapes.specs.declared.work.Work.{Work}
 use Rattle.lines.specs.Lines.{Numbered, linesOf, bytesOf, sourcesOf}
 use Rattle.lines.specs.Places.{Spacious}
 use Rattle.lines.specs.Write.{RunsNamed, Fits, allLines, WrittenAll}

@@ -18,9 +18,8 @@ use Rattle.paper.proofs.Lists.{join-has, map-has, keep-has, count-has, joined-m
 use Rattle.paper.proofs.Verdict.{listed-child}
 use Rattle.shapes.specs.Tests.{shapeIn}
 use Rattle.shapes.specs.Shape.{mostLevels, levelOf, labelOf, typeOf, parentOf}
-use Rattle.shapes.specs.Work.{Ready}
+use Rattle.shapes.specs.Work.{Work, Ready}
 use Rattle.shapes.specs.declared.shape.Shape as Drawn
-use Rattle.shapes.specs.declared.work.Work.{Work}
 use Rattle.shapes.proofs.Given.{ways-are}
 use Rattle.lines.specs.Put.{lineOf, lineBytes}
 use Rattle.lines.specs.Lines.{Item, Numbered, childrenOf, under, roots, treeOf, entriesOf, linesOf, allEntries, bytesOf, sourcesOf}

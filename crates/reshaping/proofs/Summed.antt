@@ -19,8 +19,7 @@ use Rattle.paper.proofs.Lists.{map-has}
 use Rattle.closest.proofs.Counts.{kinds-count}
 use Rattle.shapes.specs.Tests.{shapeIn}
 use Rattle.shapes.specs.Shape.{typeOf}
-use Rattle.shapes.specs.Work.{Ready}
-use Rattle.shapes.specs.declared.work.Work.{Work}
+use Rattle.shapes.specs.Work.{Work, Ready}
 use Rattle.lines.specs.Lines.{Numbered, linesOf, allEntries}
 use Rattle.lines.specs.Count.{ofEntry, Counted}
 use Rattle.lines.specs.Counting.{Shallow, CountedOf}

@@ -35,16 +35,25 @@ fn refused(number: usize, place: usize) -> Summary
 pub fn summarise(table: &[u8], shape: &[u8]) -> Summary
     ensures { λ r. ⌜ summarised r ≡ summarise base (now (table .entry)) (now (shape .entry)) ⌝ }
 {
-    let w = prepare(table, shape);
-    let number = w.number;
-    let place = w.place;
+    let mut levels = [0u8; 1024];
+    let mut types = [0u8; 1024];
+    let mut meetings = [0u8; 1024];
+    let mut ways = [0u8; 128];
+    let start = prepare(
+        table,
+        shape,
+        &mut levels,
+        &mut types,
+        &mut meetings,
+        &mut ways,
+    );
+    let number = start.number;
+    let place = start.place;
     if number != 0 {
         return refused(number, place);
     }
-    let rows = w.rows;
-    let levels = w.levels;
-    let types = w.types;
-    let wanted = w.shape;
+    let rows = start.rows;
+    let wanted = start.shape;
     let mut runs = [0u16; 9216];
     let mut shows = [0u16; 16384];
     let tally = count_lines(&levels, &types, rows, wanted, &mut runs, &mut shows);

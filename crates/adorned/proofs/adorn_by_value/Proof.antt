@@ -52,15 +52,23 @@ few c =
     let p = passed1-3 base (lent c) (Tables.rows base (lent c)) (examined c .0) in
     omega (arith, counted c, few-rows base (lent c) (p .2))
 
--- the type list is that of the base
-lists : (c : tie.After-list-types) → Lists (Tables.rows base (lent (c .before))) (c .list-types .result)
-lists c = subst (λ f. Lists (Tables.rows f (lent (c .before))) (c .list-types .result)) (c .before .base .ensures) (c .list-types .ensures)
+-- the type list is that of the base, and the lent list has the rows' type numbers
+abbrev based : tie.After-list-types → tie.After-base
+based l = l .before .before
+
+abbrev numbers : tie.After-list-types → List ℕ
+numbers l = l .list-types .last .1 .1 .1 .0
+
+lists : (l : tie.After-list-types) → Lists (Tables.rows base (lent (based l))) (numbers l) (l .list-types .result)
+lists l =
+    let b = based l in
+    subst (λ f. Lists (Tables.rows f (lent b)) (numbers l) (l .list-types .result)) (b .base .ensures) (l .list-types .ensures)
 
 -- no type is one too many
 late : (c : tie.Else2) →
-    let l = c .before in
-    length (Tables.rows base (lent (l .before))) ≤ l .list-types .result .over
-late c = omega (arith, c .if2 .left, counted (c .before .before))
+    let l = c .before .before in
+    length (Tables.rows base (lent (based l))) ≤ l .list-types .result .over
+late c = omega (arith, c .if2 .left, counted (based (c .before .before)))
 
 examine-requires : tie.Need-examine-requires
 examine-requires c κs = search needs
@@ -81,14 +89,18 @@ returns c =
 base-requires : tie.Need-base-requires
 base-requires c κs = search needs
 
+slice-aggregate-list-types : tie.Need-slice-aggregate-list-types
+slice-aggregate-list-types c = search needs
+
 list-types-requires : tie.Need-list-types-requires
 list-types-requires c κs =
-    let t = lent c in
-    let rows = accepted c .before .examine .result .rows in
-    let p = passed1-3 base t (Tables.rows base t) (examined c .0) in
-    let is = sym (c .base .ensures) in (
-      (subst (λ (f : Format). rows ≡ whole (rowBytes f) t) is (examined c .1), few c, base-levels (c .base .result) (c .base .ensures)),
-      subst (λ f. Tables.badRow f (Tables.rows f t) ≡ none) is (p .1),
+    let b = c .before in
+    let t = lent b in
+    let rows = accepted b .before .examine .result .rows in
+    let p = passed1-3 base t (Tables.rows base t) (examined b .0) in
+    let is = sym (b .base .ensures) in (
+      (subst (λ (f : Format). rows ≡ whole (rowBytes f) t) is (examined b .1), few b, base-levels (b .base .result) (b .base .ensures)),
+      (subst (λ f. Tables.badRow f (Tables.rows f t) ≡ none) is (p .1), refl),
     )
 
 refused-requires-2 : tie.Need-refused-requires-2
@@ -96,8 +108,8 @@ refused-requires-2 c κs = search needs
 
 returns-2 : tie.Need-returns-2
 returns-2 c =
-    let l = c .before .before in
-    let b = l .before in
+    let l = c .before .before .before in
+    let b = based l in
     let t = lent b in
     let over = l .list-types .result .over in
     let q = figures-over t (places b) (examined b .0) over _ (lists l .over) (omega (arith, c .before .if2 .taken, counted b)) in
@@ -110,40 +122,43 @@ refused-requires-3 c κs = search needs
 returns-3 : tie.Need-returns-3
 returns-3 c =
     let e = c .before .before in
-    let l = e .before in
-    let b = l .before in
+    let l = e .before .before in
+    let b = based l in
     let t = lent b in
     let count = lists l .count (late e) in
     let q = figures-short t (places b) (examined b .0) (l .list-types .result .over) _ (lists l .over) (late e) (omega (arith, c .before .if3 .taken, count)) in
     says record { number = 10; place = 0; rest = [] } (adornFigures t (places b)) (c .refused3 .result)
     (answer-is (c .refused3 .result) 10 0 (c .refused3 .ensures)) q
 
+slice-aggregate-summaries-of : tie.Need-slice-aggregate-summaries-of
+slice-aggregate-summaries-of c = search needs
+
 summaries-of-requires : tie.Need-summaries-of-requires
 summaries-of-requires c κs =
-    let e = c .before in
-    let l = e .before in
-    let b = l .before in
+    let e = c .before .before in
+    let l = e .before .before in
+    let b = based l in
     let t = lent b in
     let p = passed1-3 base t (Tables.rows base t) (examined b .0) in
-    let known : Counted base (accepted b .before .examine .result .rows) t (l .list-types .result) = record {
+    let known : Counted base (accepted b .before .examine .result .rows) t (numbers l) (l .list-types .result) = record {
       sound = record { kept = p .1; shallow = omega (arith, base-levels base refl) };
       rows-n = counted b;
       lists = lists l;
       whole = e .if2 .left;
       small = few b;
     } in
-    subst (λ f. Counted f (accepted b .before .examine .result .rows) t (l .list-types .result)) (sym (b .base .ensures)) known
+    subst (λ f. Counted f (accepted b .before .examine .result .rows) t (numbers l) (l .list-types .result)) (sym (b .base .ensures)) known
 
 returns-4 : tie.Need-returns-4
 returns-4 c =
-    let e = c .before .before in
-    let l = e .before in
-    let b = l .before in
+    let e = c .before .before .before in
+    let l = e .before .before in
+    let b = based l in
     let t = lent b in
     let count = lists l .count (late e) in
     let s = c .summaries-of in
     let all = subst (λ f. map told (s .result) ≡ placed (adorned (Tables.rows f t))) (b .base .ensures) (s .ensures) in
-    let q = figures-given t (places b) (examined b .0) (l .list-types .result .over) _ (lists l .over) (late e) (omega (arith, c .before .if3 .left, count)) in
+    let q = figures-given t (places b) (examined b .0) (l .list-types .result .over) _ (lists l .over) (late e) (omega (arith, c .before .before .if3 .left, count)) in
     says record { number = 0; place = 0; rest = adorned (Tables.rows base t) } (adornFigures t (places b))
     record { number = 0; place = 0; count = l .list-types .result .count; summaries = s .result }
     record { number-is = refl; place-is = refl; count-is = count ∙ sym (adorned-length (Tables.rows base t)); summaries-are = all } q
@@ -156,10 +171,12 @@ adorn-by-value-spec =
     refused-requires
     returns
     base-requires
+    slice-aggregate-list-types
     list-types-requires
     refused-requires-2
     returns-2
     refused-requires-3
     returns-3
+    slice-aggregate-summaries-of
     summaries-of-requires
     returns-4)

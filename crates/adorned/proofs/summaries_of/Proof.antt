@@ -1,7 +1,7 @@
 -- `summaries_of`: after k types the first k summaries stand, and zeros after them. Assumes nothing.
 use Prim.Native.Nat.{_≤_, _<_, _-_}
 use mathlib.Core.Path.{_≡_, refl, _∙_}
-use lib.ListN.{length, getD, take, replicate, length-set}
+use lib.ListN.{length, take, replicate, length-set}
 use Rattle.paper.specs.Tables as Tables
 use Rattle.paper.specs.Adorned.{adorned}
 use Rattle.adorned.specs.Told.{noSummary}
@@ -12,22 +12,32 @@ use Rattle.adorned.proofs.summaries_of.Statement.{statement}
 use Rattle.adorned.proofs.summaries_of.Tie as tie
 
 abbrev Inv-loop : tie.InvT-loop
-Inv-loop t f rows types first parents labels count all₀ k₀ all k =
+Inv-loop t f rows types listed count all₀ k₀ all k =
     (k ≤ count) × (length all ≡ 64) × (toldFirst k all ≡ take k (adorned (Tables.rows f t))) × (toldFrom k all ≡ replicate (64 - k) noSummary)
 
 abbrev μ-loop : tie.MeasureT-loop
-μ-loop t f rows types first parents labels count all₀ k₀ all k = count - k
+μ-loop t f rows types listed count all₀ k₀ all k = count - k
 
 abbrev begun : tie.At-loop Inv-loop μ-loop → tie.Start Inv-loop μ-loop
-begun l = l .before .before .before .before .before .before .before
+begun l = l .before .before .before .before
+
+-- the turn, from the figures that are read in it
+abbrev turn : tie.After-wide Inv-loop μ-loop → tie.In-loop Inv-loop μ-loop
+turn c = c .before .before
+
+abbrev labelled : tie.After-wide162 Inv-loop μ-loop → tie.After-wide16 Inv-loop μ-loop
+labelled c = c .before .before
+
+abbrev parented : tie.After-wide16 Inv-loop μ-loop → tie.After-wide Inv-loop μ-loop
+parented c = c .before .before
 
 -- a type of the list has a place of its own
 few-places : (c : tie.In-loop Inv-loop μ-loop) → c .before .loop .k < 64
 few-places c =
     let s = begun (c .before) in
     let a = s .args in
-    let most = few (a .f) (a .rows) (a .table .now) (a .listed) (s .pre) in
-    let all = count-is (a .f) (a .rows) (a .table .now) (a .listed) (s .pre) in
+    let most = few (a .f) (a .rows) (a .table .now) (a .types .now) (a .t5) (s .pre) in
+    let all = count-is (a .f) (a .rows) (a .table .now) (a .types .now) (a .t5) (s .pre) in
     omega (arith, most, all, c .loop-test .taken)
 
 no-summaries-requires : tie.Need-no-summaries-requires Inv-loop μ-loop
@@ -36,49 +46,48 @@ no-summaries-requires c κs = search needs
 loop-holds : tie.Need-loop-holds Inv-loop μ-loop
 loop-holds c = (omega arith, start-length (c .no-summaries .result) (c .no-summaries .ensures), refl, c .no-summaries .ensures)
 
-array-read-wide : tie.Need-array-read-wide Inv-loop μ-loop
-array-read-wide c = omega (arith, few-places c)
+element-copy-out-wide : tie.Need-element-copy-out-wide Inv-loop μ-loop
+element-copy-out-wide c = omega (arith, few-places c)
 
 wide-requires : tie.Need-wide-requires Inv-loop μ-loop
 wide-requires c κs = search needs
 
-mul-a : tie.Need-mul-a Inv-loop μ-loop
-mul-a c = omega (arith, few-places (c .before))
+mul-wide16 : tie.Need-mul-wide16 Inv-loop μ-loop
+mul-wide16 c = omega (arith, few-places (turn c))
 
-array-read-a : tie.Need-array-read-a Inv-loop μ-loop
-array-read-a c = omega (arith, few-places (c .before))
+element-copy-out-wide16 : tie.Need-element-copy-out-wide16 Inv-loop μ-loop
+element-copy-out-wide16 c = omega (arith, few-places (turn c))
 
-cast-a : tie.Need-cast-a Inv-loop μ-loop
-cast-a c = search needs
+wide16-requires : tie.Need-wide16-requires Inv-loop μ-loop
+wide16-requires c κs = search needs
 
-mul-i : tie.Need-mul-i Inv-loop μ-loop
-mul-i c = omega (arith, few-places (c .before))
+mul-wide16-2 : tie.Need-mul-wide16-2 Inv-loop μ-loop
+mul-wide16-2 c = omega (arith, few-places (turn (parented c)))
 
-array-read-i : tie.Need-array-read-i Inv-loop μ-loop
-array-read-i c = omega (arith, few-places (c .before))
+element-copy-out-wide16-2 : tie.Need-element-copy-out-wide16-2 Inv-loop μ-loop
+element-copy-out-wide16-2 c = omega (arith, few-places (turn (parented c)))
 
-cast-i : tie.Need-cast-i Inv-loop μ-loop
-cast-i c = search needs
-
-slice-aggregate-summary-of : tie.Need-slice-aggregate-summary-of Inv-loop μ-loop
-slice-aggregate-summary-of c = search needs
+wide16-requires-2 : tie.Need-wide16-requires-2 Inv-loop μ-loop
+wide16-requires-2 c κs = search needs
 
 summary-of-requires : tie.Need-summary-of-requires Inv-loop μ-loop
 summary-of-requires c κs =
-    let l = c .before .before .before in
-    let s = begun l in
+    let b = labelled c in
+    let w = parented b in
+    let x = turn w in
+    let s = begun (x .before) in
     let a = s .args in
-    let k = l .loop .k in (
-      typed (a .f) (a .rows) (a .table .now) (a .listed) (s .pre),
-      listed (a .f) (a .rows) (a .table .now) (a .listed) (s .pre) k (c .before .wide .result) (getD (a .listed .labels) k 0) (getD (a .listed .first) k 0)
-          (c .before .before .loop-test .taken) (c .before .wide .ensures .0) refl refl,
+    let k = x .before .loop .k in (
+      typed (a .f) (a .rows) (a .table .now) (a .types .now) (a .t5) (s .pre),
+      listed (a .f) (a .rows) (a .table .now) (a .types .now) (a .t5) (s .pre) k (w .wide .result) (b .wide16 .result) (c .wide162 .result)
+          (x .loop-test .taken) (w .wide .ensures .0) (b .wide16 .ensures .0) (c .wide162 .ensures .0),
     )
 
 mul-all : tie.Need-mul-all Inv-loop μ-loop
-mul-all c = omega (arith, few-places (c .before .before .before))
+mul-all c = omega (arith, few-places (turn (parented (labelled (c .before)))))
 
 array-set-from-all : tie.Need-array-set-from-all Inv-loop μ-loop
-array-set-from-all c = omega (arith, few-places (c .before .before .before))
+array-set-from-all c = omega (arith, few-places (turn (parented (labelled (c .before)))))
 
 add-k : tie.Need-add-k Inv-loop μ-loop
 add-k c = search needs
@@ -88,12 +97,12 @@ loop-less c = search needs
 
 loop-again : tie.Need-loop-again Inv-loop μ-loop
 loop-again c =
-    let x = c .before .before .before in
+    let x = turn (parented (labelled (c .before))) in
     let l = x .before in
     let a = begun l .args in
     let v = l .loop in
     let r = c .summary-of in
-    let count = count-is (a .f) (a .rows) (a .table .now) (a .listed) (begun l .pre) in (
+    let count = count-is (a .f) (a .rows) (a .table .now) (a .types .now) (a .t5) (begun l .pre) in (
       omega arith,
       length-set (v .all) (v .k) (r .result) ∙ v .inv .1,
       fill-step (Tables.rows (a .f) (a .table .now)) (v .all) (v .k) (r .result) (omega (arith, count, x .loop-test .taken))
@@ -106,8 +115,8 @@ returns c =
     let l = c .before in
     let a = begun l .args in
     let v = l .loop in
-    fill-end (Tables.rows (a .f) (a .table .now)) (v .all) (v .k) (a .listed .count)
-    (count-is (a .f) (a .rows) (a .table .now) (a .listed) (begun l .pre)) (v .inv .0) (c .loop-test .left) (v .inv .2) (v .inv .3)
+    fill-end (Tables.rows (a .f) (a .table .now)) (v .all) (v .k) (a .t5 .count)
+    (count-is (a .f) (a .rows) (a .table .now) (a .types .now) (a .t5) (begun l .pre)) (v .inv .0) (c .loop-test .left) (v .inv .2) (v .inv .3)
 
 pub summaries-of-spec : {M : Type 1} → statement M
 summaries-of-spec =
@@ -117,15 +126,14 @@ summaries-of-spec =
     μ-loop
     no-summaries-requires
     loop-holds
-    array-read-wide
+    element-copy-out-wide
     wide-requires
-    mul-a
-    array-read-a
-    cast-a
-    mul-i
-    array-read-i
-    cast-i
-    slice-aggregate-summary-of
+    mul-wide16
+    element-copy-out-wide16
+    wide16-requires
+    mul-wide16-2
+    element-copy-out-wide16-2
+    wide16-requires-2
     summary-of-requires
     mul-all
     array-set-from-all

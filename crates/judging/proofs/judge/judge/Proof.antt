@@ -1,7 +1,6 @@
 -- `judging::judge::judge` meets its contract. Assumes nothing.
-use mathlib.Core.Path.{_≡_, sym, _∙_, ap}
-use lib.ListN.{length}
-use Rattle.shapes.specs.Work.{Ready}
+use mathlib.Core.Path.{refl, sym, _∙_, ap}
+use Rattle.shapes.specs.Work.{Work, Ready, workOf}
 use Rattle.judging.specs.Told.{told}
 use Rattle.judging.specs.Judged.{inNumbers}
 use Rattle.judging.proofs.Found.{not-kept}
@@ -10,33 +9,49 @@ use borrow.Author.Needs.{needs}
 use Rattle.judging.proofs.judge.judge.Statement.{statement}
 use Rattle.judging.proofs.judge.judge.Tie as tie
 
--- the places for ways and meetings
-ways-long : (p : tie.After-prepare) → length (p .prepare .result .ways) ≡ 128
-ways-long p = search needs
+-- where the function begins, and where table and shape are prepared
+abbrev begun : tie.After-prepare → tie.Start
+begun p = p .before .before .before .before .before .before .before
 
-meetings-long : (p : tie.After-prepare) → length (p .prepare .result .meetings) ≡ 1024
-meetings-long p = search needs
+abbrev prepared : tie.Else1 → tie.After-prepare
+prepared u = u .before .before .before .before .before
+
+-- what is given back, and what the lent lists hold
+abbrev work : tie.After-prepare → Work
+work p = let left = p .prepare .last .1 .1 in workOf (p .prepare .result) (left .0) (left .1 .0) (left .1 .1 .0) (left .1 .1 .1 .0)
 
 -- where tests 1 to 7 pass
-abbrev tested : tie.After-types2 → tie.Else1
-tested c = c .before .before .before .before .before
+abbrev tested : tie.After-types3 → tie.Else1
+tested c = c .before .before .before
 
-ready : (u : tie.Else1) → let a = u .before .before .before .before .args in Ready (a .table .now) (a .shape .now) (u .before .prepare .result)
-ready u = u .before .prepare .ensures .ready (u .if1 .left)
+ready : (u : tie.Else1) → let p = prepared u in let a = begun p .args in Ready (a .table .now) (a .shape .now) (work p)
+ready u = prepared u .prepare .ensures .ready (u .if1 .left)
 
 -- where the edges are walked
 abbrev walked : tie.After-first-lone → tie.After-walk-edges
 walked c = c .before .before .before .before
 
 -- where no row is without a partner
-abbrev searched : tie.After-meetings2 → tie.After-enum-told
-searched c = c .before .before .before .before .before
+abbrev searched : tie.After-meetings3 → tie.After-enum-told
+searched c = c .before .before .before
+
+slice-aggregate-prepare : tie.Need-slice-aggregate-prepare
+slice-aggregate-prepare c = search needs
+
+slice-aggregate-prepare-2 : tie.Need-slice-aggregate-prepare-2
+slice-aggregate-prepare-2 c = search needs
+
+slice-aggregate-prepare-3 : tie.Need-slice-aggregate-prepare-3
+slice-aggregate-prepare-3 c = search needs
+
+slice-aggregate-prepare-4 : tie.Need-slice-aggregate-prepare-4
+slice-aggregate-prepare-4 c = search needs
 
 prepare-requires : tie.Need-prepare-requires
-prepare-requires c κs = search needs
+prepare-requires c κs = record { levels-long = refl; types-long = refl; none-met = refl; ways-long = refl }
 
 returns : tie.Need-returns
-returns c = ap inNumbers (judge-refused (c .before .prepare .ensures) (c .if1 .taken))
+returns c = ap inNumbers (judge-refused (c .before .before .before .before .before .prepare .ensures) (c .if1 .taken))
 
 slice-aggregate-walk-edges : tie.Need-slice-aggregate-walk-edges
 slice-aggregate-walk-edges c = search needs
@@ -63,15 +78,15 @@ enum-told : tie.Need-enum-told
 enum-told c = search needs
 
 slice-aggregate-first-fault : tie.Need-slice-aggregate-first-fault
-slice-aggregate-first-fault c = let l = c .before .before .before .before .before .before in sym (ways-long (tested (walked l .before) .before))
+slice-aggregate-first-fault c = search needs
 
 slice-aggregate-first-fault-2 : tie.Need-slice-aggregate-first-fault-2
-slice-aggregate-first-fault-2 c = sym (meetings-long (tested (walked (searched c .before .before) .before) .before))
+slice-aggregate-first-fault-2 c = search needs
 
 first-fault-requires : tie.Need-first-fault-requires
 first-fault-requires c κs =
     let u = tested (walked (searched c .before .before) .before) in
-    (room (ready u) (ways-long (u .before)), meetings-long (u .before))
+    (room (ready u) (sym (slice-aggregate-first-fault (c .before))), sym (slice-aggregate-first-fault-2 c))
 
 given-requires : tie.Need-given-requires
 given-requires c κs = search needs
@@ -87,7 +102,7 @@ returns-2 c =
     let e = walked l in
     let u = tested (e .before) in
     answered (c .given .result) (v .first-fault .result) _ (c .given .ensures)
-    (judge-given (u .before .prepare .ensures) (u .if1 .left) _
+    (judge-given (prepared u .prepare .ensures) (u .if1 .left) _
     (v .first-fault .ensures
     ∙ pair-verdict (ready u) (e .walk-edges .result .full) (e .walk-edges .ensures .0) (sym (l .first-lone .ensures) ∙ ap told (k .enum-told .given .1))))
 
@@ -97,13 +112,17 @@ returns-3 c =
     let l = m .before in
     let u = tested (walked l .before) in
     answered (c .given2 .result) (l .first-lone .result) _ (c .given2 .ensures)
-    (judge-given (u .before .prepare .ensures) (u .if1 .left) _
+    (judge-given (prepared u .prepare .ensures) (u .if1 .left) _
     (alone-verdict (ready u) (told (l .first-lone .result)) (l .first-lone .ensures) (not-kept (l .first-lone .result) (m .match .keys2))))
 
 pub judge-spec : {M : Type 1} → statement M
 judge-spec =
     tie.close
     (tie.spec
+    slice-aggregate-prepare
+    slice-aggregate-prepare-2
+    slice-aggregate-prepare-3
+    slice-aggregate-prepare-4
     prepare-requires
     returns
     slice-aggregate-walk-edges

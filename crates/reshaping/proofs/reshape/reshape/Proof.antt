@@ -1,7 +1,7 @@
 -- `reshaping::reshape::reshape` meets its contract. Assumes nothing.
 use Prim.Native.Nat.{ℕ, _≤_}
 use native.Mathlib.Omega.{arith}
-use mathlib.Core.Path.{_≡_, sym, _∙_, ap}
+use mathlib.Core.Path.{refl, sym, _∙_, ap}
 use mathlib.Core.List.{List}
 use lib.ListN.{length}
 use Rattle.paper.specs.Format.{base}
@@ -20,38 +20,50 @@ use Rattle.reshaping.proofs.reshape.reshape.Tie as tie
 
 -- ---- the places that the answers speak of
 abbrev begun : tie.After-prepare → tie.Start
-begun c = c .before .before .before .before .before
+begun c = c .before .before .before .before .before .before .before .before .before
 
 abbrev passed : tie.After-lists → tie.Else1
-passed c = c .before .before .before .before .before .before .before
+passed c = c .before .before .before .before .before
+
+abbrev prepared : tie.Else1 → tie.After-prepare
+prepared u = u .before .before .before .before .before
 
 abbrev counts : tie.After-room-in → tie.After-count-lines
 counts c = c .before .before .before
 
-types-long : (p : tie.After-prepare) → length (p .prepare .result .types) ≡ 1024
-types-long p = search needs
-
 -- there is room for all lines
-room-enough : (d : tie.Else2) → let a = begun (passed (counts (d .before) .before) .before) .args in
+room-enough : (d : tie.Else2) → let a = begun (prepared (passed (counts (d .before) .before))) .args in
     length (lines (nodes (rows base (a .table .now))) (shapeIn base (a .table .now) (a .shape .now)) 6) ≤ roomIn base (a .new .now) (a .sources .now)
 unfolding base
 room-enough d =
     let r = d .before .room-in in
     let n = counts (d .before) in
     let p = passed (n .before) in
-    let y = p .before .prepare .ensures .ready (p .if1 .left) in
+    let y = prepared p .prepare .ensures .ready (p .if1 .left) in
     let few = count-fits _ (n .count-lines .result) (counted-here y (n .count-lines .ensures .1)) (r .result) (omega (arith, r .ensures)) (d .if2 .left) in
     omega (arith, r .ensures, found-length y, few)
 
+slice-aggregate-prepare : tie.Need-slice-aggregate-prepare
+slice-aggregate-prepare c = search needs
+
+slice-aggregate-prepare-2 : tie.Need-slice-aggregate-prepare-2
+slice-aggregate-prepare-2 c = search needs
+
+slice-aggregate-prepare-3 : tie.Need-slice-aggregate-prepare-3
+slice-aggregate-prepare-3 c = search needs
+
+slice-aggregate-prepare-4 : tie.Need-slice-aggregate-prepare-4
+slice-aggregate-prepare-4 c = search needs
+
 prepare-requires : tie.Need-prepare-requires
-prepare-requires c κs = search needs
+prepare-requires c κs = record { levels-long = refl; types-long = refl; none-met = refl; ways-long = refl }
 
 refused-requires : tie.Need-refused-requires
 refused-requires c κs = search needs
 
 returns : tie.Need-returns
 returns c =
-    let p = c .before .before in
+    let p = c .before .before .before .before .before .before in
     let a = begun p .args in
     let e = reshape-refused (p .prepare .ensures) (a .new .now) (a .sources .now) (c .before .if1 .taken) in
     let er = c .refused .ensures ∙ sym (ap (λ (x : Reshaping). x .reply) e) in
@@ -74,7 +86,7 @@ slice-aggregate-count-lines-4 c = search needs
 count-lines-requires : tie.Need-count-lines-requires
 count-lines-requires c κs =
     let p = passed c in
-    let y = p .before .prepare .ensures .ready (p .if1 .left) in (
+    let y = prepared p .prepare .ensures .ready (p .if1 .left) in (
       y .rows-are,
       y .shaped .sized,
       record { runs-long = omega (arith, slice-aggregate-count-lines-3 (c .before)); list-long = omega (arith, slice-aggregate-count-lines-4 c) },
@@ -92,11 +104,11 @@ returns-2 c =
     let t = c .before in
     let n = counts (t .before) in
     let p = passed (n .before) in
-    let a = begun (p .before) .args in
-    let y = p .before .prepare .ensures .ready (p .if1 .left) in
+    let a = begun (prepared p) .args in
+    let y = prepared p .prepare .ensures .ready (p .if1 .left) in
     let over = count-exceeds _ (n .count-lines .result) (counted-here y (n .count-lines .ensures .1)) (t .before .room-in .result)
     (omega (arith, t .before .room-in .ensures)) (t .if2 .taken) in
-    let e = reshape-full (p .before .prepare .ensures) (a .new .now) (a .sources .now) (p .if1 .left)
+    let e = reshape-full (prepared p .prepare .ensures) (a .new .now) (a .sources .now) (p .if1 .left)
     (omega (arith, over, found-length y, t .before .room-in .ensures)) in
     let er = c .refused2 .ensures ∙ sym (ap (λ (x : Reshaping). x .reply) e) in
     let en = sym (ap (λ (x : Reshaping). x .table) e) in
@@ -107,7 +119,7 @@ base-requires : tie.Need-base-requires
 base-requires c κs = search needs
 
 slice-aggregate-write-table : tie.Need-slice-aggregate-write-table
-slice-aggregate-write-table c = sym (types-long (passed (counts (c .before .before .before) .before) .before))
+slice-aggregate-write-table c = search needs
 
 slice-aggregate-write-table-2 : tie.Need-slice-aggregate-write-table-2
 slice-aggregate-write-table-2 c = search needs
@@ -121,12 +133,12 @@ write-table-requires c κs =
     let b = l .before .before .before in
     let n = counts (b .before .before) in
     let p = passed (n .before) in
-    let a = begun (p .before) .args in
-    let y = p .before .prepare .ensures .ready (p .if1 .left) in
+    let a = begun (prepared p) .args in
+    let y = prepared p .prepare .ensures .ready (p .if1 .left) in
     let left = n .count-lines .last .1 .1 .1 .1 in
     let named = runs-named y {runs = left .0} {lists = left .1 .0} (n .count-lines .ensures .0)
     (record { runs-long = omega (arith, slice-aggregate-write-table-2 (l .before)); list-long = omega (arith, slice-aggregate-write-table-3 l) }) in
-    let room = fits (p .before .prepare .ensures) (p .if1 .left) (a .new .now) (a .sources .now) (room-enough (b .before)) in
+    let room = fits (prepared p .prepare .ensures) (p .if1 .left) (a .new .now) (a .sources .now) (room-enough (b .before)) in
     asked-as (b .base .result) (b .base .ensures) named room
 
 same-length : tie.Need-same-length
@@ -140,8 +152,8 @@ returns-3 c =
     let v = c .before .before .before .before .before in
     let b = v .before .before .before .before .before .before in
     let p = passed (counts (b .before .before) .before) in
-    let a = begun (p .before) .args in
-    let q = p .before .prepare .ensures in
+    let a = begun (prepared p) .args in
+    let q = prepared p .prepare .ensures in
     let z = p .if1 .left in
     let le = room-enough (b .before) in
     let (ec, (et, ep)) = left-as (b .base .result) (b .base .ensures) (v .write-table .ensures) in
@@ -154,6 +166,10 @@ pub reshape-spec : {M : Type 1} → statement M
 reshape-spec =
     tie.close
     (tie.spec
+    slice-aggregate-prepare
+    slice-aggregate-prepare-2
+    slice-aggregate-prepare-3
+    slice-aggregate-prepare-4
     prepare-requires
     refused-requires
     returns

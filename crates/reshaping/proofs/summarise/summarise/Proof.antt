@@ -1,10 +1,10 @@
 -- `reshaping::summarise::summarise` meets its contract. Assumes nothing.
 use native.Mathlib.Omega.{arith}
-use mathlib.Core.Path.{_≡_, sym, _∙_, ap}
+use mathlib.Core.Path.{_≡_, refl, sym, _∙_, ap}
 use lib.ListN.{length}
 use Rattle.paper.specs.Format.{mostLines}
 use Rattle.paper.specs.Calls.{Figures, Reply}
-use Rattle.shapes.specs.Work.{Ready}
+use Rattle.shapes.specs.Work.{Work, Ready, workOf}
 use Rattle.reshaping.proofs.Answers.{summary-refused, summary-full, summary-given}
 use Rattle.reshaping.proofs.Summed.{counted-here, found-length, summed, count-fits, count-exceeds}
 use borrow.Author.Needs.{needs}
@@ -13,13 +13,20 @@ use Rattle.reshaping.proofs.summarise.summarise.Tie as tie
 
 -- the tests are passed, and what they leave
 abbrev passed : tie.After-shows → tie.Else1
-passed c = c .before .before .before .before .before .before .before
+passed c = c .before .before .before .before .before
+
+abbrev prepared : tie.Else1 → tie.After-prepare
+prepared u = u .before .before .before .before .before
 
 abbrev begun : tie.After-prepare → tie.Start
-begun c = c .before .before .before
+begun c = c .before .before .before .before .before .before .before
 
-ready : (c : tie.After-shows) → let p = passed c .before in Ready (begun p .args .table .now) (begun p .args .shape .now) (p .prepare .result)
-ready c = passed c .before .prepare .ensures .ready (passed c .if1 .left)
+-- what is given back, and what the lent lists hold
+abbrev work : tie.After-prepare → Work
+work p = let left = p .prepare .last .1 .1 in workOf (p .prepare .result) (left .0) (left .1 .0) (left .1 .1 .0) (left .1 .1 .1 .0)
+
+ready : (c : tie.After-shows) → let p = prepared (passed c) in Ready (begun p .args .table .now) (begun p .args .shape .now) (work p)
+ready c = prepared (passed c) .prepare .ensures .ready (passed c .if1 .left)
 
 -- ---- the arrays of the figures
 lines-long : (n : tie.After-count-lines) → length (n .count-lines .result .lines) ≡ 16
@@ -31,14 +38,26 @@ rows-long r = search needs
 copies-long : (c : tie.After-copies-of) → length (c .copies-of .result) ≡ 16
 copies-long c = search needs
 
+slice-aggregate-prepare : tie.Need-slice-aggregate-prepare
+slice-aggregate-prepare c = search needs
+
+slice-aggregate-prepare-2 : tie.Need-slice-aggregate-prepare-2
+slice-aggregate-prepare-2 c = search needs
+
+slice-aggregate-prepare-3 : tie.Need-slice-aggregate-prepare-3
+slice-aggregate-prepare-3 c = search needs
+
+slice-aggregate-prepare-4 : tie.Need-slice-aggregate-prepare-4
+slice-aggregate-prepare-4 c = search needs
+
 prepare-requires : tie.Need-prepare-requires
-prepare-requires c κs = search needs
+prepare-requires c κs = record { levels-long = refl; types-long = refl; none-met = refl; ways-long = refl }
 
 refused-requires : tie.Need-refused-requires
 refused-requires c κs = search needs
 
 returns : tie.Need-returns
-returns c = let p = c .before .before .prepare in c .refused .ensures ∙ sym (summary-refused (p .ensures) (c .before .if1 .taken))
+returns c = let p = c .before .before .before .before .before .before .prepare in c .refused .ensures ∙ sym (summary-refused (p .ensures) (c .before .if1 .taken))
 
 slice-aggregate-count-lines : tie.Need-slice-aggregate-count-lines
 slice-aggregate-count-lines c = search needs
@@ -70,7 +89,7 @@ returns-2 c =
     let p = passed (n .before) in
     let counted = counted-here (ready (n .before)) (n .count-lines .ensures .1) in
     let over = count-exceeds _ (n .count-lines .result) counted mostLines (omega arith) (t .if2 .taken) in
-    c .refused2 .ensures ∙ sym (summary-full (p .before .prepare .ensures) (p .if1 .left) (omega (arith, over, found-length (ready (n .before)))))
+    c .refused2 .ensures ∙ sym (summary-full (prepared p .prepare .ensures) (p .if1 .left) (omega (arith, over, found-length (ready (n .before)))))
 
 slice-aggregate-entry-rows : tie.Need-slice-aggregate-entry-rows
 slice-aggregate-entry-rows c = search needs
@@ -95,12 +114,16 @@ returns-3 c =
     ap {B = Reply Figures} (λ f. record { number = 0; place = 0; rest = f })
     (summed y (n .count-lines .result) (r .entry-rows .result) (c .copies-of .result) (lines-long n) (rows-long r) (copies-long c)
     fits counted (r .entry-rows .ensures) (c .copies-of .ensures))
-    ∙ sym (summary-given (p .before .prepare .ensures) (p .if1 .left) (omega (arith, fits, found-length y)))
+    ∙ sym (summary-given (prepared p .prepare .ensures) (p .if1 .left) (omega (arith, fits, found-length y)))
 
 pub summarise-spec : {M : Type 1} → statement M
 summarise-spec =
     tie.close
     (tie.spec
+    slice-aggregate-prepare
+    slice-aggregate-prepare-2
+    slice-aggregate-prepare-3
+    slice-aggregate-prepare-4
     prepare-requires
     refused-requires
     returns
