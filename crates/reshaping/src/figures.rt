@@ -1,19 +1,17 @@
 // The figures of a summary, as arrays of 16: rows of each entry's type, and copies.
-use shapes::shape::Shape;
 ghost use Prim.Native.Nat.{_≤_};
 ghost use lib.ListN.{length};
 ghost use Rattle.reshaping.specs.Figures.{RowsOf, Less};
 
 // How many rows each entry's type has; zeros past the entries.
-pub fn entry_rows(types: &[u8], rows: usize, shape: Shape) -> [usize; 16]
-    requires { ⌜ (rows ≤ length (now types)) × (shape .entries ≤ 16) ⌝ }
-    ensures { λ r. ⌜ RowsOf (now (types .entry)) rows (shape .types) (shape .entries) r ⌝ }
+pub fn entry_rows(types: &[u8], rows: usize, wanted: [u8; 16], entries: usize) -> [usize; 16]
+    requires { ⌜ (rows ≤ length (now types)) × (entries ≤ 16) ⌝ }
+    ensures { λ r. ⌜ RowsOf (now (types .entry)) rows wanted entries r ⌝ }
 {
-    let entries = shape.entries;
     let mut held = [0; 16];
     let mut e = 0;
     while e < entries {
-        held[e] = closest::count_rows(types, rows, bytes::wide(shape.types[e]));
+        held[e] = closest::count_rows(types, rows, bytes::wide(wanted[e]));
         e += 1;
     }
     held

@@ -62,7 +62,9 @@ pub fn summarise(table: &[u8], shape: &[u8]) -> Summary
         return refused(8, 0);
     }
     let lines = tally.lines;
-    let held = entry_rows(&types, rows, wanted);
+    let entry_types = wanted.types;
+    let entries = wanted.entries;
+    let held = entry_rows(&types, rows, entry_types, entries);
     let copies = copies_of(lines, held);
     Summary {
         number: 0,

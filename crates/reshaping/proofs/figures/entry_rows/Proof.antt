@@ -11,16 +11,16 @@ use Rattle.reshaping.proofs.figures.entry_rows.Statement.{statement}
 use Rattle.reshaping.proofs.figures.entry_rows.Tie as tie
 
 abbrev Inv-loop : tie.InvT-loop
-Inv-loop types rows shape entries held₀ e₀ held e = (e ≤ entries) × Figured (rowsOf types rows (shape .types)) e held
+Inv-loop types rows entries wanted held₀ e₀ held e = (e ≤ entries) × Figured (rowsOf types rows wanted) e held
 
 abbrev μ-loop : tie.MeasureT-loop
-μ-loop types rows shape entries held₀ e₀ held e = entries - e
+μ-loop types rows entries wanted held₀ e₀ held e = entries - e
 
 loop-holds : tie.Need-loop-holds Inv-loop μ-loop
-loop-holds c = let a = c .before .args in (omega arith, figured-none (rowsOf (a .types .now) (a .rows) (a .t3 .types)))
+loop-holds c = let a = c .before .args in (omega arith, figured-none (rowsOf (a .types .now) (a .rows) (a .t3)))
 
-element-copy-out-wide : tie.Need-element-copy-out-wide Inv-loop μ-loop
-element-copy-out-wide c = search needs
+array-read-wide : tie.Need-array-read-wide Inv-loop μ-loop
+array-read-wide c = search needs
 
 wide-requires : tie.Need-wide-requires Inv-loop μ-loop
 wide-requires c κs = search needs
@@ -43,11 +43,11 @@ loop-less c = search needs
 loop-again : tie.Need-loop-again Inv-loop μ-loop
 loop-again c =
     let w = c .before in
-    let i = w .before .before in
+    let i = w .before in
     let l = i .before in
     let s = l .before .before in
     let a = s .args in
-    let g = rowsOf (a .types .now) (a .rows) (a .t3 .types) in
+    let g = rowsOf (a .types .now) (a .rows) (a .t3) in
     let q : c .count-rows .result ≡ g (l .loop .e) =
     c .count-rows .ensures .0 ∙ ap (λ k. length (keep (λ x. eqb x k) (take (a .rows) (a .types .now)))) (w .wide .ensures .0) in
     (omega arith, figured-more g (l .loop .e) (l .loop .held) (l .loop .inv .1) (c .count-rows .result) (omega (arith, s .pre .1, i .loop-test .taken)) q)
@@ -65,7 +65,7 @@ entry-rows-spec =
     Inv-loop
     μ-loop
     loop-holds
-    element-copy-out-wide
+    array-read-wide
     wide-requires
     count-rows-requires
     mul-held

@@ -96,7 +96,7 @@ slice-aggregate-entry-rows c = search needs
 
 entry-rows-requires : tie.Need-entry-rows-requires
 entry-rows-requires c κs =
-    let y = ready (c .before .before .before .before .before .before) in
+    let y = ready (c .before .before .before .before .before .before .before) in
     (y .rows-are .types-long, y .shaped .sized .few)
 
 copies-of-requires : tie.Need-copies-of-requires
@@ -105,7 +105,7 @@ copies-of-requires c κs = search needs
 returns-3 : tie.Need-returns-3
 returns-3 c =
     let r = c .before in
-    let e = r .before .before .before in
+    let e = r .before .before .before .before in
     let n = e .before .before .before in
     let p = passed (n .before) in
     let y = ready (n .before) in
