@@ -13,7 +13,7 @@
 #include "plain.h"
 #include "tapes.h"
 
-enum { ROUNDS = 11, PROGRAMS = 3, CALLS = 4, KINDS = 8, SIZES = 4, TAPES = KINDS * SIZES, LINES = SILMEZGA_MOST_LINES };
+enum { ROUNDS = 11, PROGRAMS = 3, CALLS = 4, KINDS = 9, SIZES = 4, TAPES = KINDS * SIZES, LINES = SILMEZGA_MOST_LINES };
 
 static const double batch_seconds = 0.002;
 static const char *const calls[] = {"examine", "judge", "reshape", "summarise"};
@@ -183,8 +183,8 @@ static void measure(int round)
 
 static void make_tapes(void)
 {
-    static void (*const make[KINDS])(tape *, size_t) = {make_book,   make_fan,      make_sixteen,    make_64_types,
-                                                        make_random, make_one_tree, make_many_lines, make_vain_searches};
+    static void (*const make[KINDS])(tape *, size_t) = {make_book,     make_fan,      make_sixteen,    make_64_types,     make_random,
+                                                        make_one_tree, make_siblings, make_many_lines, make_vain_searches};
     int i;
     for (i = 0; i < TAPES; i++) {
         make[i % KINDS](&tapes[i], (size_t)128 << i / KINDS);

@@ -2,7 +2,7 @@
 
 #include <string.h>
 
-enum { PORTFOLIO = 1, LESSEE, LEASE, ASSET, PAYMENT };
+enum { PORTFOLIO = 1, LESSEE, LEASE, ASSET, PAYMENT, METER };
 
 static void put_word(uint8_t *b, size_t x)
 {
@@ -203,6 +203,23 @@ void make_one_tree(tape *t, size_t rows)
     for (level = 1; level <= 6; level++) {
         add_entry(t, level, 7 - level, type);
     }
+}
+
+/* One row on each level down to 5, and all the others beneath the last of them. */
+void make_siblings(tape *t, size_t rows)
+{
+    static const unsigned type[] = {PORTFOLIO, LESSEE, LEASE, ASSET, PAYMENT, METER};
+    unsigned level;
+    start(t, "siblings");
+    for (level = 1; level < 6; level++) {
+        add_row(t, level, type[level - 1]);
+    }
+    while (t->rows < rows) {
+        add_row(t, 6, METER);
+    }
+    add_entry(t, 1, 6, type);
+    add_entry(t, 2, 5, type);
+    add_entry(t, 2, 4, type);
 }
 
 void make_many_lines(tape *t, size_t rows)

@@ -32,6 +32,9 @@ void make_random(tape *t, size_t rows);
 /* One tree of six levels, to a shape of 6 entries that has the levels upside down. */
 void make_one_tree(tape *t, size_t rows);
 
+/* Siblings on level 6: where a row meets the next is dear to find, since their numbers differ in the last component only. To meter[payment asset]. */
+void make_siblings(tape *t, size_t rows);
+
 /* Hostile: rows that ask for some 10^15 lines where they are 1,024, for some 10^9 where they are 128. */
 void make_many_lines(tape *t, size_t rows);
 

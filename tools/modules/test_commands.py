@@ -1,8 +1,8 @@
 """Tests of what the commands of tools/, bench/ and examples/ need, write and leave."""
-import contextlib, io, itertools, os, pathlib, re, shutil, subprocess, sys, tempfile, unittest.mock
+import contextlib, io, itertools, os, pathlib, re, shutil, struct, subprocess, sys, tempfile, unittest.mock
 
-import usage
-from testing import ROOT, TOOLS, InFolder, loaded
+import archive, usage
+from testing import ROOT, TOOLS, InFolder, loaded, run
 
 COMMANDS = sorted(path for path in TOOLS.iterdir() if path.is_file())
 MODULES_LINE = 'sys.path.insert(0, str(pathlib.Path(__file__).resolve().parent / "modules"))'
@@ -28,7 +28,7 @@ class Called(InFolder):
 
 class Bench(InFolder):
     """bench/run, with a toolchain and a compiler that are made up here, writes its page only when it is told to."""
-    TAPES = "book", "fan", "sixteen", "64 types", "random", "one tree", "many lines", "vain searches"
+    TAPES = "book", "fan", "sixteen", "64 types", "random", "one tree", "siblings", "many lines", "vain searches"
     CALLS = "examine", "judge", "reshape", "summarise"
 
     def setUp(self):
@@ -204,12 +204,13 @@ class CheckDocs(InFolder):
 
 
 class Archive(InFolder):
-    """compare_archive builds the library with a toolchain that is made up here."""
+    """The library is built with a toolchain that is made up here."""
 
     def setUp(self):
         super().setUp()
-        self.command = loaded("compare_archive")
-        self.command.root = self.folder
+        root = unittest.mock.patch.object(archive, "ROOT", self.folder)
+        root.start()
+        self.addCleanup(root.stop)
         self.code = self.put("crates/one/src/lib.rt", "")
         self.put("crates.txt", "")
         path = unittest.mock.patch.dict(os.environ, PATH=f"{self.folder}/bin")
@@ -221,17 +222,53 @@ class Archive(InFolder):
 
     def test_built_where_it_must(self):
         self.put("target/staticlib/other", "")
-        self.rt(f"echo made >{self.command.LIBRARY}")
-        self.assertTrue(self.command.needs_building())
-        self.assertEqual(printed(self.command.build), (None, "building target/staticlib/libsilmezga_c.a: rt staticlib silmezga_c\n"))
-        self.assertFalse(self.command.needs_building())
-        later = (self.folder / self.command.LIBRARY).stat().st_mtime + 5
+        self.rt(f"echo made >{archive.LIBRARY}")
+        self.assertTrue(archive.needs_building())
+        self.assertEqual(printed(archive.build), (None, "building target/staticlib/libsilmezga_c.a: rt staticlib silmezga_c\n"))
+        self.assertFalse(archive.needs_building())
+        later = (self.folder / archive.LIBRARY).stat().st_mtime + 5
         os.utime(self.code, (later, later))
-        self.assertTrue(self.command.needs_building())
+        self.assertTrue(archive.needs_building())
 
     def test_not_built(self):
-        status, said = printed(self.command.build)
+        status, said = printed(archive.build)
         self.assertEqual(status, usage.NOT_RUN)
         self.assertIn("NOT RUN: target/staticlib/libsilmezga_c.a is not there or is older than the code, and there is no command rt", said)
         self.rt("echo wrong; exit 1")
-        self.assertIn("wrong\nthe library is not built", printed(self.command.build)[0])
+        self.assertIn("wrong\nthe library is not built", printed(archive.build)[0])
+
+
+class CheckCopies(InFolder):
+    """check_copies on an archive that is made up here: of each function what it calls."""
+
+    def object(self, calls):
+        """An object file with a section for each function, and in it a place for each symbol that it calls."""
+        called = sorted({name for names in calls.values() for name in names})
+        strings = b"\0" + b"".join(name.encode() + b"\0" for name in called)
+        symbols = bytes(24) + b"".join(struct.pack("<IBBHQQ", strings.index(b"\0" + name.encode() + b"\0") + 1, 0, 0, 0, 0, 0) for name in called)
+        sections = [("", 0, b"", 0, 0), (".names", 3, b"", 0, 0), (".strtab", 3, strings, 0, 0), (".symtab", 2, symbols, 2, 0)]
+        for function, names in calls.items():
+            places = b"".join(struct.pack("<QQq", 8 * k, (called.index(name) + 1) << 32 | 4, -4) for k, name in enumerate(names))
+            sections += [(f".text.{function}", 1, bytes(64), 0, 0), (f".rela.text.{function}", 4, places, 3, len(sections))]
+        names = b"".join(name.encode() + b"\0" for name, *_ in sections)
+        sections[1] = (".names", 3, names, 0, 0)
+        heads, bodies, at = b"", b"", 64
+        for name, kind, body, link, info in sections:
+            heads += struct.pack("<IIQQQQIIQQ", (b"\0" + names).index(b"\0" + name.encode() + b"\0"), kind, 0, 0, at, len(body), link, info, 0, 0)
+            bodies, at = bodies + body, at + len(body)
+        return b"\x7fELF" + bytes(36) + struct.pack("<Q", at) + bytes(10) + struct.pack("<HHH", 64, len(sections), 1) + bodies + heads
+
+    def archive(self, calls):
+        made = self.object(calls)
+        return self.put("made.a", b"!<arch>\n" + b"made.o/".ljust(48) + str(len(made)).encode().ljust(10) + b"`\n" + made)
+
+    def test_calls(self):
+        status, out, _ = run("check_copies", self.archive({"silmezga_adorn": ["memcpy", "memset", "memcpy"], "one::two": ["silmezga_adorn"]}))
+        self.assertEqual((status, out), (0, b"silmezga_adorn: memcpy 2, memset 1\n2 functions that call others, 0 of them copy more than they may\n"))
+        status, out, _ = run("check_copies", self.archive({"silmezga_adorn": ["memcpy"] * 3, "one::two": ["memmove", "memset"]}))
+        self.assertEqual(status, 1)
+        self.assertIn(b"one::two: memmove 1, memset 1\nsilmezga_adorn: memcpy 3\none::two copies more", out)
+        self.assertIn(b"silmezga_adorn copies more than it may\n2 functions that call others, 2 of them", out)
+
+    def test_nothing_seen(self):
+        self.assertEqual(run("check_copies", self.archive({}))[0], 1)
