@@ -34,7 +34,7 @@ pub fn judge(table: &[u8], shape: &[u8]) -> Judged
     let mut types = [0u8; 1024];
     let mut meetings = [0u8; 1024];
     let mut ways = [0u8; 128];
-    let start = prepare(
+    let prepared = prepare(
         table,
         shape,
         &mut levels,
@@ -42,8 +42,8 @@ pub fn judge(table: &[u8], shape: &[u8]) -> Judged
         &mut meetings,
         &mut ways,
     );
-    let number = start.number;
-    let place = start.place;
+    let number = prepared.number;
+    let place = prepared.place;
     if number != 0 {
         return Judged {
             number: number,
@@ -51,8 +51,8 @@ pub fn judge(table: &[u8], shape: &[u8]) -> Judged
             verdict: Verdict::Kept,
         };
     }
-    let rows = start.rows;
-    let drawn = start.shape;
+    let rows = prepared.rows;
+    let drawn = prepared.shape;
     let edges = walk_edges(&levels, &types, rows, drawn);
     let met = edges.met;
     let lone = first_lone(&levels, &types, rows, drawn, met);

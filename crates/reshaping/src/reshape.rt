@@ -43,7 +43,7 @@ pub fn reshape(table: &[u8], shape: &[u8], new: &mut [u8], sources: &mut [u32]) 
     let mut types = [0u8; 1024];
     let mut meetings = [0u8; 1024];
     let mut ways = [0u8; 128];
-    let start = prepare(
+    let prepared = prepare(
         table,
         shape,
         &mut levels,
@@ -51,13 +51,13 @@ pub fn reshape(table: &[u8], shape: &[u8], new: &mut [u8], sources: &mut [u32]) 
         &mut meetings,
         &mut ways,
     );
-    let number = start.number;
-    let place = start.place;
+    let number = prepared.number;
+    let place = prepared.place;
     if number != 0 {
         return refused(number, place);
     }
-    let rows = start.rows;
-    let wanted = start.shape;
+    let rows = prepared.rows;
+    let wanted = prepared.shape;
     let mut runs = [0u16; 9216];
     let mut lists = [0u16; 16384];
     let tally = count_lines(&levels, &types, rows, wanted, &mut runs, &mut lists);

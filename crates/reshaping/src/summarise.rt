@@ -39,7 +39,7 @@ pub fn summarise(table: &[u8], shape: &[u8]) -> Summary
     let mut types = [0u8; 1024];
     let mut meetings = [0u8; 1024];
     let mut ways = [0u8; 128];
-    let start = prepare(
+    let prepared = prepare(
         table,
         shape,
         &mut levels,
@@ -47,13 +47,13 @@ pub fn summarise(table: &[u8], shape: &[u8]) -> Summary
         &mut meetings,
         &mut ways,
     );
-    let number = start.number;
-    let place = start.place;
+    let number = prepared.number;
+    let place = prepared.place;
     if number != 0 {
         return refused(number, place);
     }
-    let rows = start.rows;
-    let wanted = start.shape;
+    let rows = prepared.rows;
+    let wanted = prepared.shape;
     let mut runs = [0u16; 9216];
     let mut shows = [0u16; 16384];
     let tally = count_lines(&levels, &types, rows, wanted, &mut runs, &mut shows);

@@ -15,7 +15,7 @@ use Rattle.shapes.specs.Tests.{shapeIn}
 use Rattle.shapes.specs.Edges.{meetingOf}
 use Rattle.shapes.specs.Shape.{levelOf, labelOf, typeOf, parentOf, Shaped}
 use Rattle.shapes.specs.declared.shape.Shape.{Shape}
-use Rattle.shapes.specs.declared.work.Start.{Start}
+use Rattle.shapes.specs.declared.work.Preparation.{Preparation}
 
 -- a refusal, or the number of rows with the level and the type number of each, where the types meet, the shape, and the ways of its entries
 pub record Work : Type 0 where
@@ -61,7 +61,7 @@ pub record Blank (levels types meetings ways : List ℕ) : Type 0 where
   pub ways-long : length ways ≡ wayPlaces * mostEntries
 
 -- the same, where r is given back and the rest stands in the lent lists
-abbrev pub workOf : Start → List ℕ → List ℕ → List ℕ → List ℕ → Work
+abbrev pub workOf : Preparation → List ℕ → List ℕ → List ℕ → List ℕ → Work
 workOf r levels types meetings ways = record {
   number = r .number;
   place = r .place;
@@ -73,5 +73,5 @@ workOf r levels types meetings ways = record {
   ways = ways;
 }
 
-abbrev pub Prepares : List ℕ → List ℕ → Start → List ℕ → List ℕ → List ℕ → List ℕ → Type 0
+abbrev pub Prepares : List ℕ → List ℕ → Preparation → List ℕ → List ℕ → List ℕ → List ℕ → Type 0
 Prepares t s r levels types meetings ways = Prepared t s (workOf r levels types meetings ways)

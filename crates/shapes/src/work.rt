@@ -7,17 +7,17 @@ ghost use mathlib.Core.Path.{_≡_};
 ghost use Rattle.shapes.specs.Work.{Blank, Prepares};
 
 // A refusal, or the number of rows and the shape.
-pub struct Start {
+pub struct Preparation {
     pub number: usize,
     pub place: usize,
     pub rows: usize,
     pub shape: Shape,
 }
 
-fn unprepared(number: usize, place: usize) -> Start
+fn unprepared(number: usize, place: usize) -> Preparation
     ensures { λ r. ⌜ (r .number ≡ number) × (r .place ≡ place) ⌝ }
 {
-    Start {
+    Preparation {
         number: number,
         place: place,
         rows: 0,
@@ -42,7 +42,7 @@ pub fn prepare(
     types: &mut [u8],
     meetings: &mut [u8],
     ways: &mut [u8],
-) -> Start
+) -> Preparation
     requires { ⌜ Blank (now levels) (now types) (now meetings) (now ways) ⌝ }
     ensures { λ r. ⌜ Prepares (now (table .entry)) (now (shape .entry)) r (now (levels .exit)) (now (types .exit)) (now (meetings .exit)) (now (ways .exit)) ⌝ }
 {
@@ -68,7 +68,7 @@ pub fn prepare(
         parents,
         meetings,
     );
-    Start {
+    Preparation {
         number: 0,
         place: 0,
         rows: rows,
