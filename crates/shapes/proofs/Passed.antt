@@ -115,7 +115,8 @@ pub record Shaped (s : List ℕ) (m : ℕ) : Type 0 where
   pub few : m ≤ mostEntries
 
 module _ (s : List ℕ) (x : ShapeExamined) (e : shapeExamined x ≡ shapeReply base s) where
-  pub shape-refused : {t : List ℕ} {n : ℕ} {ks : List ℕ} {ty : Types} → Listed t n ks ty → (x .number ≡ 0 → ⊥) → tests1-7 base t s ≡ refused (x .number) (x .place)
+  pub shape-refused : {t : List ℕ} {n : ℕ} {ks : List ℕ} {ty : Types} → Listed t n ks ty → (x .number ≡ 0 → ⊥)
+      → tests1-7 base t s ≡ refused (x .number) (x .place)
   shape-refused {t} l ne =
       refused-shape base t s (l .table .passed) (none-over l) (x .number) (x .place)
       (shape-laws.examined-refused base s (x .number) (x .place) (x .entries) e ne)

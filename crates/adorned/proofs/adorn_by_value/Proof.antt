@@ -158,7 +158,8 @@ returns-4 c =
     let count = lists l .count (late e) in
     let s = c .summaries-of in
     let all = subst (λ f. map told (s .result) ≡ placed (adorned (Tables.rows f t))) (b .base .ensures) (s .ensures) in
-    let q = figures-given t (places b) (examined b .0) (l .list-types .result .over) _ (lists l .over) (late e) (omega (arith, c .before .before .if3 .left, count)) in
+    let enough = c .before .before .if3 .left in
+    let q = figures-given t (places b) (examined b .0) (l .list-types .result .over) _ (lists l .over) (late e) (omega (arith, enough, count)) in
     says record { number = 0; place = 0; rest = adorned (Tables.rows base t) } (adornFigures t (places b))
     record { number = 0; place = 0; count = l .list-types .result .count; summaries = s .result }
     record { number-is = refl; place-is = refl; count-is = count ∙ sym (adorned-length (Tables.rows base t)); summaries-are = all } q

@@ -26,8 +26,11 @@ loop-holds : tie.Need-loop-holds Inv-loop μ-loop
 loop-holds c =
     let s = c .before .before .before in
     let a = s .args in
-    let none = s .pre .1 in
-    (omega arith, walked-none (a .levels .now) (a .types .now) (a .wanted) _ _ (ap length none) (zeros-at 16) (λ j. ap (λ l. getD l j 0) none ∙ zeros-at 1024 j))
+    let none = s .pre .1 in (
+      omega arith,
+      walked-none (a .levels .now) (a .types .now) (a .wanted) _ _ (ap length none) (zeros-at 16)
+          (λ j. ap (λ l. getD l j 0) none ∙ zeros-at 1024 j),
+    )
 
 shared-slice-read-k : tie.Need-shared-slice-read-k Inv-loop μ-loop
 shared-slice-read-k c = search needs

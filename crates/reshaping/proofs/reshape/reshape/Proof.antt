@@ -1,8 +1,7 @@
 -- `reshaping::reshape::reshape` meets its contract. Assumes nothing.
-use Prim.Native.Nat.{ℕ, _≤_}
+use Prim.Native.Nat.{_≤_}
 use native.Mathlib.Omega.{arith}
 use mathlib.Core.Path.{refl, sym, _∙_, ap}
-use mathlib.Core.List.{List}
 use lib.ListN.{length}
 use Rattle.paper.specs.Format.{base}
 use Rattle.paper.specs.Tables.{rows}
@@ -10,7 +9,6 @@ use Rattle.paper.specs.Closeness.{nodes}
 use Rattle.paper.specs.NewTable.{lines}
 use Rattle.paper.specs.Calls.{Reshaping, roomIn}
 use Rattle.shapes.specs.Tests.{shapeIn}
-use Rattle.shapes.specs.Work.{Prepared}
 use Rattle.reshaping.proofs.Answers.{reshape-refused, reshape-full}
 use Rattle.reshaping.proofs.Summed.{counted-here, found-length, count-fits, count-exceeds}
 use Rattle.reshaping.proofs.Lent.{reshapes, runs-named, asked-as, left-as, fits, lines-left, table-left, sources-left}

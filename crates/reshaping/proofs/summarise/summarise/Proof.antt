@@ -57,7 +57,9 @@ refused-requires : tie.Need-refused-requires
 refused-requires c κs = search needs
 
 returns : tie.Need-returns
-returns c = let p = c .before .before .before .before .before .before .prepare in c .refused .ensures ∙ sym (summary-refused (p .ensures) (c .before .if1 .taken))
+returns c =
+    let p = c .before .before .before .before .before .before .prepare in
+    c .refused .ensures ∙ sym (summary-refused (p .ensures) (c .before .if1 .taken))
 
 slice-aggregate-count-lines : tie.Need-slice-aggregate-count-lines
 slice-aggregate-count-lines c = search needs

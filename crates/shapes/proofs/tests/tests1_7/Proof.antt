@@ -166,8 +166,9 @@ returns-5 c =
     let x = tableAt s in
     let n = s .before .examine-shape .result .entries in
     let w = v .entry-ways in
-    let laid = subst (λ f. Laid (Shapes.shapeOver [] (Shapes.entries f (shape x))) n (w .result) (w .last .1 .1 .1 .0)) (x .before .base .ensures) (w .ensures) in
-    passes (listed (s .before .before)) (shaped s) (k .entry-types .result) (named k) (omega (arith, v .before .before .if4 .left)) (w .result) (w .last .1 .1 .1 .0) laid
+    let ways = w .last .1 .1 .1 .0 in
+    let laid = subst (λ f. Laid (Shapes.shapeOver [] (Shapes.entries f (shape x))) n (w .result) ways) (x .before .base .ensures) (w .ensures) in
+    passes (listed (s .before .before)) (shaped s) (k .entry-types .result) (named k) (omega (arith, v .before .before .if4 .left)) (w .result) ways laid
 
 pub tests1-7-spec : {M : Type 1} → statement M
 tests1-7-spec =

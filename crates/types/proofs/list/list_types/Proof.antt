@@ -2,7 +2,6 @@
 use Prim.Native.Nat.{ℕ, _-_, _<_, _≤_}
 use native.Mathlib.Omega.{arith}
 use mathlib.Core.Path.{_≡_, refl, _∙_, ap, subst}
-use lib.ListN.{getD}
 use Rattle.paper.specs.Format.{Format, rowBytes, byte, word, whole}
 use Rattle.paper.specs.Tables as Tables
 use Rattle.paper.proofs.Calls.{count-rows}
@@ -152,11 +151,10 @@ loop-again c =
     let l = turn r in
     let s = begun l in
     let v = l .loop in
-    let parent = getD (v .stack) (levelOf r - 1) 0 in
     let found = x .find-near .ensures .found (c .if1 .taken) in (
       omega (arith, width-known r .before .loop-test .taken),
       walk-known (formatOf l) (s .args .table .now) (s .pre .1 .0) (v .i) (here r) (levelOf r) (r .word .result) (level-is r) (label-is r)
-          (v .count) parent (v .types) (v .first) (v .parents) (v .labels) (v .stack) (v .inv .1) refl (omega (arith, s .pre .0 .0)) (s .pre .0 .2)
+          (v .count) _ (v .types) (v .first) (v .parents) (v .labels) (v .stack) (v .inv .1) refl (omega (arith, s .pre .0 .0)) (s .pre .0 .2)
           (x .find-near .result) (c .if1 .taken) (found .0) (found .1),
       omega (arith, c .if1 .taken, v .inv .1 .pass .few),
     )
@@ -171,9 +169,8 @@ returns c =
     let l = turn r in
     let s = begun l in
     let v = l .loop in
-    let parent = getD (v .stack) (levelOf r - 1) 0 in
     walk-full (formatOf l) (s .args .table .now) (s .pre .1 .0) (v .i) (here r) (levelOf r) (r .word .result) (level-is r) (label-is r)
-    (v .count) parent (v .types) (v .first) (v .parents) (v .labels) (v .stack) (v .inv .1) refl (omega (arith, s .pre .0 .0)) (s .pre .0 .2)
+    (v .count) _ (v .types) (v .first) (v .parents) (v .labels) (v .stack) (v .inv .1) refl (omega (arith, s .pre .0 .0)) (s .pre .0 .2)
     (λ k lk. x .find-near .ensures .none (omega arith) k lk) (c .if2 .taken)
 
 array-write-parents : tie.Need-array-write-parents Inv-loop μ-loop
@@ -227,11 +224,10 @@ loop-again-2 c =
     let r = read x in
     let l = turn r in
     let s = begun l in
-    let v = l .loop in
-    let parent = getD (v .stack) (levelOf r - 1) 0 in (
+    let v = l .loop in (
       omega (arith, width-known r .before .loop-test .taken),
       walk-new (formatOf l) (s .args .table .now) (s .pre .1 .0) (v .i) (here r) (levelOf r) (r .word .result) (level-is r) (label-is r)
-          (v .count) parent (v .types) (v .first) (v .parents) (v .labels) (v .stack) (v .inv .1) refl (omega (arith, s .pre .0 .0)) (s .pre .0 .2)
+          (v .count) _ (v .types) (v .first) (v .parents) (v .labels) (v .stack) (v .inv .1) refl (omega (arith, s .pre .0 .0)) (s .pre .0 .2)
           (λ k lk. x .find-near .ensures .none (omega arith) k lk) (omega (arith, v .inv .1 .pass .few)),
       omega (arith, v .inv .1 .pass .few),
     )
