@@ -53,14 +53,14 @@ pub record Prepared (t s : List ℕ) (w : Work) : Type 0 where
   pub refused-is : (w .number ≡ 0 → ⊥) → tests1-7 base t s ≡ refused (w .number) (w .place)
   pub ready : w .number ≡ 0 → Ready t s w
 
--- the lists that are lent for it: places for all rows, no meetings yet, and places for all ways
+-- the lists that are lent to prepare it: places for all rows, no meetings yet, and places for all ways
 pub record Blank (levels types meetings ways : List ℕ) : Type 0 where
   pub levels-long : length levels ≡ mostRows
   pub types-long : length types ≡ mostRows
   pub none-met : meetings ≡ noMeetings
   pub ways-long : length ways ≡ wayPlaces * mostEntries
 
--- the same, where r is given back and the rest stands in the lent lists
+-- the work that is given back as r and found in the lent lists
 abbrev pub workOf : Preparation → List ℕ → List ℕ → List ℕ → List ℕ → Work
 workOf r levels types meetings ways = record {
   number = r .number;
@@ -73,5 +73,6 @@ workOf r levels types meetings ways = record {
   ways = ways;
 }
 
+-- preparing gives r back, and leaves these lists
 abbrev pub Prepares : List ℕ → List ℕ → Preparation → List ℕ → List ℕ → List ℕ → List ℕ → Type 0
 Prepares t s r levels types meetings ways = Prepared t s (workOf r levels types meetings ways)
