@@ -18,10 +18,14 @@ last-at (x ∷ l) = go x l
     go x [] = refl
     go x (y ∷ l) = go y l
 
+-- a place of a part is a place of the whole
+pub part-at : (n at : ℕ) (l : List ℕ) (k : ℕ) → k < n → getD (take n (drop at l)) k 0 ≡ getD l (at + k) 0
+part-at n at l k lt = getD-take n (drop at l) k 0 lt ∙ getD-drop at l k 0
+
 -- ---- one way
 module _ (ws : List ℕ) (e l : ℕ) where
   pub way-place : (k : ℕ) → k < l → getD (wayAt ws e l) k 0 ≡ getD ws (wayPlaces * e + k) 0
-  way-place k lt = getD-take l (drop (wayPlaces * e) ws) k 0 lt ∙ getD-drop (wayPlaces * e) ws k 0
+  way-place = part-at l (wayPlaces * e) ws
 
   -- a way of one entry has no last but one
   pub over-none : l < 2 → 0 ≡ lastOr 0 (up (wayAt ws e l))
