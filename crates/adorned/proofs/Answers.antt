@@ -11,7 +11,7 @@ use Rattle.paper.specs.Format.{Format, base, mostTypes}
 use Rattle.paper.specs.Adorned.{Summary, adorned}
 use Rattle.paper.specs.Calls.{Answer, refused, given, _>>=_, refuse, reply, tests1-4, after, adorning, adorn}
 use Rattle.paper.proofs.Calls.{bind-given, refuse-given, given-same}
-use Rattle.paper.proofs.Lists.{map-append}
+use Rattle.paper.proofs.Lists.{map-append, map-take}
 use Rattle.adorned.specs.Told.{told, placed, noSummary, Says, adornFigures}
 use Rattle.adorned.specs.Lent.{adornedTypes}
 use Rattle.adorned.specs.declared.Adorned.{Adorned}
@@ -27,18 +27,13 @@ given-few f b lent xs h =
     subst (λ (z : List Summary). length z ≤ lent) (given-same (adorned rs) xs k₂) (ltb-false lent (length (adorned rs)) (refuse-given 10 (ltb lent (length (adorned rs))) u h₂))
 
 module _ {A B : Type 0} (f : A → B) where
-  map-take : (n : ℕ) (xs : List A) → map f (take n xs) ≡ take n (map f xs)
-  map-take zero xs = refl
-  map-take (suc n) [] = refl
-  map-take (suc n) (x ∷ xs) = ap {B = List B} (λ l. f x ∷ l) (map-take n xs)
-
   map-drop : (n : ℕ) (xs : List A) → map f (drop n xs) ≡ drop n (map f xs)
   map-drop zero xs = refl
   map-drop (suc n) [] = refl
   map-drop (suc n) (x ∷ xs) = map-drop n xs
 
   map-front : (n : ℕ) (new before : List A) → map f (front n new before) ≡ front n (map f new) (map f before)
-  map-front n new before = map-append f (take n new) (drop n before) ∙ ap₂ {C = List B} (λ x y. x ++ y) (map-take n new) (map-drop n before)
+  map-front n new before = map-append f (take n new) (drop n before) ∙ ap₂ {C = List B} (λ x y. x ++ y) (map-take f n new) (map-drop n before)
 
 -- the 64 places hold every summary that is given
 placed-few : (xs : List Summary) → length (placed xs) ≡ mostTypes → length xs ≤ mostTypes

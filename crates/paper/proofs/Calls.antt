@@ -2,19 +2,21 @@
 use Prim.Native.Nat.{ℕ, zero, suc, _+_, _*_, _/_, _%_, _≤_, _<_}
 use native.Mathlib.Nat.{div-add-mod', div-lt-iff-lt-mul, zero-mul}
 use native.Mathlib.Omega.{arith}
-use mathlib.Core.Path.{_≡_, refl, sym, _∙_, ap, subst}
+use mathlib.Core.Path.{_≡_, refl, sym, _∙_, ap, ap₂, subst}
+use mathlib.Core.Logic.{_⊎_, inl, inr}
 use mathlib.Core.Bool.{Bool, true, false, not, _||_, true≢false}
-use mathlib.Core.List.{List, map}
+use mathlib.Core.List.{List, []}
 use mathlib.Core.Option.{Option, none, some}
 use lib.Dec.{eqb, ltb}
-use lib.ListN.{length, length-map}
-use borrow.Author.Tests.{ltb-false, eqb-false, eqb-true}
-use Rattle.paper.specs.Format.{Format, mostRows, mostEntries, rowBytes, entryBytes, whole, records}
-use Rattle.paper.specs.Tables.{Row, rows, rowOf, badRow, types}
+use lib.ListN.{length, getD, length-map}
+use borrow.Author.Tests.{ltb-false, le-ltb, eqb-false, eqb-true, eq-eqb}
+use Rattle.paper.specs.Lists.{place, same}
+use Rattle.paper.specs.Format.{Format, mostRows, mostTypes, mostEntries, rowBytes, entryBytes, whole, records}
+use Rattle.paper.specs.Tables.{Row, rows, rowOf, badRow, rowTypes, types}
 use Rattle.paper.specs.Closeness.{nodes}
 use Rattle.paper.specs.Shapes.{Entry, entries, entryOf, badEntry, shapeOver}
-use Rattle.paper.specs.NewTable.{Line, lines, lineRow, newTable, sourceList}
-use Rattle.paper.specs.Calls.{Answer, refused, given, _>>=_, refuse, refuseAt, reply, Work, typeTooMany, typeMissing, tests1-3, tests1-4, tests5-6, tests1-7, test8, reshaping}
+use Rattle.paper.specs.NewTable.{Line, lines, newTable, sourceList}
+use Rattle.paper.specs.Calls.{Answer, refused, given, _>>=_, refuse, refuseAt, reply, Work, typeTooMany, typeMissing, tests1-3, tests1-4, tests5-6, tests1-7, test8, roomIn, reshaping, reshape}
 
 -- ---- answers
 module _ {A B : Type 0} where
@@ -36,25 +38,29 @@ refuseAt-given k (some p) u h = refused-given k p u h
 pub given-same : {A : Type 0} (x y : A) → given x ≡ given y → x ≡ y
 given-same x y h = cc
 
--- no refusal has number 0
-abbrev pub Numbered : {A : Type 0} → Answer A → Type 0
-Numbered (refused k p) = 0 < k
-Numbered (given v) = Unit
+-- a refusal's number is past m
+abbrev pub Past : {A : Type 0} → ℕ → Answer A → Type 0
+Past m (refused k p) = m < k
+Past m (given v) = Unit
 
-pub bind-numbered : {A B : Type 0} (a : Answer A) (next : A → Answer B) → Numbered a → ((x : A) → Numbered (next x)) → Numbered (a >>= next)
-bind-numbered (refused k p) next n m = n
-bind-numbered (given x) next n m = m x
+pub bind-past : {A B : Type 0} (m : ℕ) (a : Answer A) (next : A → Answer B) → Past m a → ((x : A) → Past m (next x)) → Past m (a >>= next)
+bind-past m (refused k p) next n after = n
+bind-past m (given x) next n after = after x
 
-refuse-numbered : (k : ℕ) (b : Bool) → 0 < k → Numbered (refuse k b)
-refuse-numbered k true pos = pos
-refuse-numbered k false pos = tt
+refuse-past : (m k : ℕ) (b : Bool) → m < k → Past m (refuse k b)
+refuse-past m k true lt = lt
+refuse-past m k false lt = tt
 
-refuseAt-numbered : (k : ℕ) (o : Option ℕ) → 0 < k → Numbered (refuseAt k o)
-refuseAt-numbered k none pos = tt
-refuseAt-numbered k (some p) pos = pos
+refuseAt-past : (m k : ℕ) (o : Option ℕ) → m < k → Past m (refuseAt k o)
+refuseAt-past m k none lt = tt
+refuseAt-past m k (some p) lt = lt
+
+reply-past : {A : Type 0} (m : ℕ) (zeros : A) (a : Answer A) → Past m a → (reply zeros a .number ≡ 0) ⊎ (m < reply zeros a .number)
+reply-past m zeros (refused k p) n = inr n
+reply-past m zeros (given v) n = inl refl
 
 -- an answer whose reply has number 0 is given
-pub reply-given : {A : Type 0} (zeros : A) (a : Answer A) → Numbered a → reply zeros a .number ≡ 0 → (v : A) × (a ≡ given v) × (reply zeros a .rest ≡ v)
+pub reply-given : {A : Type 0} (zeros : A) (a : Answer A) → Past 0 a → reply zeros a .number ≡ 0 → (v : A) × (a ≡ given v) × (reply zeros a .rest ≡ v)
 reply-given zeros (refused k p) n e = let w : ⊥ = omega (arith, e, n) in absurd w
 reply-given zeros (given v) n e = (v, refl, refl)
 
@@ -72,7 +78,26 @@ passed1-3 f b rs h =
       ltb-false (mostRows * rowBytes f) (length b) (refuse-given 1 (ltb (mostRows * rowBytes f) (length b)) u h₁),
     )
 
+-- what passes each of 1 to 3
+pub pass1-3 : (f : Format) (b : List ℕ) → length b ≤ mostRows * rowBytes f → length b % rowBytes f ≡ 0 → badRow f (rows f b) ≡ none
+    → tests1-3 f b ≡ given (rows f b)
+unfolding tests1-3
+pass1-3 f b short whole-rows sound =
+    let tested : Bool → Bool → Option ℕ → Answer (List Row) =
+    λ long whole bad. refuse 1 long >>= (λ _. refuse 2 (not whole) >>= (λ _. refuseAt 3 bad >>= (λ _. given (rows f b)))) in
+    ap₂ (λ x y. tested x y (badRow f (rows f b))) (le-ltb (mostRows * rowBytes f) (length b) short) (eq-eqb (length b % rowBytes f) 0 whole-rows)
+    ∙ ap (tested false true) sound
+
 -- ---- 1 to 4
+-- what passes 1 to 3 and has at most 64 types
+pub pass1-4 : (f : Format) (b : List ℕ) → tests1-3 f b ≡ given (rows f b) → length (types (rows f b)) ≤ mostTypes → tests1-4 f b ≡ given (rows f b)
+unfolding tests1-4 typeTooMany
+pass1-4 f b passes few =
+    let place-of-65th = place (same (getD (types (rows f b)) mostTypes [])) (rowTypes (rows f b)) in
+    ap (λ (a : Answer (List Row)). a >>= (λ rs. refuseAt 4 (typeTooMany rs) >>= (λ _. given rs))) passes
+    ∙ ap (λ over. refuseAt 4 (elim over as (λ _. Option ℕ) [ true ↦ some place-of-65th | false ↦ none ]) >>= (λ _. given (rows f b)))
+    (le-ltb mostTypes (length (types (rows f b))) few)
+
 pub passed1-4 : (f : Format) (b : List ℕ) (rs : List Row) → tests1-4 f b ≡ given rs → tests1-3 f b ≡ given rs
 unfolding tests1-4
 passed1-4 f b rs h =
@@ -90,31 +115,42 @@ unfolding entries
 count-entries f b =
     length-map (records (entryBytes f) (whole (entryBytes f) b) b) (entryOf f) ∙ length-records (entryBytes f) (whole (entryBytes f) b) b
 
--- a table past 1 to 3 has at most 1,024 rows
 pub count-rows : (f : Format) (b : List ℕ) → length (rows f b) ≡ length b / rowBytes f
 unfolding rows
 count-rows f b = length-map (records (rowBytes f) (whole (rowBytes f) b) b) (rowOf f) ∙ length-records (rowBytes f) (whole (rowBytes f) b) b
 
-pub few-rows : (f : Format) (b : List ℕ) → length b ≤ mostRows * rowBytes f → length (rows f b) ≤ mostRows
-few-rows f b le =
-    let lt : length b < suc mostRows * rowBytes f = omega (arith, native.Mathlib.Nat.suc-mul mostRows (rowBytes f)) in
-    omega (arith, count-rows f b, div-lt-iff-lt-mul {k = rowBytes f} {x = length b} {y = suc mostRows} (omega arith) .1 lt)
+-- the bytes of n records of w hold at most n
+few-records : (w n : ℕ) (b : List ℕ) → 0 < w → length b ≤ n * w → length b / w ≤ n
+few-records w n b pos le =
+    let lt : length b < suc n * w = omega (arith, native.Mathlib.Nat.suc-mul n w) in
+    omega (arith, div-lt-iff-lt-mul {k = w} {x = length b} {y = suc n} pos .1 lt)
 
-pub passed5-6 : (f : Format) (b : List ℕ) (es : List Entry) → tests5-6 f b ≡ given es → (entries f b ≡ es) × (badEntry f es ≡ none) × (0 < length es)
+-- a table past 1 to 3 has at most 1,024 rows
+pub few-rows : (f : Format) (b : List ℕ) → length b ≤ mostRows * rowBytes f → length (rows f b) ≤ mostRows
+few-rows f b le = omega (arith, count-rows f b, few-records (rowBytes f) mostRows b (omega arith) le)
+
+pub passed5-6 : (f : Format) (b : List ℕ) (es : List Entry) → tests5-6 f b ≡ given es
+    → (entries f b ≡ es) × (badEntry f es ≡ none) × (0 < length es) × (length es ≤ mostEntries)
 unfolding tests5-6
 passed5-6 f b es h =
     let lengths = eqb (length b) 0 || ltb (mostEntries * entryBytes f) (length b) || not (eqb (length b % entryBytes f) 0) in
     let (u, h₁, k₁) = bind-given (refuse 5 lengths) _ es h in
     let (v, h₂, k₂) = bind-given (refuseAt 6 (badEntry f (entries f b))) _ es k₁ in
     let e = given-same (entries f b) es k₂ in
-    let (z, m) = neither (eqb (length b) 0) (ltb (mostEntries * entryBytes f) (length b)) (eqb (length b % entryBytes f) 0) (refuse-given 5 lengths u h₁) in (
+    let (z, over, m) = neither (eqb (length b) 0) (ltb (mostEntries * entryBytes f) (length b)) (eqb (length b % entryBytes f) 0) (refuse-given 5 lengths u h₁) in (
       e,
       subst (λ r. badEntry f r ≡ none) e (refuseAt-given 6 (badEntry f (entries f b)) v h₂),
       subst (λ r. 0 < length r) e (some-entry (eqb-false (length b) 0 z) (eqb-true (length b % entryBytes f) 0 m)),
+      omega (
+        arith,
+        count-entries f b,
+        ap length e,
+        few-records (entryBytes f) mostEntries b (omega arith) (ltb-false (mostEntries * entryBytes f) (length b) over),
+      ),
     )
   where
-    neither : (x y z : Bool) → x || y || not z ≡ false → (x ≡ false) × (z ≡ true)
-    neither false false true e = (refl, refl)
+    neither : (x y z : Bool) → x || y || not z ≡ false → (x ≡ false) × (y ≡ false) × (z ≡ true)
+    neither false false true e = (refl, refl, refl)
     neither false false false e = absurd (true≢false e)
     neither false true z e = absurd (true≢false e)
     neither true y z e = absurd (true≢false e)
@@ -124,7 +160,7 @@ passed5-6 f b es h =
       where
         go : (n : ℕ) → length b / entryBytes f ≡ n → 0 < length (entries f b)
         go zero q =
-            absurd (ne (sym (div-add-mod' (length b) (entryBytes f)) ∙ mathlib.Core.Path.ap₂ (λ x y. x * entryBytes f + y) q e
+            absurd (ne (sym (div-add-mod' (length b) (entryBytes f)) ∙ ap₂ (λ x y. x * entryBytes f + y) q e
             ∙ (ap (λ z. z + 0) (zero-mul (entryBytes f)))))
         go (suc n) q = omega (arith, count-entries f b, q)
 
@@ -144,32 +180,50 @@ passed1-7 f b sb w h =
     let same = given-same (record { rows = rs; nodes = nodes rs; shape = shapeOver (types rs) es }) w k₃ in (
       subst (λ r. tests1-3 f b ≡ given r) er a,
       subst (λ x. tests5-6 f sb ≡ given x) ee h₂,
-      sym same ∙ mathlib.Core.Path.ap₂ {C = Work} (λ r x. record { rows = r; nodes = nodes r; shape = shapeOver (types r) x }) er ee,
+      sym same ∙ ap₂ {C = Work} (λ r x. record { rows = r; nodes = nodes r; shape = shapeOver (types r) x }) er ee,
     )
 
-pub numbered1-3 : (f : Format) (b : List ℕ) → Numbered (tests1-3 f b)
+pub past1-3 : (f : Format) (b : List ℕ) → Past 0 (tests1-3 f b)
 unfolding tests1-3
-numbered1-3 f b =
+past1-3 f b =
     let long = ltb (mostRows * rowBytes f) (length b) in
     let ragged = not (eqb (length b % rowBytes f) 0) in
-    bind-numbered (refuse 1 long) _ (refuse-numbered 1 long (omega arith)) (λ _.
-    bind-numbered (refuse 2 ragged) _ (refuse-numbered 2 ragged (omega arith)) (λ _.
-    bind-numbered (refuseAt 3 (badRow f (rows f b))) _ (refuseAt-numbered 3 (badRow f (rows f b)) (omega arith)) (λ _. tt)))
+    bind-past 0 (refuse 1 long) _ (refuse-past 0 1 long (omega arith)) (λ _.
+    bind-past 0 (refuse 2 ragged) _ (refuse-past 0 2 ragged (omega arith)) (λ _.
+    bind-past 0 (refuseAt 3 (badRow f (rows f b))) _ (refuseAt-past 0 3 (badRow f (rows f b)) (omega arith)) (λ _. tt)))
 
-numbered5-6 : (f : Format) (b : List ℕ) → Numbered (tests5-6 f b)
-unfolding tests5-6
-numbered5-6 f b =
-    let lengths = eqb (length b) 0 || ltb (mostEntries * entryBytes f) (length b) || not (eqb (length b % entryBytes f) 0) in
-    bind-numbered (refuse 5 lengths) _ (refuse-numbered 5 lengths (omega arith)) (λ _.
-    bind-numbered (refuseAt 6 (badEntry f (entries f b))) _ (refuseAt-numbered 6 (badEntry f (entries f b)) (omega arith)) (λ _. tt))
+past1-4 : (f : Format) (b : List ℕ) → Past 0 (tests1-4 f b)
+unfolding tests1-4
+past1-4 f b =
+    bind-past 0 (tests1-3 f b) _ (past1-3 f b) (λ rs.
+    bind-past 0 (refuseAt 4 (typeTooMany rs)) _ (refuseAt-past 0 4 (typeTooMany rs) (omega arith)) (λ _. tt))
 
-pub numbered1-7 : (f : Format) (b sb : List ℕ) → Numbered (tests1-7 f b sb)
-unfolding tests1-7 tests1-4
-numbered1-7 f b sb =
-    bind-numbered (tests1-4 f b) _ (bind-numbered (tests1-3 f b) _ (numbered1-3 f b) (λ rs.
-    bind-numbered (refuseAt 4 (typeTooMany rs)) _ (refuseAt-numbered 4 (typeTooMany rs) (omega arith)) (λ _. tt))) (λ rs.
-    bind-numbered (tests5-6 f sb) _ (numbered5-6 f sb) (λ es.
-    bind-numbered (refuseAt 7 (typeMissing rs es)) _ (refuseAt-numbered 7 (typeMissing rs es) (omega arith)) (λ _. tt)))
+-- ---- from 5 on the numbers are past 4, so that they are past m wherever those of 1 to 4 are
+module _ (m : ℕ) (le : m ≤ 4) (f : Format) where
+  past5-6 : (b : List ℕ) → Past m (tests5-6 f b)
+  unfolding tests5-6
+  past5-6 b =
+      let lengths = eqb (length b) 0 || ltb (mostEntries * entryBytes f) (length b) || not (eqb (length b % entryBytes f) 0) in
+      bind-past m (refuse 5 lengths) _ (refuse-past m 5 lengths (omega arith)) (λ _.
+      bind-past m (refuseAt 6 (badEntry f (entries f b))) _ (refuseAt-past m 6 (badEntry f (entries f b)) (omega arith)) (λ _. tt))
+
+  past8 : (w : Work) (room : ℕ) → Past m (test8 f w room)
+  unfolding test8
+  past8 w room =
+      let over = ltb room (length (lines (w .nodes) (w .shape) (f .levels))) in
+      bind-past m (refuse 8 over) _ (refuse-past m 8 over (omega arith)) (λ _. tt)
+
+  module _ (b : List ℕ) (earlier : Past m (tests1-4 f b)) (sb : List ℕ) where
+    past1-7 : Past m (tests1-7 f b sb)
+    unfolding tests1-7
+    past1-7 =
+        bind-past m (tests1-4 f b) _ earlier (λ rs.
+        bind-past m (tests5-6 f sb) _ (past5-6 sb) (λ es.
+        bind-past m (refuseAt 7 (typeMissing rs es)) _ (refuseAt-past m 7 (typeMissing rs es) (omega arith)) (λ _. tt)))
+
+    past-reshaping : (room : ℕ) → Past m (reshaping f b sb room)
+    unfolding reshaping
+    past-reshaping room = bind-past m (tests1-7 f b sb) _ past1-7 (λ w. bind-past m (test8 f w room) _ (past8 w room) (λ _. tt))
 
 -- ---- 8
 pub passed8 : (f : Format) (w : Work) (room : ℕ) (ls : List Line) → test8 f w room ≡ given ls → (lines (w .nodes) (w .shape) (f .levels) ≡ ls) × (length ls ≤ room)
@@ -180,12 +234,6 @@ passed8 f w room ls h =
     let e = given-same l ls k₁ in
     (e, subst (λ z. length z ≤ room) e (ltb-false room (length l) (refuse-given 8 (ltb room (length l)) u h₁)))
 
-pub numbered8 : (f : Format) (w : Work) (room : ℕ) → Numbered (test8 f w room)
-unfolding test8
-numbered8 f w room =
-    let over = ltb room (length (lines (w .nodes) (w .shape) (f .levels))) in
-    bind-numbered (refuse 8 over) _ (refuse-numbered 8 over (omega arith)) (λ _. tt)
-
 -- ---- reshaping
 pub passed-reshaping : (f : Format) (b sb : List ℕ) (room : ℕ) (x : List ℕ × List ℕ) → reshaping f b sb room ≡ given x
     → (w : Work) × (ls : List Line) × (tests1-7 f b sb ≡ given w) × (test8 f w room ≡ given ls)
@@ -194,13 +242,17 @@ unfolding reshaping
 passed-reshaping f b sb room x h =
     let (w, h₁, k₁) = bind-given (tests1-7 f b sb) _ x h in
     let (ls, h₂, k₂) = bind-given (test8 f w room) _ x k₁ in
-    let (u, h₃, k₃) = bind-given (refuseAt 9 (badRow f (map (lineRow f (w .shape) (w .rows)) ls))) _ x k₂ in
-    (w, ls, h₁, h₂, sym (given-same (newTable f (w .shape) (w .rows) ls, sourceList ls) x k₃))
+    (w, ls, h₁, h₂, sym (given-same (newTable f (w .shape) (w .rows) ls, sourceList ls) x k₂))
 
-pub numbered-reshaping : (f : Format) (b sb : List ℕ) (room : ℕ) → Numbered (reshaping f b sb room)
-unfolding reshaping
-numbered-reshaping f b sb room =
-    bind-numbered (tests1-7 f b sb) _ (numbered1-7 f b sb) (λ w.
-    bind-numbered (test8 f w room) _ (numbered8 f w room) (λ ls.
-    let bad = badRow f (map (lineRow f (w .shape) (w .rows)) ls) in
-    bind-numbered (refuseAt 9 bad) _ (refuseAt-numbered 9 bad (omega arith)) (λ _. tt)))
+pub numbered-reshaping : (f : Format) (b sb : List ℕ) (room : ℕ) → Past 0 (reshaping f b sb room)
+numbered-reshaping f b sb room = past-reshaping 0 (omega arith) f b (past1-4 f b) sb room
+
+-- A table that passes 1 to 4 is reshaped, or refused by a number past 4.
+pub reshape-past4 : (f : Format) (b : List ℕ) → tests1-4 f b ≡ given (rows f b) → (sb table sources : List ℕ)
+    → let number = reshape f b sb table sources .reply .number in (number ≡ 0) ⊎ (4 < number)
+unfolding reshape
+reshape-past4 f b passes sb table sources =
+    let a = reshaping f b sb (roomIn f table sources) in
+    let passed : Past 4 (tests1-4 f b) = subst (λ a. Past 4 a) (sym passes) tt in
+    let count : List ℕ × List ℕ → Answer ℕ = λ x. given (length (x .1)) in
+    reply-past 4 0 (a >>= count) (bind-past 4 a count (past-reshaping 4 (omega arith) f b passed sb (roomIn f table sources)) (λ _. tt))

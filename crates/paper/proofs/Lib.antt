@@ -16,7 +16,9 @@ pub mod Links
 pub mod Written
 pub mod Deep
 pub mod Bytes
+pub mod NewTypes
 pub mod Calls
 pub mod Reread
 pub mod Promises
+pub mod Sound
 pub mod Needed

@@ -7,7 +7,7 @@ use mathlib.Core.Logic.{_⊎_, inl, inr, ⊎-elim}
 use mathlib.Core.Bool.{Bool, true, false, _&&_, _||_, true≢false, false≢true}
 use mathlib.Core.List.{List, [], _∷_, _++_, map, append-assoc}
 use lib.Dec.{eqb, leb}
-use lib.ListN.{length, getD, length-append}
+use lib.ListN.{length, getD, take, length-append}
 use lib.Seq.{take-at}
 use borrow.Author.Tests.{eqb-true, eq-eqb, leb-true, leb-false}
 use Rattle.paper.specs.Lists.{Has, keep, all, any, lastOr, most, least, joined, joinMap, same, up, count}
@@ -201,6 +201,11 @@ module _ {A B : Type 0} where
   pub map-append : (f : A → B) (xs ys : List A) → map f (xs ++ ys) ≡ map f xs ++ map f ys
   map-append f [] ys = refl
   map-append f (x ∷ xs) ys = ap {B = List B} (λ l. f x ∷ l) (map-append f xs ys)
+
+  pub map-take : (f : A → B) (n : ℕ) (xs : List A) → map f (take n xs) ≡ take n (map f xs)
+  map-take f zero xs = refl
+  map-take f (suc n) [] = refl
+  map-take f (suc n) (x ∷ xs) = ap {B = List B} (λ l. f x ∷ l) (map-take f n xs)
 
   pub join-append : (f : A → List B) (xs ys : List A) → joinMap f (xs ++ ys) ≡ joinMap f xs ++ joinMap f ys
   join-append f [] ys = refl

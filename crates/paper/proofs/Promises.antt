@@ -6,7 +6,9 @@ use mathlib.Core.Bool.{true}
 use mathlib.Core.List.{List, _++_, map}
 use mathlib.Core.Option.{none}
 use lib.ListN.{length, getD, take, drop, length-take, length-map}
+use lib.Dec.{leb}
 use lib.Seq.{take-at}
+use borrow.Author.Tests.{leb-true}
 use Rattle.paper.specs.Lists.{Has, between, lastOr}
 use Rattle.paper.specs.Format.{Format, mostRows, mostLines, headBytes, rowBytes, entryBytes, whole, records}
 use Rattle.paper.specs.Tables.{Row, rows, dewey, badRow, rowTypes, types, typeNumber}
@@ -17,7 +19,7 @@ use Rattle.paper.specs.Verdict.{Verdict, kept, missing, verdict, meetsLe
 use Rattle.paper.specs.Calls.{Answer, given, _>>=_, reply, Work, Reshaping, tests1-7, judge, reshape, reshaping, roomIn, after}
 use Rattle.paper.specs.Links.{newNodes, sourceRow, shownPairs, sourcePairs, LinksKept}
 use Rattle.paper.specs.Faithful.{Faithful, Under}
-use Rattle.paper.proofs.Lists.{getD-has, map-has}
+use Rattle.paper.proofs.Lists.{both, getD-has, map-has}
 use Rattle.paper.proofs.Agree.{Agree, agree-take, take-agree, shared-length}
 use Rattle.paper.proofs.Closeness.{closest-near, near-closest}
 use Rattle.paper.proofs.Forest.{one-place, place-bounds, nodesFrom-length}
@@ -28,7 +30,7 @@ use Rattle.paper.proofs.Lines.{row-of, line-entry, line-level, line-abo
 use Rattle.paper.proofs.Demand3.{together-pos, fork-way, fork-in, made-up-none, missing-none}
 use Rattle.paper.proofs.Links.{Source, links}
 use Rattle.paper.proofs.Reread
-use Rattle.paper.proofs.Calls.{passed1-3, passed5-6, passed1-7, few-rows, passed8, bind-given, bind-numbered, reply-given, given-same, passed-reshaping, numbered-reshaping}
+use Rattle.paper.proofs.Calls.{passed1-3, passed5-6, passed1-7, few-rows, passed8, bind-given, bind-past, reply-given, given-same, passed-reshaping, numbered-reshaping}
 
 -- A table and a shape past the tests 1 to 7.
 module _ (f : Format) (b sb : List ℕ) (w : Work) (passed : tests1-7 f b sb ≡ given w) where
@@ -170,7 +172,7 @@ module _ (f : Format) (b sb : List ℕ) (w : Work) (passed : tests1-7 f b sb ≡
   abbrev pub ls : List Line
   ls = lines t s (f .levels)
 
-  -- The written table always meets the row rules: refusal 9 is never given.
+  -- The written table always meets the row rules.
   pub written-kept : badRow f (map (lineRow f s rs) ls) ≡ none
   written-kept = Reread.lines-kept f b s ways some-entry (source-table .one-place) numbered (omega (arith, few)) levels labels
 
@@ -180,9 +182,24 @@ module _ (f : Format) (b sb : List ℕ) (w : Work) (passed : tests1-7 f b sb ≡
   pub written-length : length ls < entryUnit → length (newTable f s rs ls) ≡ length ls * rowBytes f
   written-length = Reread.length-new f b s ways some-entry (source-table .one-place) numbered (omega (arith, few)) levels
 
-  -- The bytes of a written table, read again, keep the row rules.
-  pub written-sound : f .labels < entryUnit → length ls < entryUnit → badRow f (rows f (newTable f s rs ls)) ≡ none
-  written-sound lim room = Reread.table-kept f b s ways some-entry (source-table .one-place) numbered (omega (arith, few)) levels room lim labels
+  -- ---- read again, where the last labels of the entries are of 16 bits
+  module _ (room : length ls < entryUnit) (label-small : (e : ℕ) → e < length (s .ways) → getD (s .labels) e 0 < entryUnit) where
+    -- The bytes of a written table keep the row rules.
+    pub written-sound : badRow f (rows f (newTable f s rs ls)) ≡ none
+    written-sound =
+        subst (λ r. badRow f r ≡ none)
+        (sym (Reread.rows-again f b s ways some-entry (source-table .one-place) numbered (omega (arith, few)) levels room label-small)) written-kept
+
+    -- They have at most one type for each entry.
+    pub written-types : length (types (rows f (newTable f s rs ls))) ≤ length (entries f sb)
+    written-types =
+        omega (arith, entries-size, Reread.types-again f b s ways some-entry (source-table .one-place) numbered (omega (arith, few)) levels room label-small)
+
+  -- a format whose largest label is of 16 bits has such labels
+  pub format-small : f .labels < entryUnit → (e : ℕ) → e < length (s .ways) → getD (s .labels) e 0 < entryUnit
+  format-small lim e le =
+      let label = getD (s .labels) e 0 in
+      omega (arith, leb-true label (f .labels) (both (leb 1 label) (leb label (f .labels)) (labels e le) .1))
 
   -- the verdict of judging is that of the table's nodes and the shape
   pub judged-kept : judge f b sb .rest ≡ kept → verdict t s ≡ kept
@@ -218,7 +235,7 @@ module _ (f : Format) (b sb table sources : List ℕ) where
       let room = roomIn f table sources in
       let a = reshaping f b sb room in
       let (v, q, rest) = reply-given 0 (a >>= (λ (x : List ℕ × List ℕ). given (length (x .1))))
-      (bind-numbered a (λ (x : List ℕ × List ℕ). given (length (x .1))) (numbered-reshaping f b sb room) (λ x. tt)) e in
+      (bind-past 0 a (λ (x : List ℕ × List ℕ). given (length (x .1))) (numbered-reshaping f b sb room) (λ x. tt)) e in
       let (x, ax, kx) = bind-given a (λ (x : List ℕ × List ℕ). given (length (x .1))) v q in
       let (w, ls₀, h₁, h₂, ex) = passed-reshaping f b sb room x ax in
       let ew = passed1-7 f b sb w h₁ .2 in

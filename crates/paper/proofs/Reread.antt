@@ -12,7 +12,7 @@ use lib.Seq.{take-take, take-at}
 use borrow.Author.Tests.{le-leb, eq-eqb}
 use Rattle.paper.specs.Lists.{Has, between, joinMap, padded}
 use Rattle.paper.specs.Format.{Format, rowBytes, valueBytes, span, records, whole, headBytes, listBytes}
-use Rattle.paper.specs.Tables.{Row, rowOf, rowBack, rows, dewey, fieldsKept, follows, rowKept, badRow}
+use Rattle.paper.specs.Tables.{Row, rowOf, rowBack, rows, dewey, fieldsKept, follows, rowKept, badRow, types}
 use Rattle.paper.specs.Closeness.{Node, nodesFrom, nodes}
 use Rattle.paper.specs.Shapes.{Shape, way}
 use Rattle.paper.specs.NewTable.{Line, lines, lineRow, newTable, sourceList, entryUnit}
@@ -23,13 +23,15 @@ use Rattle.paper.proofs.Bytes.{Small, Shaped, length-row, dewey-back, r
 use Rattle.paper.proofs.Tables.{Rules, rules-none}
 use Rattle.paper.proofs.Shapes.{Ways}
 use Rattle.paper.proofs.Verdict.{In, way-pos}
+use Rattle.paper.proofs.Forest.{Kin}
+use Rattle.paper.proofs.NewTypes.{ways-taken-over, one-each}
 use Rattle.paper.proofs.Written.{lineNodes, lines-chain, line-within, line-fits, lines-faithful}
 
 -- ---- padding with zeros
 pub length-padded : (n : ℕ) (d : List ℕ) → length (padded n d) ≡ n
 length-padded n d = omega (arith, length-take n (d ++ replicate n 0), length-append d (replicate n 0), length-replicate {A = ℕ} n 0)
 
-take-has : (n : ℕ) (l : List ℕ) (x : ℕ) → Has x (take n l) → Has x l
+pub take-has : (n : ℕ) (l : List ℕ) (x : ℕ) → Has x (take n l) → Has x l
 take-has zero l x h = absurd h
 take-has (suc n) [] x h = absurd h
 take-has (suc n) (y ∷ l) x (inl e) = inl e
@@ -119,7 +121,7 @@ module _ (f : Format) (b : List ℕ) (s : Shape) (w : Ways s) (some : 0 < length
   line-levels : (l : Line) → Has l ls → length (l .dewey) ≤ f .levels
   line-levels l h = let (e, i, q) = fits l h in omega (arith, q, deep (l .entry) e)
 
-  -- ---- the written table keeps the row rules: refusal 9 is never given
+  -- ---- the written table keeps the row rules
   pub lines-kept : ((e : ℕ) → e < length (s .ways) → between 1 (getD (s .labels) e 0) (f .labels) ≡ true)
       → badRow f (map (lineRow f s (rows f b)) ls) ≡ none
   unfolding badRow
@@ -204,13 +206,16 @@ module _ (f : Format) (b : List ℕ) (s : Shape) (w : Ways s) (some : 0 < length
         subst (λ new. Faithful t s new (λ (x : Node). getD (map mark ls) (x .place) 0 % entryUnit)) (sym nodes-new)
         (lines-faithful t place s w some (f .levels) deep mark (λ x. x % entryUnit) (λ l h. omega (arith, place-small l h)))
 
-    -- Its bytes are sound: read again, they keep the row rules.
-    pub table-kept : f .labels < entryUnit → ((e : ℕ) → e < length (s .ways) → between 1 (getD (s .labels) e 0) (f .labels) ≡ true)
-        → badRow f (rows f (newTable f s (rows f b) ls)) ≡ none
+    -- what is read again is the lines' rows, where the labels are of 16 bits
+    pub rows-again : ((e : ℕ) → e < length (s .ways) → Small (getD (s .labels) e 0)) → rows f (newTable f s (rows f b) ls) ≡ map (lineRow f s (rows f b)) ls
     unfolding lineRow
-    table-kept lim labels =
-        subst (λ r. badRow f r ≡ none) (sym (rows-new ∙ map-same (λ l. rowOf f (rowBack (lineRow f s (rows f b) l))) (lineRow f s (rows f b)) ls (λ l h.
-        let (e, i, q) = fits l h in
-        let le = borrow.Author.Tests.leb-true (getD (s .labels) (l .entry) 0) (f .labels)
-        (Rattle.paper.proofs.Lists.both (leb 1 (getD (s .labels) (l .entry) 0)) (leb (getD (s .labels) (l .entry) 0) (f .labels)) (labels (l .entry) e) .1) in
-        row-back f (lineRow f s (rows f b) l) (shaped l h) (small l h) (omega arith)))) (lines-kept labels)
+    rows-again label-small =
+        rows-new ∙ map-same (λ l. rowOf f (rowBack (lineRow f s (rows f b) l))) (lineRow f s (rows f b)) ls (λ l h.
+        row-back f (lineRow f s (rows f b) l) (shaped l h) (small l h) (label-small (l .entry) (fits l h .0)))
+
+    -- and it has at most one type for each entry
+    pub types-again : ((e : ℕ) → e < length (s .ways) → Small (getD (s .labels) e 0)) → length (types (rows f (newTable f s (rows f b) ls))) ≤ length (s .ways)
+    types-again label-small =
+        subst (λ rs. length (types rs) ≤ length (s .ways)) (sym (rows-again label-small))
+        (one-each f (rows f b) s w (λ e le. level e le .0) ls (λ l h. fits l h .0)
+        (subst (λ new. Kin (λ (x : Node). x .dewey) (λ (x : Node). way s (x .kind)) [] [] new) nodes-new (ways-taken-over t place s w _ _ table-faithful)))

@@ -11,7 +11,7 @@ use Rattle.paper.specs.Tables.{Row, rows, rowPart, badRow, rowTypes, typ
 use Rattle.paper.specs.Closeness.{Node, nodes, ofKind}
 use Rattle.paper.specs.Shapes.{Entry, Shape, entries, named, badEntry, shapeOver, kind, numbers}
 use Rattle.paper.specs.Adorned.{Summary, adorned}
-use Rattle.paper.specs.NewTable.{Line, lines, lineRow, newTable, sourceList}
+use Rattle.paper.specs.NewTable.{Line, lines, newTable, sourceList}
 use Rattle.paper.specs.Verdict.{Verdict, kept, verdict}
 
 -- ---- answers
@@ -52,7 +52,7 @@ abbrev pub after : {A : Type 0} → List A → Answer (List A) → List A
 after before (refused k p) = before
 after before (given new) = new ++ drop (length new) before
 
--- ---- the refusals, in the order they are tested
+-- ---- the refusals, in the order they are tested; number 9 is unused
 -- the first row of the 65th type
 unfoldable pub typeTooMany : List Row → Option ℕ
 typeTooMany rs =
@@ -165,12 +165,11 @@ pub record Reshaping : Type 0 where
 abbrev pub roomIn : Format → List ℕ → List ℕ → ℕ
 roomIn f table sources = min (whole (rowBytes f) table) (min (length sources) mostLines)
 
--- the new table's bytes and the source list
+-- 1 to 8, and the new table's bytes and the source list
 unfoldable pub reshaping : Format → List ℕ → List ℕ → ℕ → Answer (List ℕ × List ℕ)
 reshaping f b sb room = do
   w ← tests1-7 f b sb
   ls ← test8 f w room
-  _ ← refuseAt 9 (badRow f (map (lineRow f (w .shape) (w .rows)) ls))
   given (newTable f (w .shape) (w .rows) ls, sourceList ls)
 
 unfoldable pub reshape : Format → List ℕ → List ℕ → List ℕ → List ℕ → Reshaping

@@ -1,16 +1,17 @@
--- Demand 3 tried by computation on small tables and shapes. The theorem holds of all; this statement is here so that a wrong
--- definition is refused by the case that it breaks. Assumes nothing.
+-- The sound source and demand 3 tried by computation on small tables and shapes. The theorems hold of all; these statements are
+-- here so that a wrong definition is refused by the case that it breaks. Assumes nothing.
 use Prim.Native.Nat.{ℕ, _*_}
 use mathlib.Core.Path.{_≡_, refl}
 use mathlib.Core.Bool.{Bool, true, false, _&&_, _||_, not}
 use mathlib.Core.List.{List, [], _∷_, _++_}
-use lib.Dec.{eqb}
+use lib.Dec.{eqb, leb}
 use lib.ListN.{length, take, replicate}
 use Rattle.paper.specs.Lists.{all, any, count}
 use Rattle.paper.specs.Format.{base, rowBytes}
+use Rattle.paper.specs.Tables.{rows, types}
 use Rattle.paper.specs.Shapes.{entries}
 use Rattle.paper.specs.Verdict.{Verdict, kept, missing, apart, unsure}
-use Rattle.paper.specs.Calls.{judge, reshape}
+use Rattle.paper.specs.Calls.{examine, judge, reshape}
 use Rattle.paper.specs.Links.{shownPairs, sourcePairs}
 use Rattle.paper.specs.Samples.{row, table, entry, A, table7, table8, table10, portfolio, lessee, lease, asset}
 use Rattle.paper.specs.Opened.{opened}
@@ -67,6 +68,20 @@ cases =
     ∷ (A, entry 1 lease ++ entry 2 asset ++ entry 2 lessee)
     ∷ (A, entry 1 lessee ++ entry 2 lease ++ entry 3 asset ++ entry 2 portfolio)
     ∷ []
+
+-- a reshape with room is accepted and leaves a sound source: examining counts its lines, and its types are at most the entries
+pub sound : List ℕ × List ℕ → Bool
+unfolding opened
+sound c =
+    let sb = c .1 in
+    let r = reshape base (c .0) sb (replicate (12 * rowBytes base) 0) (replicate 12 0) .reply in
+    let new = take (r .rest * rowBytes base) (reshape base (c .0) sb (replicate (12 * rowBytes base) 0) (replicate 12 0) .table) in
+    let x = examine base new in
+    eqb (r .number) 0 && eqb (x .number) 0 && eqb (x .rest) (r .rest) && leb (length (types (rows base new))) (length (entries base sb))
+
+pub sound-tried : all sound cases ≡ true
+unfolding opened sound later cases row table entry A table7 table8 table10 portfolio lessee lease asset
+sound-tried = refl
 
 pub demand3-tried : all holds cases ≡ true
 unfolding opened holds linksHold later cases row table entry A table7 table8 table10 portfolio lessee lease asset

@@ -1,16 +1,15 @@
 -- What reshaping and summarising answer, refusal by refusal. Assumes nothing.
 use Prim.Native.Nat.{ℕ, _+_, _*_, _≤_, _<_}
 use mathlib.Core.Path.{_≡_, _∙_, ap}
-use mathlib.Core.List.{List, _++_, map}
+use mathlib.Core.List.{List, _++_}
 use lib.ListN.{length, drop, length-map}
 use borrow.Author.Tests.{lt-ltb, le-ltb}
 use Rattle.paper.specs.Format.{base, mostLines}
-use Rattle.paper.specs.Tables.{rows, badRow}
+use Rattle.paper.specs.Tables.{rows}
 use Rattle.paper.specs.Closeness.{Node, nodes}
 use Rattle.paper.specs.Shapes.{Shape}
-use Rattle.paper.specs.NewTable.{Line, lines, lineRow, newTable, sourceList, entryUnit}
-use Rattle.paper.specs.Calls.{Answer, Work, given, _>>=_, refuse, refuseAt, reply, after, test8, roomIn, reshaping, Reshaping, reshape, Figures, figures, noFigures, summarise}
-use Rattle.paper.proofs.Promises.{written-kept}
+use Rattle.paper.specs.NewTable.{Line, lines, newTable, sourceList, entryUnit}
+use Rattle.paper.specs.Calls.{Answer, Work, given, _>>=_, refuse, reply, after, test8, roomIn, reshaping, Reshaping, reshape, Figures, figures, noFigures, summarise}
 use Rattle.shapes.specs.Tests.{shapeIn}
 use Rattle.shapes.specs.Work.{Prepared}
 use Rattle.shapes.specs.Work
@@ -40,14 +39,14 @@ module _ {t s : List ℕ} {w : Work.Work} (p : Prepared t s w) where
       sources = after sources (a >>= (λ (x : List ℕ × List ℕ). given (x .1)));
     }
 
-    -- the tests after 7, and what is written
+    -- what is written; and the test after 7 before it
     abbrev written : List Line → Answer (List ℕ × List ℕ)
-    written l = refuseAt 9 (badRow base (map (lineRow base sh (rows base t)) l)) >>= (λ _. given (newTable base sh (rows base t) l, sourceList l))
+    written l = given (newTable base sh (rows base t) l, sourceList l)
 
     abbrev rest : Work → Answer (List ℕ × List ℕ)
     rest x =
         test8 base x (roomIn base table sources)
-        >>= (λ (l : List Line). refuseAt 9 (badRow base (map (lineRow base (x .shape) (x .rows)) l)) >>= (λ _. given (newTable base (x .shape) (x .rows) l, sourceList l)))
+        >>= (λ (l : List Line). given (newTable base (x .shape) (x .rows) l, sourceList l))
 
     pub reshape-refused : (w .number ≡ 0 → ⊥) → reshape base t s table sources ≡ record { reply = record { number = w .number; place = w .place; rest = 0 }; table = table; sources = sources }
     unfolding reshape reshaping
@@ -75,8 +74,6 @@ module _ {t s : List ℕ} {w : Work.Work} (p : Prepared t s w) where
       unfolding test8 base sourceList
       reshape-given le =
           same ∙ ap (λ b. from (refuse 8 b >>= (λ _. given ls) >>= written)) (le-ltb (roomIn base table sources) (length ls) le)
-          ∙ ap (λ o. from (refuseAt 9 o >>= (λ _. given (newTable base sh (rows base t) ls, sourceList ls))))
-          (written-kept base t s work (p .ready z .given-is))
           ∙ ap {B = Reshaping} (λ n. record { reply = record { number = 0; place = 0; rest = n }; table = newTable base sh (rows base t) ls ++ drop (length (newTable base sh (rows base t) ls)) table; sources = sourceList ls ++ drop (length (sourceList ls)) sources }) (length-map ls (λ (l : Line). l .entry * entryUnit + l .source .place))
 
   -- ---- summarising

@@ -1,5 +1,5 @@
 -- What a reshape leaves in the bytes and places that were lent. Assumes nothing.
-use Prim.Native.Nat.{ℕ, zero, suc, _+_, _*_, _-_, _≤_}
+use Prim.Native.Nat.{ℕ, zero, suc, _+_, _*_, _-_, _≤_, _<_}
 use native.Mathlib.Nat.{mul-zero, mul-suc, mul-comm}
 use native.Mathlib.Omega.{arith}
 use mathlib.Core.Path.{_≡_, sym, _∙_, ap, ap₂, subst, subst₂}
@@ -13,7 +13,9 @@ use Rattle.paper.specs.Closeness.{nodes}
 use Rattle.paper.specs.NewTable.{Line, lines, newTable, sourceList, entryUnit}
 use Rattle.paper.specs.Calls.{Reply, Reshaping, reshape, roomIn}
 use Rattle.paper.specs.Links.{LinksKept}
+use Rattle.paper.specs.Sound.{SoundSource}
 use Rattle.paper.proofs.Promises.{reshape-links, written-length}
+use Rattle.paper.proofs.Sound.{narrow-sound}
 use Rattle.tables.proofs.Rows.{row-in}
 use Rattle.shapes.specs.Tests.{shapeIn}
 use Rattle.closest.specs.Runs.{Runs}
@@ -37,17 +39,31 @@ records-fit : (w p : ℕ) (l : List ℕ) → p ≤ whole w l → w * p ≤ lengt
 records-fit w zero l le = omega (arith, mul-zero w)
 records-fit w (suc p) l le = omega (arith, row-in w p l (omega arith), mul-suc w p)
 
--- an answer that is the definition's keeps demand 3 too
+-- the base's largest label is of 16 bits
+labels-fit : base .labels < entryUnit
+unfolding base
+labels-fit = omega arith
+
+-- an answer that is the definition's keeps demand 3 too, and leaves a sound source
 pub reshapes : {t s new sources : List ℕ} (r : Reshaped) (new′ sources′ : List ℕ) → reshaped r ≡ reshape base t s new sources .reply
     → new′ ≡ reshape base t s new sources .table → sources′ ≡ reshape base t s new sources .sources → Reshapes t s new sources r new′ sources′
 reshapes {t} {s} {new} {sources} r new′ sources′ er en es = record {
   answer = er;
   bytes = en;
   places = es;
-  links = λ z v. let n = ap (λ (x : Reply ℕ). x .rest) er in
-      subst₂ (λ a b. LinksKept base t s a b) (sym (ap₂ (λ k l. take (k * rowBytes base) l) n en)) (sym (ap₂ (λ k l. take k l) n es))
-      (reshape-links base t s new sources (sym (ap (λ (x : Reply ℕ). x .number) er) ∙ z) v);
+  links = λ z v. subst₂ (λ a b. LinksKept base t s a b) (sym front) (sym (ap₂ (λ k l. take k l) count es)) (reshape-links base t s new sources (accepted z) v);
+  sound = λ z le. subst₂ (λ a k. SoundSource base s a k) (sym front) (sym count)
+      (narrow-sound base t s new sources labels-fit (accepted z) (omega (arith, count, le)));
 }
+  where
+    count : r .lines ≡ reshape base t s new sources .reply .rest
+    count = ap (λ (x : Reply ℕ). x .rest) er
+
+    accepted : r .number ≡ 0 → reshape base t s new sources .reply .number ≡ 0
+    accepted z = sym (ap (λ (x : Reply ℕ). x .number) er) ∙ z
+
+    front : take (r .lines * rowBytes base) new′ ≡ take (reshape base t s new sources .reply .rest * rowBytes base) (reshape base t s new sources .table)
+    front = ap₂ (λ k l. take (k * rowBytes base) l) count en
 
 -- the runs are named, and the lists are long enough for what is written
 pub runs-named : {t s : List ℕ} {w : Work} → Ready t s w → {runs lists : List ℕ} → Runs mostLevels (w .rows) (w .levels) runs

@@ -1,11 +1,12 @@
 -- Any two answers that a contract allows are equal. Assumes nothing.
-use Prim.Native.Nat.{ℕ, _*_}
+use Prim.Native.Nat.{ℕ, _*_, _≤_}
 use mathlib.Core.Path.{_≡_, sym, _∙_, ap}
 use mathlib.Core.List.{List}
 use lib.ListN.{take}
-use Rattle.paper.specs.Format.{base, rowBytes}
+use Rattle.paper.specs.Format.{base, mostRows, rowBytes}
 use Rattle.paper.specs.Verdict.{kept}
 use Rattle.paper.specs.Links.{LinksKept}
+use Rattle.paper.specs.Sound.{SoundSource}
 use Rattle.paper.specs.Calls.{Reply, Figures, judge, summarise}
 use Rattle.reshaping.specs.Reshaped.{summarised, Reshapes}
 use Rattle.reshaping.specs.declared.reshape.Reshaped.{Reshaped}
@@ -23,6 +24,10 @@ module _ {t s new sources new₁ sources₁ : List ℕ} {a : Reshaped} (p : Resh
   -- Demand 3 is a part of the promise.
   pub links-promised : a .number ≡ 0 → judge base t s .rest ≡ kept → LinksKept base t s (take (a .lines * rowBytes base) new₁) (take (a .lines) sources₁)
   links-promised = p .links
+
+  -- So is it that a new table of at most 1,024 lines is a sound source.
+  pub sound-promised : a .number ≡ 0 → a .lines ≤ mostRows → SoundSource base s (take (a .lines * rowBytes base) new₁) (a .lines)
+  sound-promised = p .sound
 
 pub summarise-unique : (t s : List ℕ) (a b : Summary) → summarised a ≡ summarise base t s → summarised b ≡ summarise base t s → a ≡ b
 summarise-unique t s a b ea eb =

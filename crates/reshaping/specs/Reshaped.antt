@@ -1,11 +1,12 @@
 -- What reshaping and summarising answer, in the paper's terms. Assumes nothing.
-use Prim.Native.Nat.{ℕ, _*_}
+use Prim.Native.Nat.{ℕ, _*_, _≤_}
 use mathlib.Core.Path.{_≡_}
 use mathlib.Core.List.{List}
 use lib.ListN.{take}
-use Rattle.paper.specs.Format.{base, rowBytes}
+use Rattle.paper.specs.Format.{base, mostRows, rowBytes}
 use Rattle.paper.specs.Verdict.{kept}
 use Rattle.paper.specs.Links.{LinksKept}
+use Rattle.paper.specs.Sound.{SoundSource}
 use Rattle.paper.specs.Calls.{Reply, Figures, reshape, judge}
 use Rattle.reshaping.specs.declared.reshape.Reshaped.{Reshaped}
 use Rattle.reshaping.specs.declared.summarise.Summary.{Summary}
@@ -26,3 +27,5 @@ pub record Reshapes (t s new sources : List ℕ) (r : Reshaped) (new′ sources�
   pub places : sources′ ≡ reshape base t s new sources .sources
   -- The buyer's demand: where the call is accepted and the verdict on the same table and shape is 0, no link is missing and none is made up.
   pub links : r .number ≡ 0 → judge base t s .rest ≡ kept → LinksKept base t s (take (r .lines * rowBytes base) new′) (take (r .lines) sources′)
+  -- A reshaped table of at most 1,024 lines is a sound source: examining accepts it, and so do refusals 1 to 4.
+  pub sound : r .number ≡ 0 → r .lines ≤ mostRows → SoundSource base s (take (r .lines * rowBytes base) new′) (r .lines)

@@ -1,14 +1,15 @@
 -- The contract of each exported call, as this crate's source has it, asks nothing and settles what a caller sees: of any two results that
 -- it allows both are one, and so is what they leave of what was lent. Assumes nothing.
-use Prim.Native.Nat.{ℕ, _*_}
+use Prim.Native.Nat.{ℕ, _*_, _≤_}
 use mathlib.Core.Path.{_≡_, sym, _∙_, ap}
 use mathlib.Core.List.{List}
 use lib.ListN.{getD, take}
 use denote.Ref.{now}
-use Rattle.paper.specs.Format.{base, rowBytes}
+use Rattle.paper.specs.Format.{base, mostRows, rowBytes}
 use Rattle.paper.specs.Verdict.{kept}
 use Rattle.paper.specs.Calls.{Reply, judge}
 use Rattle.paper.specs.Links.{LinksKept}
+use Rattle.paper.specs.Sound.{SoundSource}
 use Rattle.adorned.specs.declared.TypeSummary.{TypeSummary}
 use Rattle.adorned.specs.declared.lent.AdornedTypes.{AdornedTypes}
 use Rattle.tables.proofs.Unique as tables
@@ -90,6 +91,11 @@ pub reshape-keeps-links : (κs : _) (a : _) (r : Reshaped) (e : _) → reshape.L
     → r .number ≡ 0 → judge base (now (a .0)) (now (a .1 .0)) .rest ≡ kept
     → LinksKept base (now (a .0)) (now (a .1 .0)) (take (r .lines * rowBytes base) (now (e .1 .1 .0))) (take (r .lines) (now (e .1 .1 .1 .0)))
 reshape-keeps-links κs a r e x = reshaping.links-promised x
+
+-- where the reshape is accepted with at most 1,024 lines, what the call leaves is a sound source
+pub reshape-leaves-source : (κs : _) (a : _) (r : Reshaped) (e : _) → reshape.Learnt κs a r e → r .number ≡ 0 → r .lines ≤ mostRows
+    → SoundSource base (now (a .1 .0)) (take (r .lines * rowBytes base) (now (e .1 .1 .0))) (r .lines)
+reshape-leaves-source κs a r e x = reshaping.sound-promised x
 
 pub summarise-asks : Asks-nothing summarise.Asked
 summarise-asks κs a = tt

@@ -11,7 +11,7 @@ use borrow.Author.Tests.{lt-ltb, le-ltb, eq-eqb, ne-eqb}
 use Rattle.paper.specs.Format.{Format, mostRows, rowBytes, whole}
 use Rattle.paper.specs.Tables.{Row, rows, badRow}
 use Rattle.paper.specs.Calls.{Answer, refused, given, _>>=_, refuse, refuseAt, Reply, reply, tests1-3, examine, lookUp}
-use Rattle.paper.proofs.Calls.{Numbered, count-rows, numbered1-3, bind-numbered, reply-given, bind-given, passed1-3}
+use Rattle.paper.proofs.Calls.{Past, count-rows, past1-3, pass1-3, bind-past, reply-given, bind-given, passed1-3}
 use Rattle.tables.specs.Place.{placeOf}
 
 -- the tests, from what each finds
@@ -52,9 +52,7 @@ module _ (f : Format) (t : List ℕ) where
 
       pub accepted : (p n : ℕ) → badRow f (rows f t) ≡ placeOf p n → n ≤ p → tests1-3 f t ≡ given (rows f t)
       unfolding placeOf
-      accepted p n e le =
-          same ∙ ap₂ (λ a b. tested a b (badRow f (rows f t)) (rows f t)) short whole-rows
-          ∙ ap (λ o. tested false false o (rows f t)) (e ∙ ap (λ b. elim b as (λ _. Option ℕ) [ true ↦ some p | false ↦ none ]) (le-ltb p n le))
+      accepted p n e more = pass1-3 f t le z (e ∙ ap (λ b. elim b as (λ _. Option ℕ) [ true ↦ some p | false ↦ none ]) (le-ltb p n more))
 
 -- ---- examining
 abbrev told : Answer (List Row) → Reply ℕ
@@ -69,7 +67,7 @@ unfolding examine
 examine-accepted f t e = ap (λ n. record { number = 0; place = 0; rest = n }) (sym (count-rows f t)) ∙ sym (ap told e)
 
 -- ---- what examining tells of the tests
-tells-refused : (a : Answer (List Row)) → Numbered a → (told a .number ≡ 0 → ⊥) → a ≡ refused (told a .number) (told a .place)
+tells-refused : (a : Answer (List Row)) → Past 0 a → (told a .number ≡ 0 → ⊥) → a ≡ refused (told a .number) (told a .place)
 tells-refused (refused k p) n ne = refl
 tells-refused (given rs) n ne = absurd (ne refl)
 
@@ -81,14 +79,14 @@ module _ (f : Format) (t : List ℕ) (k p c : ℕ) (e : _≡_ {A = Reply ℕ} (r
   pub examined-refused : (k ≡ 0 → ⊥) → tests1-3 f t ≡ refused k p
   unfolding examine
   examined-refused ne =
-      tells-refused (tests1-3 f t) (numbered1-3 f t) (λ q. ne (number ∙ q))
+      tells-refused (tests1-3 f t) (past1-3 f t) (λ q. ne (number ∙ q))
       ∙ ap₂ {C = Answer (List Row)} (λ a b. refused a b) (sym number) (sym (ap (λ (r : Reply ℕ). r .place) e))
 
   pub examined-given : k ≡ 0 → (tests1-3 f t ≡ given (rows f t)) × (c ≡ whole (rowBytes f) t)
   unfolding examine
   examined-given z =
       let (n, q, r) = reply-given 0 (tests1-3 f t >>= (λ (rs : List Row). given (length rs)))
-      (bind-numbered (tests1-3 f t) (λ (rs : List Row). given (length rs)) (numbered1-3 f t) (λ rs. tt)) (sym number ∙ z) in
+      (bind-past 0 (tests1-3 f t) (λ (rs : List Row). given (length rs)) (past1-3 f t) (λ rs. tt)) (sym number ∙ z) in
       let (rs, h, g) = bind-given (tests1-3 f t) (λ (rs : List Row). given (length rs)) n q in
       let same = passed1-3 f t rs h .0 in
       let a : tests1-3 f t ≡ given (rows f t) = h ∙ ap {B = Answer (List Row)} given (sym same) in

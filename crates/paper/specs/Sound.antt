@@ -1,0 +1,18 @@
+-- A reshaped table as a source, over bytes. Assumes nothing.
+use Prim.Native.Nat.{ℕ, _≤_}
+use mathlib.Core.Path.{_≡_}
+use mathlib.Core.List.{List}
+use lib.ListN.{length}
+use Rattle.paper.specs.Format.{Format}
+use Rattle.paper.specs.Tables.{rows, types}
+use Rattle.paper.specs.Shapes.{entries}
+use Rattle.paper.specs.Calls.{given, tests1-4, examine}
+
+-- A table of n lines that a reshape to a shape wrote is a sound source.
+pub record SoundSource (f : Format) (shape new : List ℕ) (n : ℕ) : Type 0 where
+  -- examining accepts it, with the count n
+  pub examined : examine f new ≡ record { number = 0; place = 0; rest = n }
+  -- it has at most one type for each entry of the shape
+  pub one-each : length (types (rows f new)) ≤ length (entries f shape)
+  -- no call that takes it as its table refuses it with 1 to 4
+  pub passes : tests1-4 f new ≡ given (rows f new)
