@@ -17,12 +17,14 @@ LINES_SHOWN = 40
 
 
 class Case(typing.NamedTuple):
-    """What a case leaves open, `filled` chooses. The room is of whole records, of bytes past them, and of places."""
+    """What a case leaves open, `filled` chooses. The room is of whole records, of bytes past them, and of places. Where there is a shape of
+    a second reshape, the case is a chain."""
     table: bytes
     shape: bytes = b""
     row: typing.Optional[int] = None
     room: typing.Optional[typing.Tuple[int, int, int]] = None
     summaries: typing.Optional[int] = None
+    again: bytes = b""
 
 
 # ---- what paper01.py says, once for each table and shape
@@ -57,7 +59,7 @@ def within(low, x, high):
 
 def filled(case, at):
     """The case with a row, a room and summaries that change from case to case: enough, just enough, and one short."""
-    row, room, summaries = case[2:]
+    row, room, summaries = case.row, case.room, case.summaries
     if row is None:
         row = at % (len(case.table) // 24 + 2)
     if room is None:
@@ -67,7 +69,7 @@ def filled(case, at):
     if summaries is None:
         n = type_count(case) or 3
         summaries = within(0, (n, n - 1, n + 1, MOST_SUMMARIES, 0, n + 2, 64)[at % 7], MOST_SUMMARIES)
-    return Case(case.table, case.shape, row, room, summaries)
+    return case._replace(row=row, room=room, summaries=summaries)
 
 
 # ---- how cases are written
@@ -94,9 +96,10 @@ def packed(all_cases):
     for case in all_cases:
         records, past, places = case.room
         assert 24 * records + past <= 24 * MOST_RECORDS and places <= MOST_RECORDS and case.summaries <= MOST_SUMMARIES, "more lent than there is"
-        assert max(len(case.table), len(case.shape)) <= 32768, "more bytes than the program holds"
-        made = changes(held, 0, case.table) + changes(held, 32768, case.shape)
-        fields = ((len(made), 2), (len(case.table), 2), (len(case.shape), 2), (case.row, 8), (records, 2), (past, 1), (case.summaries, 1), (places, 2))
+        assert max(len(case.table), 2 * len(case.shape), 2 * len(case.again)) <= 32768, "more bytes than the program holds"
+        made = changes(held, 0, case.table) + changes(held, 32768, case.shape) + changes(held, 49152, case.again)
+        lengths = ((len(made), 2), (len(case.table), 2), (len(case.shape), 2))
+        fields = (*lengths, (case.row, 8), (records, 2), (past, 1), (case.summaries, 1), (places, 2), (len(case.again), 2))
         yield b"".join(x.to_bytes(size, "little") for x, size in fields) + b"".join(made)
 
 
@@ -130,15 +133,24 @@ def place_before(i):
     return 1000003 + i
 
 
+def lend(records, past, places):
+    """The bytes and the places lent for a reshape, as they are before it."""
+    return bytes(map(byte_before, range(24 * records + past))), list(map(place_before, range(places)))
+
+
 def reshaping(case):
     """The reply, the bytes and the places that reshaping leaves."""
-    records, past, places = case.room
-    new = bytes(map(byte_before, range(24 * records + past)))
-    return paper01.reshape(case.table, case.shape, new, list(map(place_before, range(places))))
+    return paper01.reshape(case.table, case.shape, *lend(*case.room))
 
 
-def reshaped(case):
-    reply, new, sources = reshaping(case)
+def reshaping_again(case):
+    """The same of the second reshape, whose table is the lines that the first leaves; nothing where those are no source."""
+    (number, _, lines), new, _ = reshaping(case)
+    if number == 0 and lines <= paper01.MOST_ROWS:
+        return paper01.reshape(new[:24 * lines], case.again, *lend(MOST_RECORDS, 0, MOST_RECORDS))
+
+
+def reshaped(reply, new, sources):
     count = reply[2]
     lines = [(new[24 * i:24 * i + 24], sources[i]) for i in range(count)]
     if count <= LINES_SHOWN:
@@ -150,6 +162,11 @@ def reshaped(case):
     return [reply, *pieces]
 
 
+def chained(case):
+    second = reshaping_again(case)
+    return reshaped(*second) if second else [("none",)]
+
+
 def summarised(case):
     number, place, entries = summary(case.table, case.shape)
     return [(number, place)] + [(e, *three) for e, three in enumerate(zip(*entries)) if any(three)]
@@ -159,9 +176,10 @@ def told(case):
     """The parts of a case's line, each a list of pieces."""
     number, place, part = paper01.look_up(case.table, case.row)
     refused, at, verdict = judging(case.table, case.shape)
-    return {
+    parts = {
         "examining": [paper01.examine(case.table)], "reading": [read(case.table)], "look-up": [(number, place, part.hex())],
-        "adorning": adorned(case), "judging": [(refused, at, *verdict)], "reshaping": reshaped(case), "summarising": summarised(case)}
+        "adorning": adorned(case), "judging": [(refused, at, *verdict)], "reshaping": reshaped(*reshaping(case)), "summarising": summarised(case)}
+    return {**parts, "again": chained(case)} if case.again else parts
 
 
 def line(parts):

@@ -2,6 +2,7 @@
 use crate::print::folded;
 use crate::print::folded_bytes;
 use crate::print::number;
+use silmezga::Reshaped;
 use silmezga::reshape;
 use tables::row::smaller;
 ghost use mathlib.Core.Path.{_≡_};
@@ -131,15 +132,19 @@ fn print_left(table: &[u8], sources: &[u32], lines: usize) {
     print_changed_places(sources, shown);
 }
 
-fn print_answered(t: &[u8], s: &[u8], table: &mut [u8], sources: &mut [u32]) {
-    fill_bytes(table);
-    fill_places(sources);
-    let r = reshape(t, s, table, sources);
+// A part of a line: what a reshape answers, and what it has left.
+pub fn print_told(r: Reshaped, table: &[u8], sources: &[u32]) {
     let lines = r.lines;
     number(b": ", r.number);
     number(b" ", r.place);
     number(b" ", lines);
     print_left(table, sources, lines);
+}
+
+fn print_answered(t: &[u8], s: &[u8], table: &mut [u8], sources: &mut [u32]) {
+    fill_bytes(table);
+    fill_places(sources);
+    print_told(reshape(t, s, table, sources), table, sources);
 }
 
 // Lends so many bytes and places, as far as there are any.

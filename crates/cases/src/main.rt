@@ -1,12 +1,13 @@
 // Runs the six calls and the reader on the cases of standard input, and prints a line for each, so that all that they answer and all
 // that they leave in what they are lent can be compared.
 //
-// A case is a table, a shape, a row to look up, the room lent for a reshape and the number of summaries lent. It is written as what
-// differs from the case before, since most cases change little. The table's bytes are held from place 0 and the shape's from 32,768, and
-// both begin as zeros. A head of 20 bytes, least byte first: the number of changes (2 bytes), the length of the table (2) and of the
-// shape (2), the row (8), the whole records lent (2), the bytes lent past them (1), the summaries lent (1) and the places lent for the
-// source list (2). Then each change: its place (2 bytes), its length (1) and its bytes. Records are counted because the bytes of 4,096
-// do not fit two bytes.
+// A case is a table, a shape, a row to look up, the room lent for a reshape, the number of summaries lent and the shape of a second
+// reshape, which most cases lack. It is written as what differs from the case before, since most cases change little. The table's bytes
+// are held from place 0, the shape's from 32,768 and the second shape's from 49,152, and all begin as zeros. A head of 22 bytes, least byte
+// first: the number of changes (2 bytes), the length of the table (2) and of the shape (2), the row (8), the whole records lent (2), the
+// bytes lent past them (1), the summaries lent (1), the places lent for the source list (2) and the length of the second shape (2), 0
+// where there is none. Then each change: its place (2 bytes), its length (1) and its bytes. Records are counted because the bytes of
+// 4,096 do not fit two bytes.
 //
 // The line has a part for each call, with ": " between them, and pieces of a part have "; " between them:
 // - examining's number, place and rows;
@@ -19,12 +20,15 @@
 // - reshaping's number, place and lines; up to forty lines, each as twelve 16-bit numbers and its place of the source list, or,
 //   where there are more, the sum over every byte and every place of the lines; then each lent byte and each place past the last
 //   line that is not as it was before the call, with its index;
-// - summarising's number and place, and for each entry with a figure other than 0 its lines, source rows and copies.
+// - summarising's number and place, and for each entry with a figure other than 0 its lines, source rows and copies;
+// - with a second shape, what reshaping to it the lines that the case's own reshape leaves gives, in the form of reshaping's part, with
+//   98,400 bytes and 4,100 places lent; or `none`, where the case's own reshape is refused or leaves more than 1,024 lines.
 // A sum is that of `print::folded`.
 //
 // The last line says on how many cases the calls for C answer and leave what the Rattle calls do.
 pub mod alike;
 pub mod calls;
+pub mod chain;
 pub mod lent;
 pub mod marked;
 pub mod print;
@@ -44,7 +48,7 @@ struct Ask {
 }
 
 fn asked(head: &[u8]) -> Ask
-    requires { ⌜ length (now head) ≡ 20 ⌝ }
+    requires { ⌜ length (now head) ≡ 22 ⌝ }
 {
     Ask {
         row: bytes::long(head, 6),
@@ -55,7 +59,7 @@ fn asked(head: &[u8]) -> Ask
 }
 
 // A case's line.
-fn print_case(t: &[u8], s: &[u8], ask: Ask) {
+fn print_case(t: &[u8], s: &[u8], again: &[u8], ask: Ask) {
     calls::print_examined(t);
     calls::print_read(t);
     calls::print_looked_up(t, ask.row);
@@ -63,6 +67,7 @@ fn print_case(t: &[u8], s: &[u8], ask: Ask) {
     calls::print_judged(t, s);
     lent::print_reshaped(t, s, ask.bytes, ask.places);
     calls::print_summarised(t, s);
+    chain::print_chain(t, s, again, ask.bytes, ask.places);
     io::write_all(STDOUT_FILENO, b"\n");
 }
 
@@ -112,12 +117,12 @@ struct Ran {
 
 // Reads a case and prints its line.
 fn run_case(held: &mut [u8]) -> Ran {
-    let mut head = [0u8; 20];
+    let mut head = [0u8; 22];
     let none = Ran {
         whole: false,
         alike: 0,
     };
-    if io::read_full(STDIN_FILENO, &mut head) < 20 {
+    if io::read_full(STDIN_FILENO, &mut head) < 22 {
         return none;
     }
     if !read_changes(held, bytes::word(&head, 0)) {
@@ -125,13 +130,14 @@ fn run_case(held: &mut [u8]) -> Ran {
     }
     let n = bytes::word(&head, 2);
     let end = 32768 + bytes::word(&head, 4);
-    if held.len() < n || held.len() < end {
+    let last = 49152 + bytes::word(&head, 20);
+    if held.len() < n || held.len() < end || held.len() < last {
         return none;
     }
     let ask = asked(&head);
     let t = &held[0..n];
     let s = &held[32768..end];
-    print_case(t, s, ask);
+    print_case(t, s, &held[49152..last], ask);
     Ran {
         whole: true,
         alike: alike::count_alike(t, s, ask.row, ask.bytes, ask.places),
