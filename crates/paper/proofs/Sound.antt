@@ -1,6 +1,6 @@
 -- A reshaped table of at most 1,024 lines is a sound source. Assumes nothing.
 use Prim.Native.Nat.{ℕ, zero, suc, _+_, _*_, _/_, _%_, _≤_, _<_}
-use native.Mathlib.Nat.{mul-div-cancel, mul-mod-left, mul-le-mul-right}
+use native.Mathlib.Nat.{mul-div-cancel, mul-mod-left, mul-le-mul-right, div-mul-le-self}
 use native.Mathlib.Omega.{arith}
 use mathlib.Core.Path.{_≡_, refl, sym, _∙_, ap, ap₂, subst}
 use mathlib.Core.Logic.{_⊎_, inl, inr}
@@ -12,11 +12,11 @@ use Rattle.paper.specs.Format.{Format, mostRows, headBytes, rowBytes, en
 use Rattle.paper.specs.Tables.{Row, rows, types}
 use Rattle.paper.specs.Shapes.{Entry, entries, entryOf, named, shapeOver}
 use Rattle.paper.specs.NewTable.{newTable, entryUnit}
-use Rattle.paper.specs.Calls.{Answer, given, _>>=_, reply, Reshaping, tests1-3, examine, reshape}
+use Rattle.paper.specs.Calls.{Answer, given, _>>=_, Reply, reply, Reshaping, tests1-3, examine, reshape}
 use Rattle.paper.specs.Sound.{SoundSource}
 use Rattle.paper.proofs.Lists.{map-has, last-has}
 use Rattle.paper.proofs.Reread.{take-has}
-use Rattle.paper.proofs.Calls.{count-rows, pass1-3, pass1-4, passed5-6, passed1-7, reshape-past4}
+use Rattle.paper.proofs.Calls.{count-rows, pass1-3, pass1-4, passed1-4, passed5-6, passed1-7, reshape-past4}
 use Rattle.paper.proofs.Promises.{s, ls, Wrote, reshape-writes, written-length, written-sound, written-types, format-small}
 
 -- what passes 1 to 3 is accepted, with the count of its rows
@@ -103,6 +103,13 @@ module _ (f : Format) (b sb table sources : List ℕ) where
   reshape-sound low e few =
       let o = reshape-writes f b sb table sources e in
       sound o (λ i le. getD-below entryUnit (omega arith) (s f b sb (o .work) (o .passed) .labels) (labels-below f (types (rows f b)) sb low) i) few
+
+-- a sound source holds its rows whole
+pub source-whole : (f : Format) (sb new : List ℕ) (n : ℕ) → SoundSource f sb new n → n * rowBytes f ≤ length new
+source-whole f sb new n source =
+    let counted : n ≡ length new / rowBytes f =
+    ap (λ (r : Reply ℕ). r .rest) (sym (source .examined) ∙ examine-given f new (passed1-4 f new (rows f new) (source .passes))) ∙ count-rows f new in
+    subst (λ k. k * rowBytes f ≤ length new) (sym counted) (div-mul-le-self (length new) (rowBytes f))
 
 -- A reshape of a sound source needs no test in between: it is accepted, or refused by a number past 4.
 pub reshape-again : (f : Format) (sb new : List ℕ) (n : ℕ) → SoundSource f sb new n → (shape table sources : List ℕ)

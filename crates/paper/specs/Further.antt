@@ -1,11 +1,11 @@
--- Further samples, one list under one statement like the marked ones: the numbers of a source list, the figures of a summary, which entry,
--- row or pair a verdict names, and each refusal with its place, alone and beside the next in document 01's order. Assumes nothing.
-use Prim.Native.Nat.{ℕ, zero, suc}
+-- Further samples, one list under one statement like the marked ones: the numbers of a source list, a new table as a source, the figures of
+-- a summary, which entry, row or pair a verdict names, and each refusal with its place, alone and beside the next in document 01's order. Assumes nothing.
+use Prim.Native.Nat.{ℕ, zero, suc, _*_}
 use mathlib.Core.Path.{_≡_, refl}
 use mathlib.Core.List.{List, [], _∷_, _++_, map}
 use lib.ListN.{take, replicate}
 use Rattle.paper.specs.Lists.{joined, padded}
-use Rattle.paper.specs.Format.{base}
+use Rattle.paper.specs.Format.{base, rowBytes}
 use Rattle.paper.specs.Adorned.{Summary}
 use Rattle.paper.specs.Calls.{examine, lookUp, adorn, roomIn, reshape, summarise}
 use Rattle.paper.specs.Samples.{row, table, entry, A, table10, portfolio, lessee, lease, asset, judged, reshaped}
@@ -65,6 +65,10 @@ linedInto bytes places b sb = let r = reshape base b sb (zeros bytes) (zeros pla
 abbrev sourced : List ℕ → List ℕ → List (List ℕ)
 sourced b sb = let r = reshaped b sb in take (r .reply .rest) (r .sources) ∷ []
 
+-- the new table
+abbrev written : List ℕ → List ℕ → List ℕ
+written b sb = let r = reshaped b sb in take (r .reply .rest * rowBytes base) (r .table)
+
 -- number and place; lines, source rows and copies of 16 entries
 abbrev summed : List ℕ → List ℕ → List (List ℕ)
 summed b sb = let r = summarise base b sb in (r .number ∷ r .place ∷ []) ∷ r .rest .lines ∷ r .rest .rows ∷ r .rest .copies ∷ []
@@ -74,6 +78,12 @@ pub further : List (List (List ℕ) × List (List ℕ))
 further =
     -- P4's source list: entry × 65,536 + source row
     (sourced A shape4, (2 ∷ 65537 ∷ 131075 ∷ 131076 ∷ 5 ∷ 65537 ∷ 131078 ∷ 8 ∷ 65543 ∷ []) ∷ [])
+    -- P4's new table is a sound source of 9 rows and 3 types; reshaped again, by lessee, it has 9 lines
+    ∷ (examined (written A shape4), (0 ∷ 0 ∷ 9 ∷ []) ∷ [])
+    ∷ (adornedInto 3 (written A shape4), (0 ∷ 0 ∷ 3 ∷ []) ∷ [])
+    ∷ (linedInto 216 9 (written A shape4) (entry 1 (3 ∷ 2 ∷ []) ++ entry 2 (3 ∷ []) ++ entry 3 (3 ∷ 4 ∷ [])), (0 ∷ 0 ∷ 9 ∷ []) ∷ [])
+    -- two entries of one type beneath one entry are one type of the new table: portfolio[lease lease] has 2
+    ∷ (adornedInto 2 (written A (entry 1 portfolio ++ entry 2 lease ++ entry 2 lease)), (0 ∷ 0 ∷ 2 ∷ []) ∷ [])
     -- the summaries of P4 and P5: the lessee of two leases is copied once; of P10: a row that is not shown is no copy
     ∷ (
       summed A shape4,

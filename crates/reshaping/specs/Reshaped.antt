@@ -27,5 +27,5 @@ pub record Reshapes (t s new sources : List ℕ) (r : Reshaped) (new′ sources�
   pub places : sources′ ≡ reshape base t s new sources .sources
   -- The buyer's demand: where the call is accepted and the verdict on the same table and shape is 0, no link is missing and none is made up.
   pub links : r .number ≡ 0 → judge base t s .rest ≡ kept → LinksKept base t s (take (r .lines * rowBytes base) new′) (take (r .lines) sources′)
-  -- A reshaped table of at most 1,024 lines is a sound source: examining accepts it, and so do refusals 1 to 4.
+  -- A reshaped table of at most 1,024 lines is a sound source: no call refuses it with 1 to 4.
   pub sound : r .number ≡ 0 → r .lines ≤ mostRows → SoundSource base s (take (r .lines * rowBytes base) new′) (r .lines)
