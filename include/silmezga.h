@@ -53,7 +53,7 @@ extern "C" {
 #endif
 
 /* The version of the project; CHANGELOG.md says what each brought. */
-#define SILMEZGA_VERSION "1.1.1"
+#define SILMEZGA_VERSION "1.2.0"
 
 /* The archive's numbers have 64 bits: this line refuses a target whose size_t has not. */
 typedef char silmezga_size_t_has_64_bits[sizeof(size_t) == 8 ? 1 : -1];
@@ -89,10 +89,12 @@ enum {
     SILMEZGA_BAD_ENTRY = 6,          /* a shape entry breaks a rule; place: the first bad entry */
     SILMEZGA_NO_SUCH_TYPE = 7,       /* an entry's type has no row; place: the first such entry */
     SILMEZGA_NO_ROOM = 8,            /* more lines than there is room for; place 0 */
-    SILMEZGA_BAD_LINE = 9,           /* a line would break a row rule; place: that line. Never given: it is proved that no line does */
     SILMEZGA_FEW_SUMMARIES = 10,     /* fewer lent summaries than types; place 0 */
     SILMEZGA_NO_SUCH_ROW = 11        /* no such row; place: the row asked for */
 };
+
+/* Number 9 is unused: no call gives it. The name stays only so that a program that has it still compiles. */
+#define SILMEZGA_BAD_LINE 9
 
 /*
  * ---- Verdicts
@@ -187,7 +189,8 @@ silmezga_judged silmezga_judge(const uint8_t *table, size_t table_len, const uin
  * `new_len` is in bytes, `source_places` in numbers. There is room for the least of new_len / 24, source_places and 4,096 lines; the lines
  * are counted before the first is written. Where the verdict on the same table and shape is 0, what the call leaves keeps the links
  * between records: the pairs of source rows read off the closest pairs of new lines are exactly the closest pairs of source rows of those
- * two types.
+ * two types. A new table of at most 1,024 lines is a sound source: no call refuses its `lines` x 24 bytes with 1 to 4, so that they can
+ * be reshaped again with no test in between.
  */
 silmezga_reshaped silmezga_reshape(const uint8_t *table, size_t table_len, const uint8_t *shape, size_t shape_len, uint8_t *new_table,
                                    size_t new_len, uint32_t *sources, size_t source_places);

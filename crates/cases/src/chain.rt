@@ -8,10 +8,12 @@ use libc::STDOUT_FILENO;
 use silmezga::Reshaped;
 use silmezga::reshape;
 use tables::row::smaller;
-ghost use Prim.Native.Nat.{_*_, _≤_};
-ghost use lib.ListN.{length};
+ghost use mathlib.Core.Path.{_≡_};
+ghost use mathlib.Core.Logic.{_⊎_};
+ghost use Prim.Native.Nat.{_<_};
+ghost use Rattle.cases.specs.Chain.{Source};
 
-// Reshapes the first lines of a new table.
+// Reshapes the first lines of a new table: it is accepted, or refused for the shape or the room.
 fn reshape_again(
     new: &[u8],
     lines: usize,
@@ -19,14 +21,15 @@ fn reshape_again(
     table: &mut [u8],
     sources: &mut [u32],
 ) -> Reshaped
-    requires { ⌜ 24 * lines ≤ length (now new) ⌝ }
+    requires { ⌜ Source (now new) lines ⌝ }
+    ensures { λ r. ⌜ (r .number ≡ 0) ⊎ (4 < r .number) ⌝ }
 {
     reshape(&new[..24 * lines], again, table, sources)
 }
 
 // The second reshape is lent all of the program's room.
 fn print_again(new: &[u8], lines: usize, again: &[u8])
-    requires { ⌜ 24 * lines ≤ length (now new) ⌝ }
+    requires { ⌜ Source (now new) lines ⌝ }
 {
     let mut table = records_room();
     let mut sources = places_room();
@@ -36,19 +39,15 @@ fn print_again(new: &[u8], lines: usize, again: &[u8])
     print_told(r, &table, &sources);
 }
 
-// A refused reshape leaves no table, and one of more than 1,024 lines is no source. No more lines are taken than there is room for.
-fn print_second(new: &[u8], first: Reshaped, again: &[u8]) {
+// A refused reshape leaves no table, and one of more than 1,024 lines is no source.
+fn print_both(t: &[u8], s: &[u8], again: &[u8], new: &mut [u8], sources: &mut [u32]) {
+    let first = reshape(t, s, new, sources);
     let lines = first.lines;
     if first.number == 0 && lines <= 1024 {
-        print_again(new, smaller(lines, new.len() / 24), again);
+        print_again(new, lines, again);
     } else {
         io::write_all(STDOUT_FILENO, b": none");
     }
-}
-
-fn print_both(t: &[u8], s: &[u8], again: &[u8], new: &mut [u8], sources: &mut [u32]) {
-    let first = reshape(t, s, new, sources);
-    print_second(new, first, again);
 }
 
 // Lends the first reshape so many bytes and places, as far as there are any. Without a second shape there is no chain.

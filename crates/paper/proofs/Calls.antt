@@ -16,7 +16,7 @@ use Rattle.paper.specs.Tables.{Row, rows, rowOf, badRow, rowTypes, types
 use Rattle.paper.specs.Closeness.{nodes}
 use Rattle.paper.specs.Shapes.{Entry, entries, entryOf, badEntry, shapeOver}
 use Rattle.paper.specs.NewTable.{Line, lines, newTable, sourceList}
-use Rattle.paper.specs.Calls.{Answer, refused, given, _>>=_, refuse, refuseAt, reply, Work, typeTooMany, typeMissing, tests1-3, tests1-4, tests5-6, tests1-7, test8, roomIn, reshaping, reshape}
+use Rattle.paper.specs.Calls.{Answer, refused, given, _>>=_, refuse, refuseAt, reply, Work, typeTooMany, typeMissing, tests1-3, tests1-4, tests5-6, tests1-7, test8, examine, roomIn, reshaping, reshape}
 
 -- ---- answers
 module _ {A B : Type 0} where
@@ -87,6 +87,11 @@ pass1-3 f b short whole-rows sound =
     λ long whole bad. refuse 1 long >>= (λ _. refuse 2 (not whole) >>= (λ _. refuseAt 3 bad >>= (λ _. given (rows f b)))) in
     ap₂ (λ x y. tested x y (badRow f (rows f b))) (le-ltb (mostRows * rowBytes f) (length b) short) (eq-eqb (length b % rowBytes f) 0 whole-rows)
     ∙ ap (tested false true) sound
+
+-- what passes 1 to 3 is accepted, with the count of its rows
+pub examine-given : (f : Format) (b : List ℕ) → tests1-3 f b ≡ given (rows f b) → examine f b ≡ record { number = 0; place = 0; rest = length (rows f b) }
+unfolding examine
+examine-given f b passes = ap (λ (a : Answer (List Row)). reply 0 (a >>= (λ rs. given (length rs)))) passes
 
 -- ---- 1 to 4
 -- what passes 1 to 3 and has at most 64 types

@@ -1,10 +1,10 @@
 -- The lines of one entry have one type, so that a new table has at most one type for each entry of its shape. Assumes nothing.
-use Prim.Native.Nat.{ℕ, zero, suc, _≤_, _<_, pred, zero-le}
+use Prim.Native.Nat.{ℕ, suc, _≤_, _<_, pred, zero-le}
 use native.Mathlib.Omega.{arith}
 use mathlib.Core.Path.{_≡_, refl, sym, _∙_, ap, ap₂, subst}
 use mathlib.Core.Logic.{inl, inr}
 use mathlib.Core.Bool.{Bool, true, false, not, false≢true}
-use mathlib.Core.List.{List, [], _∷_, _++_, map, map-map}
+use mathlib.Core.List.{List, [], _∷_, _++_, map}
 use lib.ListN.{length, getD, take, length-append, length-map}
 use lib.Seq.{take-at}
 use Rattle.paper.specs.Lists.{Has, keep, same, distinct, ways}

@@ -29,6 +29,7 @@ use Rattle.paper.proofs.Verdict.{In, way-one, missing-alone}
 use Rattle.paper.proofs.Lines.{row-of, line-entry, line-level, line-above, alone-unshown}
 use Rattle.paper.proofs.Demand3.{together-pos, fork-way, fork-in, made-up-none, missing-none}
 use Rattle.paper.proofs.Links.{Source, links}
+use Rattle.paper.proofs.Bytes.{Small}
 use Rattle.paper.proofs.Reread
 use Rattle.paper.proofs.Calls.{passed1-3, passed5-6, passed1-7, few-rows, passed8, bind-given, bind-past, reply-given, given-same, passed-reshaping, numbered-reshaping}
 
@@ -183,7 +184,7 @@ module _ (f : Format) (b sb : List ℕ) (w : Work) (passed : tests1-7 f b sb ≡
   written-length = Reread.length-new f b s ways some-entry (source-table .one-place) numbered (omega (arith, few)) levels
 
   -- ---- read again, where the last labels of the entries are of 16 bits
-  module _ (room : length ls < entryUnit) (label-small : (e : ℕ) → e < length (s .ways) → getD (s .labels) e 0 < entryUnit) where
+  module _ (room : length ls < entryUnit) (label-small : (e : ℕ) → e < length (s .ways) → Small (getD (s .labels) e 0)) where
     -- The bytes of a written table keep the row rules.
     pub written-sound : badRow f (rows f (newTable f s rs ls)) ≡ none
     written-sound =
@@ -196,7 +197,7 @@ module _ (f : Format) (b sb : List ℕ) (w : Work) (passed : tests1-7 f b sb ≡
         omega (arith, entries-size, Reread.types-again f b s ways some-entry (source-table .one-place) numbered (omega (arith, few)) levels room label-small)
 
   -- a format whose largest label is of 16 bits has such labels
-  pub format-small : f .labels < entryUnit → (e : ℕ) → e < length (s .ways) → getD (s .labels) e 0 < entryUnit
+  pub format-small : Small (f .labels) → (e : ℕ) → e < length (s .ways) → Small (getD (s .labels) e 0)
   format-small lim e le =
       let label = getD (s .labels) e 0 in
       omega (arith, leb-true label (f .labels) (both (leb 1 label) (leb label (f .labels)) (labels e le) .1))
@@ -254,6 +255,15 @@ module _ (f : Format) (b sb table sources : List ℕ) where
             ∙ ap (λ (x : List ℕ × List ℕ). x .1 ++ drop (length (x .1)) sources) written;
       }
 
+  -- the first records are the new table
+  pub new-left : (o : Wrote) → let new = newTable f (s f b sb (o .work) (o .passed)) (rows f b) (ls f b sb (o .work) (o .passed)) in
+      take (r .reply .rest * rowBytes f) (r .table) ≡ new
+  new-left o =
+      let l = ls f b sb (o .work) (o .passed) in
+      let new = newTable f (s f b sb (o .work) (o .passed)) (rows f b) l in
+      ap₂ (λ n z. take (n * rowBytes f) z) (o .count) (o .lent)
+      ∙ take-at new (drop (length new) table) (length l * rowBytes f) (written-length f b sb (o .work) (o .passed) (omega (arith, o .room)))
+
   -- DEMAND 3 of a reshape: where it is accepted and the verdict is 0, the lent bytes and places at exit keep the links.
   pub reshape-links : r .reply .number ≡ 0 → judge f b sb .rest ≡ kept
       → LinksKept f b sb (take (r .reply .rest * rowBytes f) (r .table)) (take (r .reply .rest) (r .sources))
@@ -264,10 +274,7 @@ module _ (f : Format) (b sb table sources : List ℕ) where
       let l = ls f b sb w h in
       let new = newTable f (s f b sb w h) (rows f b) l in
       let room : length l < entryUnit = omega (arith, o .room) in
-      let et : take (r .reply .rest * rowBytes f) (r .table) ≡ new =
-      ap₂ (λ n z. take (n * rowBytes f) z) (o .count) (o .lent)
-      ∙ take-at new (drop (length new) table) (length l * rowBytes f) (written-length f b sb w h room) in
       let es : take (r .reply .rest) (r .sources) ≡ sourceList l =
       ap₂ (λ n z. take n z) (o .count) (o .places) ∙ take-at (sourceList l) (drop (length (sourceList l)) sources) (length l) (source-length l) in
-      subst₂ (λ x y. LinksKept f b sb x y) (sym et) (sym es)
+      subst₂ (λ x y. LinksKept f b sb x y) (sym (new-left o)) (sym es)
       (faithful-links f b sb w h new (sourceList l) (written-faithful f b sb w h room) (judged-kept f b sb w h v))

@@ -1,28 +1,23 @@
 -- A reshaped table of at most 1,024 lines is a sound source. Assumes nothing.
-use Prim.Native.Nat.{ℕ, zero, suc, _+_, _*_, _/_, _%_, _≤_, _<_}
+use Prim.Native.Nat.{ℕ, zero, suc, _*_, _/_, _%_, _≤_, _<_}
 use native.Mathlib.Nat.{mul-div-cancel, mul-mod-left, mul-le-mul-right, div-mul-le-self}
 use native.Mathlib.Omega.{arith}
-use mathlib.Core.Path.{_≡_, refl, sym, _∙_, ap, ap₂, subst}
+use mathlib.Core.Path.{_≡_, refl, sym, _∙_, ap, subst}
 use mathlib.Core.Logic.{_⊎_, inl, inr}
-use mathlib.Core.List.{List, [], _∷_, map}
+use mathlib.Core.List.{List, [], _∷_}
 use lib.ListN.{length, getD, take, drop}
-use lib.Seq.{take-at}
 use Rattle.paper.specs.Lists.{Has, lastOr}
 use Rattle.paper.specs.Format.{Format, mostRows, headBytes, rowBytes, entryBytes, radix, byte, words, records, whole}
-use Rattle.paper.specs.Tables.{Row, rows, types}
+use Rattle.paper.specs.Tables.{rows, types}
 use Rattle.paper.specs.Shapes.{Entry, entries, entryOf, named, shapeOver}
 use Rattle.paper.specs.NewTable.{newTable, entryUnit}
-use Rattle.paper.specs.Calls.{Answer, given, _>>=_, Reply, reply, Reshaping, tests1-3, examine, reshape}
+use Rattle.paper.specs.Calls.{Reply, Reshaping, reshape}
 use Rattle.paper.specs.Sound.{SoundSource}
 use Rattle.paper.proofs.Lists.{map-has, last-has}
+use Rattle.paper.proofs.Bytes.{Small}
 use Rattle.paper.proofs.Reread.{take-has}
-use Rattle.paper.proofs.Calls.{count-rows, pass1-3, pass1-4, passed1-4, passed5-6, passed1-7, reshape-past4}
-use Rattle.paper.proofs.Promises.{s, ls, Wrote, reshape-writes, written-length, written-sound, written-types, format-small}
-
--- what passes 1 to 3 is accepted, with the count of its rows
-pub examine-given : (f : Format) (b : List ℕ) → tests1-3 f b ≡ given (rows f b) → examine f b ≡ record { number = 0; place = 0; rest = length (rows f b) }
-unfolding examine
-examine-given f b passes = ap (λ (a : Answer (List Row)). reply 0 (a >>= (λ rs. given (length rs)))) passes
+use Rattle.paper.proofs.Calls.{count-rows, pass1-3, examine-given, pass1-4, passed1-4, passed5-6, passed1-7, reshape-past4}
+use Rattle.paper.proofs.Promises.{s, ls, Wrote, reshape-writes, new-left, written-length, written-sound, written-types, format-small}
 
 -- ---- labels that are read from bytes are of 16 bits
 -- every number of the list is below m
@@ -49,19 +44,19 @@ record-below m w zero b low y h = absurd h
 record-below m w (suc n) b low y (inl e) = λ x i. low x (take-has w b x (subst (λ z. Has x z) e i))
 record-below m w (suc n) b low y (inr h) = record-below m w n (drop w b) (λ x i. low x (drop-has w b x i)) y h
 
-words-below : (n : ℕ) (b : List ℕ) (i : ℕ) → Below radix b → Below entryUnit (words n b i)
+words-below : (n : ℕ) (b : List ℕ) (i : ℕ) → Below radix b → Below (radix * radix) (words n b i)
 words-below zero b i low x h = absurd h
 words-below (suc n) b i low x (inl e) = omega (arith, e, getD-below radix (omega arith) b low i, getD-below radix (omega arith) b low (suc i))
 words-below (suc n) b i low x (inr h) = words-below n b (suc (suc i)) low x h
 
-labels-below : (f : Format) (ts : List (List ℕ)) (sb : List ℕ) → Below radix sb → Below entryUnit (shapeOver ts (entries f sb) .labels)
+labels-below : (f : Format) (ts : List (List ℕ)) (sb : List ℕ) → Below radix sb → Below (radix * radix) (shapeOver ts (entries f sb) .labels)
 unfolding shapeOver entries entryOf
 labels-below f ts sb low x h =
     let (e, he, q) = map-has (λ (e : Entry). lastOr 0 (named e)) x (entries f sb) h in
     let (y, hy, ey) = map-has (entryOf f) e (records (entryBytes f) (whole (entryBytes f) sb) sb) he in
     let each = words-below (f .levels) y headBytes (record-below radix (entryBytes f) (whole (entryBytes f) sb) sb low y hy) in
-    let last = last-below entryUnit (omega arith) (take (byte y 1) (words (f .levels) y headBytes)) (λ z i. each z (take-has (byte y 1) (words (f .levels) y headBytes) z i)) in
-    subst (λ z. z < entryUnit) (sym (q ∙ ap (λ (e : Entry). lastOr 0 (named e)) ey)) last
+    let last = last-below (radix * radix) (omega arith) (take (byte y 1) (words (f .levels) y headBytes)) (λ z i. each z (take-has (byte y 1) (words (f .levels) y headBytes) z i)) in
+    subst (λ z. z < radix * radix) (sym (q ∙ ap (λ (e : Entry). lastOr 0 (named e)) ey)) last
 
 -- ---- the theorem
 module _ (f : Format) (b sb table sources : List ℕ) where
@@ -70,7 +65,7 @@ module _ (f : Format) (b sb table sources : List ℕ) where
 
   -- The new table is sound where the last label of each entry is of 16 bits.
   sound : (o : Wrote f b sb table sources)
-      → ((e : ℕ) → e < length (s f b sb (o .work) (o .passed) .ways) → getD (s f b sb (o .work) (o .passed) .labels) e 0 < entryUnit)
+      → ((e : ℕ) → e < length (s f b sb (o .work) (o .passed) .ways) → Small (getD (s f b sb (o .work) (o .passed) .labels) e 0))
       → r .reply .rest ≤ mostRows → SoundSource f sb (take (r .reply .rest * rowBytes f) (r .table)) (r .reply .rest)
   sound o label-small few =
       let w = o .work in
@@ -79,20 +74,21 @@ module _ (f : Format) (b sb table sources : List ℕ) where
       let new = newTable f (s f b sb w h) (rows f b) l in
       let room : length l < entryUnit = omega (arith, o .room) in
       let long = written-length f b sb w h room in
-      let front : take (r .reply .rest * rowBytes f) (r .table) ≡ new =
-      ap₂ (λ n z. take (n * rowBytes f) z) (o .count) (o .lent) ∙ take-at new (drop (length new) table) (length l * rowBytes f) long in
-      let counted : length (rows f new) ≡ r .reply .rest = count-rows f new ∙ ap (λ n. n / rowBytes f) long ∙ mul-div-cancel (length l) (omega arith) ∙ sym (o .count) in
-      let passes = pass1-3 f new (subst (λ n. n ≤ mostRows * rowBytes f) (sym long) (mul-le-mul-right (rowBytes f) (omega (arith, o .count)))) (ap (λ n. n % rowBytes f) long ∙ mul-mod-left (length l) (rowBytes f))
-      (written-sound f b sb w h room label-small) in
+      let counted : length (rows f new) ≡ r .reply .rest =
+      count-rows f new ∙ ap (λ n. n / rowBytes f) long ∙ mul-div-cancel (length l) (omega arith) ∙ sym (o .count) in
+      let short : length new ≤ mostRows * rowBytes f =
+      subst (λ n. n ≤ mostRows * rowBytes f) (sym long) (mul-le-mul-right (rowBytes f) (omega (arith, o .count))) in
+      let whole-rows : length new % rowBytes f ≡ 0 = ap (λ n. n % rowBytes f) long ∙ mul-mod-left (length l) (rowBytes f) in
+      let passes = pass1-3 f new short whole-rows (written-sound f b sb w h room label-small) in
       let one-type-each = written-types f b sb w h room label-small in
-      subst (λ z. SoundSource f sb z (r .reply .rest)) (sym front) (record {
+      subst (λ z. SoundSource f sb z (r .reply .rest)) (sym (new-left f b sb table sources o)) (record {
         examined = examine-given f new passes ∙ ap (λ n. record { number = 0; place = 0; rest = n }) counted;
         one-each = one-type-each;
         passes = pass1-4 f new passes (omega (arith, one-type-each, passed5-6 f sb (entries f sb) (passed1-7 f b sb w h .1) .3));
       })
 
   -- in a format whose largest label is of 16 bits, as the base's is
-  pub narrow-sound : f .labels < entryUnit → r .reply .number ≡ 0 → r .reply .rest ≤ mostRows
+  pub narrow-sound : Small (f .labels) → r .reply .number ≡ 0 → r .reply .rest ≤ mostRows
       → SoundSource f sb (take (r .reply .rest * rowBytes f) (r .table)) (r .reply .rest)
   narrow-sound lim e few = let o = reshape-writes f b sb table sources e in sound o (format-small f b sb (o .work) (o .passed) lim) few
 
@@ -102,7 +98,7 @@ module _ (f : Format) (b sb table sources : List ℕ) where
       → SoundSource f sb (take (r .reply .rest * rowBytes f) (r .table)) (r .reply .rest)
   reshape-sound low e few =
       let o = reshape-writes f b sb table sources e in
-      sound o (λ i le. getD-below entryUnit (omega arith) (s f b sb (o .work) (o .passed) .labels) (labels-below f (types (rows f b)) sb low) i) few
+      sound o (λ i le. getD-below (radix * radix) (omega arith) (s f b sb (o .work) (o .passed) .labels) (labels-below f (types (rows f b)) sb low) i) few
 
 -- a sound source holds its rows whole
 pub source-whole : (f : Format) (sb new : List ℕ) (n : ℕ) → SoundSource f sb new n → n * rowBytes f ≤ length new

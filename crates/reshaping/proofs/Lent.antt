@@ -1,5 +1,5 @@
 -- What a reshape leaves in the bytes and places that were lent. Assumes nothing.
-use Prim.Native.Nat.{ℕ, zero, suc, _+_, _*_, _-_, _≤_, _<_}
+use Prim.Native.Nat.{ℕ, zero, suc, _+_, _*_, _≤_}
 use native.Mathlib.Nat.{mul-zero, mul-suc, mul-comm}
 use native.Mathlib.Omega.{arith}
 use mathlib.Core.Path.{_≡_, sym, _∙_, ap, ap₂, subst, subst₂}
@@ -15,6 +15,7 @@ use Rattle.paper.specs.Calls.{Reply, Reshaping, reshape, roomIn}
 use Rattle.paper.specs.Links.{LinksKept}
 use Rattle.paper.specs.Sound.{SoundSource}
 use Rattle.paper.proofs.Promises.{reshape-links, written-length}
+use Rattle.paper.proofs.Bytes.{Small}
 use Rattle.paper.proofs.Sound.{narrow-sound}
 use Rattle.tables.proofs.Rows.{row-in}
 use Rattle.shapes.specs.Tests.{shapeIn}
@@ -40,7 +41,7 @@ records-fit w zero l le = omega (arith, mul-zero w)
 records-fit w (suc p) l le = omega (arith, row-in w p l (omega arith), mul-suc w p)
 
 -- the base's largest label is of 16 bits
-labels-fit : base .labels < entryUnit
+labels-fit : Small (base .labels)
 unfolding base
 labels-fit = omega arith
 

@@ -68,7 +68,8 @@ pub fn judge(table: &[u8], shape: &[u8]) -> Judged
 
 // Reshapes a table: refusals 1 to 8, or the new table and its source list, at the front of what was lent; what lies past them stays as it
 // was. `Reshapes` says so of the answer and of every lent byte and place, and has the buyer's demand: where the verdict on the same table
-// and shape is 0, what the call leaves keeps the links between records, none missing and none made up.
+// and shape is 0, what the call leaves keeps the links between records, none missing and none made up. A new table of at most 1,024 lines
+// is a sound source: no call refuses it with 1 to 4.
 pub fn reshape(table: &[u8], shape: &[u8], new: &mut [u8], sources: &mut [u32]) -> Reshaped
     ensures { λ r. ⌜ Reshapes (now (table .entry)) (now (shape .entry)) (now (new .entry)) (now (sources .entry)) r (now (new .exit)) (now (sources .exit)) ⌝ }
 {

@@ -124,7 +124,8 @@ pub extern "C" fn silmezga_judge(table: &[u8], shape: &[u8]) -> JudgedNumbers
 }
 
 // Refusals 1 to 8, or the new table and its source list, at the front of what was lent; what lies past them stays as it was. Where the
-// verdict on the same table and shape is 0, what the call leaves keeps the links between records, none missing and none made up.
+// verdict on the same table and shape is 0, what the call leaves keeps the links between records, none missing and none made up. A new table
+// of at most 1,024 lines is a sound source: no call refuses it with 1 to 4.
 #[no_mangle]
 pub extern "C" fn silmezga_reshape(
     table: &[u8],

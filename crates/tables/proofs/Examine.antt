@@ -11,7 +11,7 @@ use borrow.Author.Tests.{lt-ltb, le-ltb, eq-eqb, ne-eqb}
 use Rattle.paper.specs.Format.{Format, mostRows, rowBytes, whole}
 use Rattle.paper.specs.Tables.{Row, rows, badRow}
 use Rattle.paper.specs.Calls.{Answer, refused, given, _>>=_, refuse, refuseAt, Reply, reply, tests1-3, examine, lookUp}
-use Rattle.paper.proofs.Calls.{Past, count-rows, past1-3, pass1-3, bind-past, reply-given, bind-given, passed1-3}
+use Rattle.paper.proofs.Calls.{Past, count-rows, past1-3, pass1-3, examine-given, bind-past, reply-given, bind-given, passed1-3}
 use Rattle.tables.specs.Place.{placeOf}
 
 -- the tests, from what each finds
@@ -63,8 +63,7 @@ unfolding examine
 examine-refused f t k p e = sym (ap told e)
 
 pub examine-accepted : (f : Format) (t : List ℕ) → tests1-3 f t ≡ given (rows f t) → record { number = 0; place = 0; rest = whole (rowBytes f) t } ≡ examine f t
-unfolding examine
-examine-accepted f t e = ap (λ n. record { number = 0; place = 0; rest = n }) (sym (count-rows f t)) ∙ sym (ap told e)
+examine-accepted f t e = ap (λ n. record { number = 0; place = 0; rest = n }) (sym (count-rows f t)) ∙ sym (examine-given f t e)
 
 -- ---- what examining tells of the tests
 tells-refused : (a : Answer (List Row)) → Past 0 a → (told a .number ≡ 0 → ⊥) → a ≡ refused (told a .number) (told a .place)

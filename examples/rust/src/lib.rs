@@ -164,7 +164,8 @@ pub fn judge(table: &[u8], shape: &[u8]) -> Result<Verdict, Refusal> {
 }
 
 /// Reshapes a table: refusals 1 to 8, or the number of lines, which then stand at the front of `new`, and entry x 65,536 + source row of
-/// each at the front of `sources`. What lies past the last line stays as it was.
+/// each at the front of `sources`. What lies past the last line stays as it was. A new table of at most 1,024 lines is a sound source: it
+/// can be reshaped again with no test in between.
 pub fn reshape(table: &[u8], shape: &[u8], new: &mut [u8], sources: &mut [u32]) -> Result<usize, Refusal> {
     let a = unsafe {
         archive::silmezga_reshape(
