@@ -1,2 +1,3 @@
 pub mod Marks
 pub mod Rows
+pub mod Chained
