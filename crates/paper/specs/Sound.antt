@@ -12,7 +12,7 @@ use Rattle.paper.specs.Calls.{given, tests1-4, examine}
 pub record SoundSource (f : Format) (shape new : List ℕ) (n : ℕ) : Type 0 where
   -- examining accepts it, with the count n
   pub examined : examine f new ≡ record { number = 0; place = 0; rest = n }
-  -- it has at most one type for each entry of the shape
+  -- it has at most one type for each entry of the shape, and so at most 64
   pub one-each : length (types (rows f new)) ≤ length (entries f shape)
   -- no call that takes it as its table refuses it with 1 to 4
   pub passes : tests1-4 f new ≡ given (rows f new)
