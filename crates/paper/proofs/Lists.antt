@@ -7,7 +7,7 @@ use mathlib.Core.Logic.{_⊎_, inl, inr, ⊎-elim}
 use mathlib.Core.Bool.{Bool, true, false, _&&_, _||_, true≢false, false≢true}
 use mathlib.Core.List.{List, [], _∷_, _++_, map, append-assoc}
 use lib.Dec.{eqb, leb}
-use lib.ListN.{length, getD, take, length-append}
+use lib.ListN.{length, getD, take, drop, length-append}
 use lib.Seq.{take-at}
 use borrow.Author.Tests.{eqb-true, eq-eqb, leb-true, leb-false}
 use Rattle.paper.specs.Lists.{Has, keep, all, any, lastOr, most, least, joined, joinMap, same, up, count}
@@ -108,6 +108,17 @@ module _ {A : Type 0} where
   has-any p x (z ∷ zs) (inl q) e = or-left (any p zs) (sym (ap p q) ∙ e)
   has-any p x (z ∷ zs) (inr h) e = or-right (p z) (has-any p x zs h e)
 
+  pub take-has : (n : ℕ) (xs : List A) (x : A) → Has x (take n xs) → Has x xs
+  take-has zero xs x h = absurd h
+  take-has (suc n) [] x h = absurd h
+  take-has (suc n) (y ∷ xs) x (inl e) = inl e
+  take-has (suc n) (y ∷ xs) x (inr h) = inr (take-has n xs x h)
+
+  pub drop-has : (n : ℕ) (xs : List A) (x : A) → Has x (drop n xs) → Has x xs
+  drop-has zero xs x h = h
+  drop-has (suc n) [] x h = absurd h
+  drop-has (suc n) (y ∷ xs) x h = inr (drop-has n xs x h)
+
   -- ---- the largest figure
   pub most-has : (f : A → ℕ) (x : A) (xs : List A) → Has x xs → f x ≤ most f xs
   most-has f x [] h = absurd h
@@ -197,6 +208,11 @@ module _ {A B : Type 0} where
   join-has f y [] h = absurd h
   join-has f y (z ∷ zs) h =
       ⊎-elim (λ i. (z, inl refl, i)) (λ i. let r = join-has f y zs i in (r .0, inr (r .1), r .2)) (has-append y (f z) (joinMap f zs) h)
+
+  -- what is equal on each element gives one list
+  pub map-same : (f g : A → B) (xs : List A) → ((x : A) → Has x xs → f x ≡ g x) → map f xs ≡ map g xs
+  map-same f g [] e = refl
+  map-same f g (x ∷ xs) e = ap₂ {C = List B} (λ a l. a ∷ l) (e x (inl refl)) (map-same f g xs (λ y i. e y (inr i)))
 
   pub map-append : (f : A → B) (xs ys : List A) → map f (xs ++ ys) ≡ map f xs ++ map f ys
   map-append f [] ys = refl

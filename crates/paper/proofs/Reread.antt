@@ -18,7 +18,7 @@ use Rattle.paper.specs.Shapes.{Shape, way}
 use Rattle.paper.specs.NewTable.{Line, lines, lineRow, newTable, sourceList, entryUnit}
 use Rattle.paper.specs.Faithful.{Chain, Faithful}
 use Rattle.paper.specs.Links.{newNodes, sourceRow}
-use Rattle.paper.proofs.Lists.{and, has-all, getD-has, has-append, map-has}
+use Rattle.paper.proofs.Lists.{and, has-all, take-has, getD-has, has-append, map-has, map-same}
 use Rattle.paper.proofs.Bytes.{Small, Shaped, length-row, dewey-back, row-back, whole-back, records-back}
 use Rattle.paper.proofs.Tables.{Rules, rules-none}
 use Rattle.paper.proofs.Shapes.{Ways}
@@ -30,12 +30,6 @@ use Rattle.paper.proofs.Written.{lineNodes, lines-chain, line-within, l
 -- ---- padding with zeros
 pub length-padded : (n : ℕ) (d : List ℕ) → length (padded n d) ≡ n
 length-padded n d = omega (arith, length-take n (d ++ replicate n 0), length-append d (replicate n 0), length-replicate {A = ℕ} n 0)
-
-pub take-has : (n : ℕ) (l : List ℕ) (x : ℕ) → Has x (take n l) → Has x l
-take-has zero l x h = absurd h
-take-has (suc n) [] x h = absurd h
-take-has (suc n) (y ∷ l) x (inl e) = inl e
-take-has (suc n) (y ∷ l) x (inr h) = inr (take-has n l x h)
 
 replicate-has : (n x : ℕ) → Has x (replicate n 0) → x ≡ 0
 replicate-has zero x h = absurd h
@@ -93,10 +87,6 @@ chain-rules f row number p (x ∷ xs) each c =
       and k (subst (λ z. follows p z ≡ true) (sym d) (c .0 .1)),
       subst (λ z. Rules (rowKept f) dewey z (map row xs)) (sym d) (chain-rules f row number (number x) xs (λ y h. each y (inr h)) (c .1)),
     )
-
-map-same : {A B : Type 0} (g h : A → B) (xs : List A) → ((x : A) → Has x xs → g x ≡ h x) → map g xs ≡ map h xs
-map-same g h [] e = refl
-map-same {B = B} g h (x ∷ xs) e = ap₂ {C = List B} (λ a l. a ∷ l) (e x (inl refl)) (map-same g h xs (λ y i. e y (inr i)))
 
 -- ---- a table of lines over a source table
 module _ (f : Format) (b : List ℕ) (s : Shape) (w : Ways s) (some : 0 < length (s .ways))

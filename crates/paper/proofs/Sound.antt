@@ -13,9 +13,8 @@ use Rattle.paper.specs.Shapes.{Entry, entries, entryOf, named, shapeOver
 use Rattle.paper.specs.NewTable.{newTable, entryUnit}
 use Rattle.paper.specs.Calls.{Reply, Reshaping, reshape}
 use Rattle.paper.specs.Sound.{SoundSource}
-use Rattle.paper.proofs.Lists.{map-has, last-has}
+use Rattle.paper.proofs.Lists.{take-has, drop-has, map-has, last-has}
 use Rattle.paper.proofs.Bytes.{Small}
-use Rattle.paper.proofs.Reread.{take-has}
 use Rattle.paper.proofs.Calls.{count-rows, pass1-3, examine-given, pass1-4, passed1-4, passed5-6, passed1-7, reshape-past4}
 use Rattle.paper.proofs.Promises.{s, ls, Wrote, reshape-writes, new-left, written-length, written-sound, written-types, format-small}
 
@@ -33,11 +32,6 @@ module _ (m : ℕ) (pos : 0 < m) where
   last-below : (l : List ℕ) → Below m l → lastOr 0 l < m
   last-below [] low = pos
   last-below (x ∷ l) low = low (lastOr 0 (x ∷ l)) (last-has 0 x l)
-
-drop-has : (n : ℕ) (l : List ℕ) (x : ℕ) → Has x (drop n l) → Has x l
-drop-has zero l x h = h
-drop-has (suc n) [] x h = absurd h
-drop-has (suc n) (y ∷ l) x h = inr (drop-has n l x h)
 
 record-below : (m w n : ℕ) (b : List ℕ) → Below m b → (y : List ℕ) → Has y (records w n b) → Below m y
 record-below m w zero b low y h = absurd h

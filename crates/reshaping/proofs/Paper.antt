@@ -14,7 +14,7 @@ use Rattle.paper.specs.Tables.{Row, rows, rowBack}
 use Rattle.paper.specs.Closeness.{Node, nodes, ofKind, closestOf}
 use Rattle.paper.specs.Shapes.{Shape, children}
 use Rattle.paper.specs.NewTable.{Line, forest, tree, beneath, tops, lines, lineRow, newTable, sourceList, entryUnit}
-use Rattle.paper.proofs.Lists.{join-has, map-has, keep-has, count-has, joined-map}
+use Rattle.paper.proofs.Lists.{join-has, map-has, map-same, keep-has, count-has, joined-map}
 use Rattle.paper.proofs.Verdict.{listed-child}
 use Rattle.shapes.specs.Tests.{shapeIn}
 use Rattle.shapes.specs.Shape.{mostLevels, levelOf, labelOf, typeOf, parentOf}
@@ -27,10 +27,6 @@ use Rattle.lines.proofs.Trees.{forest-good, all-good, map-forest}
 use Rattle.reshaping.proofs.Children.{children-are}
 
 -- ---- lists
-map-same : {A B : Type 0} (f g : A → B) (xs : List A) → ((x : A) → Has x xs → f x ≡ g x) → map f xs ≡ map g xs
-map-same f g [] h = refl
-map-same {B = B} f g (x ∷ xs) h = ap₂ {C = List B} (λ y l. y ∷ l) (h x (inl refl)) (map-same f g xs (λ y q. h y (inr q)))
-
 join-same : {A B : Type 0} (f g : A → List B) (xs : List A) → ((x : A) → Has x xs → f x ≡ g x) → joinMap f xs ≡ joinMap g xs
 join-same f g [] h = refl
 join-same {B = B} f g (x ∷ xs) h = ap₂ {C = List B} (λ y l. y ++ l) (h x (inl refl)) (join-same f g xs (λ y q. h y (inr q)))

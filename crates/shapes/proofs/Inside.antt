@@ -2,22 +2,16 @@
 use Prim.Native.Nat.{ℕ, zero, suc, _+_, _<_, pred}
 use native.Mathlib.Omega.{arith}
 use mathlib.Core.Path.{_≡_, refl, sym, _∙_, ap}
-use mathlib.Core.Logic.{inr, ⊎-elim}
-use mathlib.Core.List.{List, [], _∷_}
-use lib.ListN.{length, getD, take, drop, length-take}
+use mathlib.Core.Logic.{⊎-elim}
+use lib.ListN.{length, getD, take, length-take}
 use lib.Seq.{getD-take}
 use Rattle.paper.specs.Lists.{Has, lastOr}
 use Rattle.paper.specs.Closeness.{shared}
 use Rattle.paper.specs.Shapes.{Shape, way, parent, path, side}
-use Rattle.paper.proofs.Lists.{has-append, has-getD}
+use Rattle.paper.proofs.Lists.{has-append, drop-has, has-getD}
 use Rattle.paper.proofs.Shapes.{Ways}
 use Rattle.paper.proofs.Verdict.{last-way}
 use Rattle.shapes.proofs.Places.{last-at}
-
-has-drop : {A : Type 0} (k : ℕ) (x : A) (xs : List A) → Has x (drop k xs) → Has x xs
-has-drop zero x xs h = h
-has-drop (suc k) x [] h = absurd h
-has-drop (suc k) x (y ∷ xs) h = inr (has-drop k x xs h)
 
 module _ (s : Shape) (w : Ways s) (e : ℕ) (lt : e < length (s .ways)) where
   pub way-inside : (k : ℕ) → k < length (way s e) → getD (way s e) k 0 < length (s .ways)
@@ -43,4 +37,4 @@ module _ (s : Shape) (w : Ways s) (e : ℕ) (lt : e < length (s .ways)) where
 
 pub path-inside : (s : Shape) → Ways s → (e f : ℕ) → e < length (s .ways) → f < length (s .ways) → (c : ℕ) → Has c (path s e f) → c < length (s .ways)
 path-inside s w e f le lf c h =
-    ⊎-elim (λ i. has-inside s w e le c (has-drop (shared (way s e) (way s f)) c (way s e) i)) (λ i. has-inside s w f lf c (has-drop (shared (way s f) (way s e)) c (way s f) i)) (has-append c (side s e f) (side s f e) h)
+    ⊎-elim (λ i. has-inside s w e le c (drop-has (shared (way s e) (way s f)) (way s e) c i)) (λ i. has-inside s w f lf c (drop-has (shared (way s f) (way s e)) (way s f) c i)) (has-append c (side s e f) (side s f e) h)

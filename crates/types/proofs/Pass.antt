@@ -11,7 +11,7 @@ use lib.Seq.{take-suc, take-take, take-append-le}
 use Rattle.paper.specs.Lists.{Has, lastOr, place, same, distinct, up, ways}
 use Rattle.paper.specs.Format.{mostTypes}
 use Rattle.paper.specs.Tables.{typeNumber}
-use Rattle.paper.proofs.Lists.{same-eq, eq-same, same-self, has-right, getD-has, up-snoc, last-snoc}
+use Rattle.paper.proofs.Lists.{same-eq, eq-same, same-self, has-right, getD-has, up-snoc, last-snoc, take-has}
 use Rattle.paper.proofs.Tables.{has-distinct, distinct-has, number-at, number-same, length-ways}
 use Rattle.paper.proofs.Adorned.{Once}
 use Rattle.types.proofs.Ways.{before, ways-at, closed, way-whole}
@@ -75,12 +75,6 @@ module _ (xs : List (ℕ × ℕ)) where
   -- ---- what has been seen
   pub seen-all : (i : ℕ) (u : List ℕ) → Has u (seen i) → Has u (take i (ways [] xs))
   seen-all i u h = distinct-has u (take i (ways [] xs)) h
-
-  pub take-has : (i : ℕ) (l : List (List ℕ)) (u : List ℕ) → Has u (take i l) → Has u l
-  take-has zero l u h = absurd h
-  take-has (suc i) [] u h = absurd h
-  take-has (suc i) (x ∷ l) u (inl e) = inl e
-  take-has (suc i) (x ∷ l) u (inr h) = inr (take-has i l u h)
 
   -- nothing, or something seen
   abbrev pub Known : ℕ → List ℕ → Type 0
