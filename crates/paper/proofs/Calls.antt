@@ -142,7 +142,8 @@ passed5-6 f b es h =
     let (u, h₁, k₁) = bind-given (refuse 5 lengths) _ es h in
     let (v, h₂, k₂) = bind-given (refuseAt 6 (badEntry f (entries f b))) _ es k₁ in
     let e = given-same (entries f b) es k₂ in
-    let (z, over, m) = neither (eqb (length b) 0) (ltb (mostEntries * entryBytes f) (length b)) (eqb (length b % entryBytes f) 0) (refuse-given 5 lengths u h₁) in (
+    let passed = refuse-given 5 lengths u h₁ in
+    let (z, over, m) = neither (eqb (length b) 0) (ltb (mostEntries * entryBytes f) (length b)) (eqb (length b % entryBytes f) 0) passed in (
       e,
       subst (λ r. badEntry f r ≡ none) e (refuseAt-given 6 (badEntry f (entries f b)) v h₂),
       subst (λ r. 0 < length r) e (some-entry (eqb-false (length b) 0 z) (eqb-true (length b % entryBytes f) 0 m)),

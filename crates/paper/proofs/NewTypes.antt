@@ -92,7 +92,8 @@ module _ (t : List Node) (place : (x y : Node) → Has x t → Has y t → x .pl
   from-line x [] hx within c = tt
   from-line x (y ∷ ys) hx within c =
       let hy = within y (inl refl) in
-      let deep : pred (length (y .dewey)) ≤ shared (entries x) (entries y) = omega (arith, follows-meet (x .dewey) (y .dewey) (c .0), meet-ways t place s w new source fa x y hx hy) in (
+      let meets = follows-meet (x .dewey) (y .dewey) (c .0) in
+      let deep : pred (length (y .dewey)) ≤ shared (entries x) (entries y) = omega (arith, meets, meet-ways t place s w new source fa x y hx hy) in (
         sym (line-level t place s w new source fa y hy),
         follows-lt (x .dewey) (y .dewey) (c .0) .2,
         sym (agree-take (pred (length (y .dewey))) (entries x) (entries y) (shared→agree (pred (length (y .dewey))) (entries x) (entries y) deep)),

@@ -48,8 +48,9 @@ unfolding shapeOver entries entryOf
 labels-below f ts sb low x h =
     let (e, he, q) = map-has (λ (e : Entry). lastOr 0 (named e)) x (entries f sb) h in
     let (y, hy, ey) = map-has (entryOf f) e (records (entryBytes f) (whole (entryBytes f) sb) sb) he in
+    let labels = words (f .levels) y headBytes in
     let each = words-below (f .levels) y headBytes (record-below radix (entryBytes f) (whole (entryBytes f) sb) sb low y hy) in
-    let last = last-below (radix * radix) (omega arith) (take (byte y 1) (words (f .levels) y headBytes)) (λ z i. each z (take-has (byte y 1) (words (f .levels) y headBytes) z i)) in
+    let last = last-below (radix * radix) (omega arith) (take (byte y 1) labels) (λ z i. each z (take-has (byte y 1) labels z i)) in
     subst (λ z. z < radix * radix) (sym (q ∙ ap (λ (e : Entry). lastOr 0 (named e)) ey)) last
 
 -- ---- the theorem

@@ -37,4 +37,5 @@ module _ (s : Shape) (w : Ways s) (e : ℕ) (lt : e < length (s .ways)) where
 
 pub path-inside : (s : Shape) → Ways s → (e f : ℕ) → e < length (s .ways) → f < length (s .ways) → (c : ℕ) → Has c (path s e f) → c < length (s .ways)
 path-inside s w e f le lf c h =
-    ⊎-elim (λ i. has-inside s w e le c (drop-has (shared (way s e) (way s f)) (way s e) c i)) (λ i. has-inside s w f lf c (drop-has (shared (way s f) (way s e)) (way s f) c i)) (has-append c (side s e f) (side s f e) h)
+    ⊎-elim (λ i. has-inside s w e le c (drop-has (shared (way s e) (way s f)) (way s e) c i))
+    (λ i. has-inside s w f lf c (drop-has (shared (way s f) (way s e)) (way s f) c i)) (has-append c (side s e f) (side s f e) h)
