@@ -5,7 +5,7 @@ use native.Mathlib.Omega.{arith}
 use mathlib.Core.Path.{_≡_, sym, ap, subst}
 use mathlib.Core.Logic.{_⊎_}
 use mathlib.Core.List.{List}
-use lib.ListN.{length, take, length-take}
+use lib.ListN.{take, length-take}
 use Rattle.paper.specs.Format.{base, rowBytes}
 use Rattle.paper.specs.Tables.{rows}
 use Rattle.paper.specs.Calls.{Reply, given, tests1-4}

@@ -8,7 +8,7 @@ use Rattle.paper.specs.Tables.{rows, types}
 use Rattle.paper.specs.Shapes.{entries}
 use Rattle.paper.specs.Calls.{given, tests1-4, examine}
 
--- A table of n lines that a reshape to a shape wrote is a sound source.
+-- What it is for a table of n lines, written by a reshape to a shape, to be a sound source.
 pub record SoundSource (f : Format) (shape new : List ℕ) (n : ℕ) : Type 0 where
   -- examining accepts it, with the count n
   pub examined : examine f new ≡ record { number = 0; place = 0; rest = n }

@@ -11,7 +11,7 @@ use Rattle.paper.specs.Format.{base, rowBytes}
 use Rattle.paper.specs.Tables.{rows, types}
 use Rattle.paper.specs.Shapes.{entries}
 use Rattle.paper.specs.Verdict.{Verdict, kept, missing, apart, unsure}
-use Rattle.paper.specs.Calls.{examine, judge, reshape}
+use Rattle.paper.specs.Calls.{examine, judge, reshape, Reshaping}
 use Rattle.paper.specs.Links.{shownPairs, sourcePairs}
 use Rattle.paper.specs.Samples.{row, table, entry, A, table7, table8, table10, portfolio, lessee, lease, asset}
 use Rattle.paper.specs.Opened.{opened}
@@ -36,13 +36,17 @@ linksHold b sb new sources =
     let wanted = sourcePairs base b sb e g in
     all (λ p. among p wanted) shown && all (λ p. among p shown) wanted) es) es
 
+-- a reshape with room for twelve lines
+abbrev roomy : List ℕ × List ℕ → Reshaping
+roomy c = reshape base (c .0) (c .1) (replicate (12 * rowBytes base) 0) (replicate 12 0)
+
 -- where the verdict is 0, a reshape with room is accepted and keeps the links
 pub holds : List ℕ × List ℕ → Bool
 unfolding opened linksHold
 holds c =
     let b = c .0 in
     let sb = c .1 in
-    let r = reshape base b sb (replicate (12 * rowBytes base) 0) (replicate 12 0) in
+    let r = roomy c in
     let n = r .reply .rest in
     not (isKept (judge base b sb .rest)) || (eqb (r .reply .number) 0 && linksHold b sb (take (n * rowBytes base) (r .table)) (take n (r .sources)))
 
@@ -73,11 +77,11 @@ cases =
 pub sound : List ℕ × List ℕ → Bool
 unfolding opened
 sound c =
-    let sb = c .1 in
-    let r = reshape base (c .0) sb (replicate (12 * rowBytes base) 0) (replicate 12 0) .reply in
-    let new = take (r .rest * rowBytes base) (reshape base (c .0) sb (replicate (12 * rowBytes base) 0) (replicate 12 0) .table) in
+    let r = roomy c in
+    let n = r .reply .rest in
+    let new = take (n * rowBytes base) (r .table) in
     let x = examine base new in
-    eqb (r .number) 0 && eqb (x .number) 0 && eqb (x .rest) (r .rest) && leb (length (types (rows base new))) (length (entries base sb))
+    eqb (r .reply .number) 0 && eqb (x .number) 0 && eqb (x .rest) n && leb (length (types (rows base new))) (length (entries base (c .1)))
 
 pub sound-tried : all sound cases ≡ true
 unfolding opened sound later cases row table entry A table7 table8 table10 portfolio lessee lease asset

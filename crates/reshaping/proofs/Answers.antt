@@ -39,7 +39,7 @@ module _ {t s : List ℕ} {w : Work.Work} (p : Prepared t s w) where
       sources = after sources (a >>= (λ (x : List ℕ × List ℕ). given (x .1)));
     }
 
-    -- what is written; and the test after 7 before it
+    -- what is written of the lines, and before it the test after 7
     abbrev written : List Line → Answer (List ℕ × List ℕ)
     written l = given (newTable base sh (rows base t) l, sourceList l)
 
