@@ -20,5 +20,6 @@ pub mod NewTypes
 pub mod Calls
 pub mod Reread
 pub mod Promises
+pub mod MadeUp
 pub mod Sound
 pub mod Needed

@@ -7,17 +7,17 @@ use mathlib.Core.List.{List, [], _∷_, _++_}
 use lib.ListN.{length, getD, take, drop, length-take, drop-of-length-le}
 use lib.Seq.{take-all, take-take, take-length, take-suc, drop-cons}
 use Rattle.paper.specs.Lists.{Has, lastOr, up}
-use Rattle.paper.specs.Closeness.{Node, ofKind, closestOf, shared, meet}
+use Rattle.paper.specs.Closeness.{Node, closestOf, shared, meet}
 use Rattle.paper.specs.Shapes.{Shape, kind, way, parent}
-use Rattle.paper.specs.Verdict.{alone, partners, isEmpty}
+use Rattle.paper.specs.Verdict.{alone}
 use Rattle.paper.specs.Faithful.{Faithful}
-use Rattle.paper.proofs.Lists.{snoc-inj, keep-has, in-some}
+use Rattle.paper.proofs.Lists.{snoc-inj, in-some}
 use Rattle.paper.proofs.Agree.{Agree, agree-take, agree-length, agree-sym, shared→agree, agree→shared, take-agree}
 use Rattle.paper.proofs.Forest.{prefix, one-node}
-use Rattle.paper.proofs.Closeness.{Near, kind-of, of-kind, closest-near, near-sym, near-closestOf}
+use Rattle.paper.proofs.Closeness.{Near, of-kind, closest-near, near-sym, near-closestOf}
 use Rattle.paper.proofs.Chains.{Down, climb}
 use Rattle.paper.proofs.Shapes.{Ways}
-use Rattle.paper.proofs.Verdict.{Inside, inside, In, L, ag, NoneAlone, partnered, last-way, way-zero, child-parent, child-listed, listed-child}
+use Rattle.paper.proofs.Verdict.{Inside, inside, In, L, ag, NoneAlone, partnered, last-way, way-zero, child-parent, child-listed, listed-child, alone-of}
 
 module _ (t : List Node) (place : (x y : Node) → Has x t → Has y t → x .place ≡ y .place → x ≡ y)
     (s : Shape) (w : Ways s) (new : List Node) (source : Node → ℕ) (fa : Faithful t s new source) where
@@ -186,10 +186,8 @@ module _ (t : List Node) (place : (x y : Node) → Has x t → Has y t → x .pl
 
   -- A row of an entry's type that has no partner stands in no line of that entry.
   pub alone-unshown : (e : ℕ) (r : Node) → 0 < e → Has r (alone t s e) → (x : Node) → Has x new → x .kind ≡ e → source x ≡ r .place → ⊥
-  unfolding alone partners
   alone-unshown e r pos h x hx ke sx =
-      let (hr, empty) = keep-has (λ r. isEmpty (closestOf t r (kind s (parent s e)))) r (ofKind t (kind s e)) h in
-      let ir : In s w t e r = kind-of t (kind s e) r hr in
+      let (ir, empty) = alone-of s t e r h in
       let le : e < length (s .ways) = subst (λ z. z < length (s .ways)) ke (line-entry x hx) in
       let sr : Shows x r = (subst (λ z. In s w t z r) (sym ke) ir, sym sx) in
       let (z, p, hz, sp, dz, wx, near) = line-parent (pred (length (x .dewey))) x r hx sr (omega (arith, long le)) (omega (arith, long le)) in

@@ -29,6 +29,26 @@ pub record Source (t : List Node) : Type 0 where
   pub one-level : (x y : Node) → Has x t → Has y t → x .kind ≡ y .kind → length (x .dewey) ≡ length (y .dewey)
   pub some-level : (x : Node) → Has x t → 0 < length (x .dewey)
 
+abbrev pub places : Node × Node → ℕ × ℕ
+places p = (p .0 .place, p .1 .place)
+
+-- closest nodes at two places are a closest pair of places
+pub near-places : (t : List Node) (j k : ℕ) (r q : Node) (a b : ℕ) → Of t j r → Of t k q → r .place ≡ a → q .place ≡ b → Near t j k r q
+    → Has (a, b) (map places (closestPairs t j k))
+near-places t j k r q a b or oq ea eb n =
+    subst (λ z. Has z (map places (closestPairs t j k))) (ap₂ {C = ℕ × ℕ} (λ c d. (c, d)) ea eb)
+    (has-map places (r, q) (closestPairs t j k) (near-pairs t j k r q or oq n))
+
+-- what holds of one number before another, of the two turned round, and of a number beside itself, holds of any two
+pub any-order : (P : ℕ → ℕ → Type 0) (n : ℕ) → ((e f : ℕ) → e < f → f < n → P e f) → ((e f : ℕ) → P e f → P f e) → ((e : ℕ) → e < n → P e e)
+    → (e f : ℕ) → e < n → f < n → P e f
+any-order P n before flip beside e f le lf = go (leb e f) (leb f e) refl refl
+  where
+    go : (a b : Bool) → leb e f ≡ a → leb f e ≡ b → P e f
+    go true true p q = let z : e ≡ f = omega (arith, leb-true e f p, leb-true f e q) in subst (λ c. P e c) z (beside e le)
+    go a false p q = before e f (leb-false f e q) lf
+    go false true p q = flip f e (before f e (leb-false e f p) le)
+
 module _ (t : List Node) (so : Source t) (s : Shape) (w : Ways s) (new : List Node) (source : Node → ℕ) (fa : Faithful t s new source)
     (ok : verdict t s ≡ kept) where
   abbrev Shown : Node → Node → Type 0
@@ -98,19 +118,10 @@ module _ (t : List Node) (so : Source t) (s : Shape) (w : Ways s) (new : List No
           )
 
   any-two : (e f : ℕ) → e < length (s .ways) → f < length (s .ways) → Both e f
-  any-two e f le lf = go (leb e f) (leb f e) refl refl
-    where
-      go : (a b : Bool) → leb e f ≡ a → leb f e ≡ b → Both e f
-      go true true p q =
-          let z : e ≡ f = omega (arith, leb-true e f p, leb-true f e q) in subst (λ c. Both e c) z (beside e le)
-      go a false p q = before e f (leb-false f e q) lf
-      go false true p q = flip f e (before f e (leb-false e f p) le)
+  any-two = any-order Both (length (s .ways)) before flip beside
 
   abbrev pub shown : Node × Node → ℕ × ℕ
   shown p = (source (p .0), source (p .1))
-
-  abbrev pub places : Node × Node → ℕ × ℕ
-  places p = (p .0 .place, p .1 .place)
 
   -- DEMAND 3. For any two entries of the shape, the pairs of source rows read off the closest pairs of new lines are exactly
   -- the closest pairs of source rows of those two types.
@@ -127,8 +138,8 @@ module _ (t : List Node) (so : Source t) (s : Shape) (w : Ways s) (new : List No
           let near = any-two e f le lf .0 x y r p ox oy n sr sp in
           let ir : In s w t e r = subst (λ c. In s w t c r) (ox .1) (sr .0) in
           let ip : In s w t f p = subst (λ c. In s w t c p) (oy .1) (sp .0) in
-          subst (λ z. Has z (map places (closestPairs t (kind s e) (kind s f)))) (ap₂ {C = ℕ × ℕ} (λ c d. (c, d)) (sr .1) (sp .1) ∙ sym q)
-          (has-map places (r, p) (closestPairs t (kind s e) (kind s f)) (near-pairs t (kind s e) (kind s f) r p ir ip near))
+          subst (λ z. Has z (map places (closestPairs t (kind s e) (kind s f)))) (sym q)
+          (near-places t (kind s e) (kind s f) r p (source x) (source y) ir ip (sr .1) (sp .1) near)
 
       from : Has (a, b) (map places (closestPairs t (kind s e) (kind s f))) → Has (a, b) (map shown (closestPairs new e f))
       from h =

@@ -4,7 +4,7 @@ use native.Mathlib.Nat.{not-suc-le-zero, le-of-suc-le-suc}
 use native.Mathlib.Omega.{arith}
 use mathlib.Core.Path.{_≡_, refl, sym, _∙_, ap, ap₂, subst}
 use mathlib.Core.Logic.{_⊎_, inl, inr, ⊎-elim}
-use mathlib.Core.Bool.{Bool, true, false, _&&_, _||_, true≢false, false≢true}
+use mathlib.Core.Bool.{Bool, true, false, _&&_, _||_, not, true≢false, false≢true}
 use mathlib.Core.List.{List, [], _∷_, _++_, map, append-assoc}
 use lib.Dec.{eqb, leb}
 use lib.ListN.{length, getD, take, drop, length-append}
@@ -107,6 +107,13 @@ module _ {A : Type 0} where
   has-any p x [] h e = absurd h
   has-any p x (z ∷ zs) (inl q) e = or-left (any p zs) (sym (ap p q) ∙ e)
   has-any p x (z ∷ zs) (inr h) e = or-right (p z) (has-any p x zs h e)
+
+  pub none-any : (p : A → Bool) (xs : List A) → ((x : A) → Has x xs → p x ≡ true → ⊥) → not (any p xs) ≡ true
+  none-any p xs none = go (any p xs) refl
+    where
+      go : (b : Bool) → any p xs ≡ b → not b ≡ true
+      go true e = let (x, h, q) = any-has p xs e in absurd (none x h q)
+      go false e = refl
 
   pub take-has : (n : ℕ) (xs : List A) (x : A) → Has x (take n xs) → Has x xs
   take-has zero xs x h = absurd h

@@ -1,5 +1,6 @@
 -- The theorems over bytes: what is kept, what is never made up, and what a reshape writes. Assumes nothing.
-use Prim.Native.Nat.{ℕ, _+_, _*_, _-_, _≤_, _<_}
+use Prim.Native.Nat.{ℕ, _+_, _*_, _-_, _/_, _≤_, _<_}
+use native.Mathlib.Nat.{mul-div-cancel}
 use native.Mathlib.Omega.{arith}
 use mathlib.Core.Path.{_≡_, sym, _∙_, ap, ap₂, subst, subst₂}
 use mathlib.Core.Bool.{true}
@@ -15,10 +16,11 @@ use Rattle.paper.specs.Tables.{Row, rows, dewey, badRow, rowTypes, types
 use Rattle.paper.specs.Closeness.{Node, nodes, shared, closest}
 use Rattle.paper.specs.Shapes.{Entry, Shape, entries, entryOf, named, entryKept, badEntry, shapeOver, kind, way, fork}
 use Rattle.paper.specs.NewTable.{Line, lines, lineRow, newTable, sourceList, entryUnit}
-use Rattle.paper.specs.Verdict.{Verdict, kept, missing, verdict, meetsLeast, sure, alone}
-use Rattle.paper.specs.Calls.{Answer, given, _>>=_, reply, Work, Reshaping, tests1-7, judge, reshape, reshaping, roomIn, after}
+use Rattle.paper.specs.Verdict.{Verdict, Judgement, kept, missing, verdict, judgement, meetsLeast, sure, alone}
+use Rattle.paper.specs.Calls.{given, _>>=_, reply, noJudgement, Work, Reshaping, tests1-7, judge, reshape, reshaping, roomIn, after}
 use Rattle.paper.specs.Links.{newNodes, sourceRow, shownPairs, sourcePairs, LinksKept}
-use Rattle.paper.specs.Faithful.{Faithful, Under}
+use Rattle.paper.specs.Faithful.{Faithful}
+use Rattle.paper.specs.MadeUp.{Under}
 use Rattle.paper.proofs.Lists.{both, getD-has, map-has}
 use Rattle.paper.proofs.Agree.{Agree, agree-take, take-agree, shared-length}
 use Rattle.paper.proofs.Closeness.{closest-near, near-closest}
@@ -31,7 +33,8 @@ use Rattle.paper.proofs.Demand3.{together-pos, fork-way, fork-in, made-
 use Rattle.paper.proofs.Links.{Source, links}
 use Rattle.paper.proofs.Bytes.{Small}
 use Rattle.paper.proofs.Reread
-use Rattle.paper.proofs.Calls.{passed1-3, passed5-6, passed1-7, few-rows, passed8, bind-given, bind-past, reply-given, given-same, passed-reshaping, numbered-reshaping}
+use Rattle.paper.proofs.Calls.{passed1-3, passed5-6, passed1-7, count-rows, few-rows, passed8}
+use Rattle.paper.proofs.Calls.{bind-given, bind-past, reply-given, given-same, passed-reshaping, numbered-reshaping}
 
 -- A table and a shape past the tests 1 to 7.
 module _ (f : Format) (b sb : List ℕ) (w : Work) (passed : tests1-7 f b sb ≡ given w) where
@@ -47,10 +50,10 @@ module _ (f : Format) (b sb : List ℕ) (w : Work) (passed : tests1-7 f b sb ≡
   sound : badRow f rs ≡ none
   sound = passed1-3 f b rs (passed1-7 f b sb w passed .0) .1
 
-  few : length rs ≤ mostRows
+  pub few : length rs ≤ mostRows
   few = few-rows f b (passed1-3 f b rs (passed1-7 f b sb w passed .0) .2)
 
-  numbered : (x : Node) → Has x t → x .place < length rs
+  pub numbered : (x : Node) → Has x t → x .place < length rs
   unfolding nodes
   numbered x h =
       omega (
@@ -183,6 +186,9 @@ module _ (f : Format) (b sb : List ℕ) (w : Work) (passed : tests1-7 f b sb ≡
   pub written-length : length ls < entryUnit → length (newTable f s rs ls) ≡ length ls * rowBytes f
   written-length = Reread.length-new f b s ways some-entry (source-table .one-place) numbered (omega (arith, few)) levels
 
+  pub written-rows : length ls < entryUnit → length (rows f (newTable f s rs ls)) ≡ length ls
+  written-rows room = count-rows f (newTable f s rs ls) ∙ ap (λ n. n / rowBytes f) (written-length room) ∙ mul-div-cancel (length ls) (omega arith)
+
   -- ---- read again, where the last labels of the entries are of 16 bits
   module _ (room : length ls < entryUnit) (label-small : (e : ℕ) → e < length (s .ways) → Small (getD (s .labels) e 0)) where
     -- The bytes of a written table keep the row rules.
@@ -202,16 +208,17 @@ module _ (f : Format) (b sb : List ℕ) (w : Work) (passed : tests1-7 f b sb ≡
       let label = getD (s .labels) e 0 in
       omega (arith, leb-true label (f .labels) (both (leb 1 label) (leb label (f .labels)) (labels e le) .1))
 
-  -- the verdict of judging is that of the table's nodes and the shape
-  pub judged-kept : judge f b sb .rest ≡ kept → verdict t s ≡ kept
+  -- what judging says is what is said of the table's nodes and the shape
+  pub judged : judge f b sb .rest ≡ judgement t s
   unfolding judge
-  judged-kept v =
-      let a : Answer Verdict = tests1-7 f b sb >>= (λ (w : Work). given (verdict (w .nodes) (w .shape))) in
-      let q : reply kept a .rest ≡ verdict (w .nodes) (w .shape) =
-      ap (λ a. reply kept (a >>= (λ (w : Work). given (verdict (w .nodes) (w .shape)))) .rest) passed in
-      ap (λ (w : Work). verdict (w .nodes) (w .shape)) (sym (passed1-7 f b sb w passed .2)) ∙ sym q ∙ v
+  judged =
+      ap (λ a. reply noJudgement (a >>= (λ (w : Work). given (judgement (w .nodes) (w .shape)))) .rest) passed
+      ∙ ap (λ (w : Work). judgement (w .nodes) (w .shape)) (passed1-7 f b sb w passed .2)
 
-source-length : (l : List Line) → length (sourceList l) ≡ length l
+  pub judged-verdict : {v : Verdict} → judge f b sb .rest .verdict ≡ v → verdict t s ≡ v
+  judged-verdict e = ap (λ (j : Judgement). j .verdict) (sym judged) ∙ e
+
+pub source-length : (l : List Line) → length (sourceList l) ≡ length l
 unfolding sourceList
 source-length l = length-map l (λ (l : Line). l .entry * entryUnit + l .source .place)
 
@@ -264,17 +271,23 @@ module _ (f : Format) (b sb table sources : List ℕ) where
       ap₂ (λ n z. take (n * rowBytes f) z) (o .count) (o .lent)
       ∙ take-at new (drop (length new) table) (length l * rowBytes f) (written-length f b sb (o .work) (o .passed) (omega (arith, o .room)))
 
+  -- the first places are the source list
+  pub sources-left : (o : Wrote) → take (r .reply .rest) (r .sources) ≡ sourceList (ls f b sb (o .work) (o .passed))
+  sources-left o =
+      let l = ls f b sb (o .work) (o .passed) in
+      ap₂ (λ n z. take n z) (o .count) (o .places) ∙ take-at (sourceList l) (drop (length (sourceList l)) sources) (length l) (source-length l)
+
+  -- the lent bytes and places at exit, as far as they are written, are faithful
+  pub reshape-faithful : (o : Wrote) → Faithful (t f b sb (o .work) (o .passed)) (s f b sb (o .work) (o .passed))
+      (newNodes f (take (r .reply .rest * rowBytes f) (r .table)) (take (r .reply .rest) (r .sources))) (sourceRow (take (r .reply .rest) (r .sources)))
+  reshape-faithful o =
+      subst₂ (λ x y. Faithful (t f b sb (o .work) (o .passed)) (s f b sb (o .work) (o .passed)) (newNodes f x y) (sourceRow y))
+      (sym (new-left o)) (sym (sources-left o)) (written-faithful f b sb (o .work) (o .passed) (omega (arith, o .room)))
+
   -- DEMAND 3 of a reshape: where it is accepted and the verdict is 0, the lent bytes and places at exit keep the links.
-  pub reshape-links : r .reply .number ≡ 0 → judge f b sb .rest ≡ kept
+  pub reshape-links : r .reply .number ≡ 0 → judge f b sb .rest .verdict ≡ kept
       → LinksKept f b sb (take (r .reply .rest * rowBytes f) (r .table)) (take (r .reply .rest) (r .sources))
   reshape-links e v =
       let o = reshape-writes e in
-      let w = o .work in
-      let h = o .passed in
-      let l = ls f b sb w h in
-      let new = newTable f (s f b sb w h) (rows f b) l in
-      let room : length l < entryUnit = omega (arith, o .room) in
-      let es : take (r .reply .rest) (r .sources) ≡ sourceList l =
-      ap₂ (λ n z. take n z) (o .count) (o .places) ∙ take-at (sourceList l) (drop (length (sourceList l)) sources) (length l) (source-length l) in
-      subst₂ (λ x y. LinksKept f b sb x y) (sym (new-left o)) (sym es)
-      (faithful-links f b sb w h new (sourceList l) (written-faithful f b sb w h room) (judged-kept f b sb w h v))
+      faithful-links f b sb (o .work) (o .passed) (take (r .reply .rest * rowBytes f) (r .table)) (take (r .reply .rest) (r .sources))
+      (reshape-faithful o) (judged-verdict f b sb (o .work) (o .passed) v)

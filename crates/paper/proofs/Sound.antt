@@ -1,6 +1,6 @@
 -- A reshaped table of at most 1,024 lines is a sound source. Assumes nothing.
 use Prim.Native.Nat.{ℕ, zero, suc, _*_, _/_, _%_, _≤_, _<_}
-use native.Mathlib.Nat.{mul-div-cancel, mul-mod-left, mul-le-mul-right, div-mul-le-self}
+use native.Mathlib.Nat.{mul-mod-left, mul-le-mul-right, div-mul-le-self}
 use native.Mathlib.Omega.{arith}
 use mathlib.Core.Path.{_≡_, refl, sym, _∙_, ap, subst}
 use mathlib.Core.Logic.{_⊎_, inl, inr}
@@ -16,7 +16,7 @@ use Rattle.paper.specs.Sound.{SoundSource}
 use Rattle.paper.proofs.Lists.{take-has, drop-has, map-has, last-has}
 use Rattle.paper.proofs.Bytes.{Small}
 use Rattle.paper.proofs.Calls.{count-rows, pass1-3, examine-given, pass1-4, passed1-4, passed5-6, passed1-7, reshape-past4}
-use Rattle.paper.proofs.Promises.{s, ls, Wrote, reshape-writes, new-left, written-length, written-sound, written-types, format-small}
+use Rattle.paper.proofs.Promises.{s, ls, Wrote, reshape-writes, new-left, written-length, written-rows, written-sound, written-types, format-small}
 
 -- ---- labels that are read from bytes are of 16 bits
 -- every number of the list is below m
@@ -69,8 +69,7 @@ module _ (f : Format) (b sb table sources : List ℕ) where
       let new = newTable f (s f b sb w h) (rows f b) l in
       let room : length l < entryUnit = omega (arith, o .room) in
       let long = written-length f b sb w h room in
-      let counted : length (rows f new) ≡ r .reply .rest =
-      count-rows f new ∙ ap (λ n. n / rowBytes f) long ∙ mul-div-cancel (length l) (omega arith) ∙ sym (o .count) in
+      let counted : length (rows f new) ≡ r .reply .rest = written-rows f b sb w h room ∙ sym (o .count) in
       let short : length new ≤ mostRows * rowBytes f =
       subst (λ n. n ≤ mostRows * rowBytes f) (sym long) (mul-le-mul-right (rowBytes f) (omega (arith, o .count))) in
       let whole-rows : length new % rowBytes f ≡ 0 = ap (λ n. n % rowBytes f) long ∙ mul-mod-left (length l) (rowBytes f) in

@@ -10,13 +10,15 @@ use lib.Dec.{eqb, leb}
 use lib.ListN.{length, take, drop, length-append}
 use lib.Seq.{take-append-add}
 use borrow.Author.Tests.{eqb-true, leb-true, not-true}
-use Rattle.paper.specs.Lists.{Has, all, firstOr, lastOr, joinMap, same, up, count}
+use Rattle.paper.specs.Lists.{Has, all, any, firstOr, lastOr, joinMap, same, up, count}
 use Rattle.paper.specs.Closeness.{Node, ofKind, kindsMeet, closestOf}
 use Rattle.paper.specs.Shapes.{Shape, numbers, kind, way, parent, children}
-use Rattle.paper.specs.Verdict.{Verdict, kept, missing, apart, unsure, isEmpty, overPairs, meeting, partners, alone, full, edgeLevel, sureDown, meetsLeast, sure, lone, pairFault, verdict}
-use Rattle.paper.proofs.Lists.{both, either, same-eq, eq-same, keep-has, has-keep, all-has, has-left, has-right, has-append, has-map, map-has, has-join, join-has, some-in, last-snoc, up-snoc, snoc-inj, has-count, count-has}
+use Rattle.paper.specs.Verdict.{Verdict, kept, missing, apart, unsure, isApart, isEmpty, overPairs}
+use Rattle.paper.specs.Verdict.{meeting, partners, alone, full, edgeLevel, sureDown, meetsLeast, sure, lone, pairFault, verdict, noneApart}
+use Rattle.paper.proofs.Lists.{both, either, same-eq, eq-same, keep-has, has-keep, all-has, has-any, has-left, has-right, has-append, has-map, map-has}
+use Rattle.paper.proofs.Lists.{has-join, join-has, some-in, last-snoc, up-snoc, snoc-inj, has-count, count-has}
 use Rattle.paper.proofs.Agree.{Agree}
-use Rattle.paper.proofs.Closeness.{Of, Near, near-sym, of-kind, closestOf-near}
+use Rattle.paper.proofs.Closeness.{Of, Near, near-sym, kind-of, of-kind, closestOf-near}
 use Rattle.paper.proofs.Chains.{AtLeast, Partnered, Full, Sure}
 use Rattle.paper.proofs.Shapes.{Ways}
 
@@ -180,6 +182,13 @@ has-overPairs g x i (suc n) e f ie ef fn h = go (leb e i) refl (λ l. has-overPa
     go false q ih = has-right x (joinMap (g i) (count (suc i) n)) (overPairs g (count (suc i) n)) (ih (borrow.Author.Tests.leb-false e i q))
 
 module _ (s : Shape) (t : List Node) where
+  -- a row without a partner is one of the entry's type, and no row of the parent entry's type is closest to it
+  pub alone-of : (e : ℕ) (r : Node) → Has r (alone t s e) → Of t (kind s e) r × (isEmpty (closestOf t r (kind s (parent s e))) ≡ true)
+  unfolding alone partners
+  alone-of e r h =
+      let (hr, empty) = keep-has (λ r. isEmpty (closestOf t r (kind s (parent s e)))) r (ofKind t (kind s e)) h in
+      (kind-of t (kind s e) r hr, empty)
+
   -- what earns a 1, and what earns a 2 or a 3
   lone-has : (x : Verdict) → Has x (lone t s) → (e : ℕ) × (0 < e) × (e < length (s .ways)) × (r : Node) × Has r (alone t s e) × (x ≡ missing e (r .place))
   unfolding lone
@@ -225,6 +234,27 @@ module _ (s : Shape) (t : List Node) where
       go true false none = absurd (none (unsure e f) (inl refl))
       go false b none = absurd (none (apart e f) (inl refl))
 
+  -- what a pair earns is one of what the pairs earn
+  pairs-has : (x : Verdict) (e f : ℕ) → e < f → f < length (s .ways) → Has x (pairFault t s e f) → Has x (overPairs (pairFault t s) (numbers s))
+  pairs-has x e f ef lf = has-overPairs (pairFault t s) x 0 (length (s .ways)) e f (omega arith) ef (omega arith)
+
+  -- a pair that earns no 2 meets at the least level on its path
+  pair-least : (e f : ℕ) → (Has (apart e f) (pairFault t s e f) → ⊥) → meetsLeast t s e f ≡ true
+  unfolding pairFault
+  pair-least e f none = go (meetsLeast t s e f) none
+    where
+      go : (a : Bool) → (Has (apart e f) (elim a [ false ↦ apart e f ∷ [] | true ↦ elim (sure t s e f) [ true ↦ [] | false ↦ unsure e f ∷ [] ] ]) → ⊥)
+          → a ≡ true
+      go true none = refl
+      go false none = absurd (none (inl refl))
+
+  -- The second answer is yes: each pair meets so.
+  pub none-apart : noneApart t s ≡ true → (e f : ℕ) → e < f → f < length (s .ways) → meetsLeast t s e f ≡ true
+  unfolding noneApart
+  none-apart ok e f ef lf =
+      let pairs = overPairs (pairFault t s) (numbers s) in
+      pair-least e f (λ h. false≢true (sym (not-true (any isApart pairs) ok) ∙ has-any isApart (apart e f) pairs (pairs-has (apart e f) e f ef lf h) refl))
+
   none-kept : (x : Verdict) → Has x (lone t s ++ overPairs (pairFault t s) (numbers s)) → x ≡ kept → ⊥
   none-kept x h e =
       ⊎-elim (λ i. let (c, lo, hi, r, hr, q) = lone-has x i in not-missing c (r .place) (sym q ∙ e))
@@ -244,8 +274,7 @@ module _ (s : Shape) (t : List Node) where
 
     pub kept-pairs : (e f : ℕ) → e < f → f < length (s .ways) → (meetsLeast t s e f ≡ true) × (sure t s e f ≡ true)
     kept-pairs e f ef lf =
-        pair-fault e f (λ x h. none x (has-right x (lone t s) (overPairs (pairFault t s) (numbers s))
-        (has-overPairs (pairFault t s) x 0 (length (s .ways)) e f (omega arith) ef (omega arith) h)))
+        pair-fault e f (λ x h. none x (has-right x (lone t s) (overPairs (pairFault t s) (numbers s)) (pairs-has x e f ef lf h)))
 
   -- Verdict 1 names an entry but the first, and a row of its type that has no partner.
   pub missing-alone : (e p : ℕ) → verdict t s ≡ missing e p → (0 < e) × (e < length (s .ways)) × (r : Node) × Has r (alone t s e) × (r .place ≡ p)

@@ -12,7 +12,7 @@ use Rattle.paper.specs.Closeness.{Node, nodes, ofKind}
 use Rattle.paper.specs.Shapes.{Entry, Shape, entries, named, badEntry, shapeOver, kind, numbers}
 use Rattle.paper.specs.Adorned.{Summary, adorned}
 use Rattle.paper.specs.NewTable.{Line, lines, newTable, sourceList}
-use Rattle.paper.specs.Verdict.{Verdict, kept, verdict}
+use Rattle.paper.specs.Verdict.{Judgement, kept, judgement}
 
 -- ---- answers
 -- A refusal with its number and place, or what is given.
@@ -149,11 +149,14 @@ adorn f b before =
     let a = adorning f b (length before) in
     record { reply = reply 0 (do xs ← a; given (length xs)); summaries = after before a }
 
--- Judging adds the verdict; refused, verdict 0.
-unfoldable pub judge : Format → List ℕ → List ℕ → Reply Verdict
-judge f b sb = reply kept do
+-- Judging adds the verdict and the second answer; refused, verdict 0 and no.
+abbrev pub noJudgement : Judgement
+noJudgement = record { verdict = kept; noneApart = false }
+
+unfoldable pub judge : Format → List ℕ → List ℕ → Reply Judgement
+judge f b sb = reply noJudgement do
   w ← tests1-7 f b sb
-  given (verdict (w .nodes) (w .shape))
+  given (judgement (w .nodes) (w .shape))
 
 -- Reshaping adds the count of lines.
 pub record Reshaping : Type 0 where

@@ -3,7 +3,7 @@ use Prim.Native.Nat.{ℕ, _<_}
 use mathlib.Core.Path.{_≡_}
 use mathlib.Core.Bool.{true}
 use mathlib.Core.List.{List, [], _∷_, map}
-use lib.ListN.{length, take}
+use lib.ListN.{length}
 use Rattle.paper.specs.Lists.{Has, up}
 use Rattle.paper.specs.Tables.{follows}
 use Rattle.paper.specs.Closeness.{Node, ofKind, closest, closestOf}
@@ -13,10 +13,6 @@ use Rattle.paper.specs.Shapes.{Shape, kind, way, children}
 abbrev pub Chain : List ℕ → List (List ℕ) → Type 0
 Chain p [] = Unit
 Chain p (d ∷ ds) = ((0 < length d) × (follows p d ≡ true)) × Chain d ds
-
--- line x hangs under line z, or is z: its number begins with z's
-abbrev pub Under : Node → Node → Type 0
-Under z x = take (length (z .dewey)) (x .dewey) ≡ z .dewey
 
 -- The lines of a new table, with the source row of each, are faithful to a source table t and a shape s. Lines beneath one
 -- parent, and root lines, may come in any order, entries mixed.

@@ -1,14 +1,16 @@
--- Further samples, one list under one statement like the marked ones: the numbers of a source list, a new table as a source, the figures of
--- a summary, which entry, row or pair a verdict names, and each refusal with its place, alone and beside the next in document 01's order. Assumes nothing.
+-- Further samples, one list under one statement like the marked ones: the numbers of a source list, a new table as a source, the
+-- figures of a summary, which entry, row or pair a verdict names, the second answer, and each refusal with its place, alone and
+-- beside the next in document 01's order. Assumes nothing.
 use Prim.Native.Nat.{ℕ, zero, suc, _*_}
 use mathlib.Core.Path.{_≡_, refl}
+use mathlib.Core.Bool.{true, false}
 use mathlib.Core.List.{List, [], _∷_, _++_, map}
 use lib.ListN.{take, replicate}
 use Rattle.paper.specs.Lists.{joined, padded}
 use Rattle.paper.specs.Format.{base, rowBytes}
 use Rattle.paper.specs.Adorned.{Summary}
-use Rattle.paper.specs.Calls.{examine, lookUp, adorn, roomIn, reshape, summarise}
-use Rattle.paper.specs.Samples.{row, table, entry, A, table10, portfolio, lessee, lease, asset, judged, reshaped}
+use Rattle.paper.specs.Calls.{examine, lookUp, adorn, judge, roomIn, reshape, summarise}
+use Rattle.paper.specs.Samples.{row, table, entry, A, table7, table10, portfolio, lessee, lease, asset, judged, reshaped}
 use Rattle.paper.specs.Opened.{opened}
 
 -- ---- sample files
@@ -37,6 +39,24 @@ shape4 = entry 1 lease ++ entry 2 lessee ++ entry 2 asset
 abbrev shape5 : List ℕ
 shape5 = entry 1 asset ++ entry 2 lease ++ entry 3 lessee
 
+-- a 3 of entries 0 and 2 comes before a 2 of entries 0 and 3
+abbrev laterApart : List ℕ × List ℕ
+laterApart = (
+  table 0 ((1 ∷ [], 1) ∷ (1 ∷ 1 ∷ [], 2) ∷ (1 ∷ 1 ∷ 1 ∷ [], 3) ∷ (1 ∷ 2 ∷ [], 2) ∷ []),
+  entry 1 (1 ∷ 2 ∷ []) ++ entry 2 (1 ∷ 2 ∷ 3 ∷ []) ++ entry 3 (1 ∷ []) ++ entry 4 (1 ∷ 2 ∷ 3 ∷ []),
+)
+
+-- a row that is joined with no other earns a 1, and entries 1 and 2 a 2
+abbrev pub orphaned : List ℕ × List ℕ
+orphaned = (
+  table 0 ((1 ∷ [], 1) ∷ (1 ∷ 1 ∷ [], 2) ∷ (1 ∷ 2 ∷ [], 2) ∷ (2 ∷ [], 3) ∷ []),
+  entry 1 portfolio ++ entry 2 lessee ++ entry 2 lessee ++ entry 2 (3 ∷ []),
+)
+
+-- one lessee, shown by two entries
+abbrev pub single : List ℕ × List ℕ
+single = (table 0 ((1 ∷ [], 1) ∷ (1 ∷ 1 ∷ [], 2) ∷ []), entry 1 portfolio ++ entry 2 lessee ++ entry 2 lessee)
+
 -- an entry whose type no table here has
 abbrev stranger : ℕ → List ℕ
 stranger l = entry l (999 ∷ [])
@@ -56,6 +76,10 @@ adornedInto n b =
     let none : Summary = record { parent = 0; label = 0; level = 0; rows = 0; least = 0; greatest = 0 } in
     let r = adorn base b (replicate n none) .reply in
     (r .number ∷ r .place ∷ r .rest ∷ []) ∷ []
+
+-- number and second answer, yes as 1
+abbrev second : List ℕ → List ℕ → List (List ℕ)
+second b sb = let r = judge base b sb in (r .number ∷ elim (r .rest .noneApart) [ true ↦ 1 | false ↦ 0 ] ∷ []) ∷ []
 
 -- number, place and count of lines, with so many bytes and places lent
 abbrev linedInto : ℕ → ℕ → List ℕ → List ℕ → List (List ℕ)
@@ -103,11 +127,22 @@ further =
       (0 ∷ 0 ∷ []) ∷ (2 ∷ 0 ∷ 3 ∷ []) ∷ [],
     )
     -- the first pair decides, whatever it earns: entries 0 and 2 earn a 3, and 0 and 3 a 2
-    ∷ (
-      judged (table 0 ((1 ∷ [], 1) ∷ (1 ∷ 1 ∷ [], 2) ∷ (1 ∷ 1 ∷ 1 ∷ [], 3) ∷ (1 ∷ 2 ∷ [], 2) ∷ []))
-          (entry 1 (1 ∷ 2 ∷ []) ++ entry 2 (1 ∷ 2 ∷ 3 ∷ []) ++ entry 3 (1 ∷ []) ++ entry 4 (1 ∷ 2 ∷ 3 ∷ [])),
-      (0 ∷ 0 ∷ []) ∷ (3 ∷ 0 ∷ 2 ∷ []) ∷ [],
-    )
+    ∷ (judged (laterApart .0) (laterApart .1), (0 ∷ 0 ∷ []) ∷ (3 ∷ 0 ∷ 2 ∷ []) ∷ [])
+    -- the second answer: yes in P4, in P5 beside verdict 1, in P7 beside verdict 3 and in P10; no in P6, in P9 and, refused, in P1
+    ∷ (second A shape4, (0 ∷ 1 ∷ []) ∷ [])
+    ∷ (second A shape5, (0 ∷ 1 ∷ []) ∷ [])
+    ∷ (second A (entry 1 portfolio ++ entry 2 lessee ++ entry 2 asset), (0 ∷ 0 ∷ []) ∷ [])
+    ∷ (second table7 (entry 1 (1 ∷ 3 ∷ []) ++ entry 2 (1 ∷ 3 ∷ 4 ∷ []) ++ entry 3 (1 ∷ 5 ∷ [])), (0 ∷ 1 ∷ []) ∷ [])
+    ∷ (second A (entry 1 portfolio ++ entry 2 lease ++ entry 2 lease), (0 ∷ 0 ∷ []) ∷ [])
+    ∷ (second table10 (entry 1 (2 ∷ []) ++ entry 2 (3 ∷ [])), (0 ∷ 1 ∷ []) ∷ [])
+    ∷ (second [] (entry 1 (3 ∷ []) ++ entry 2 (2 ∷ []) ++ entry 2 (4 ∷ [])), (7 ∷ 0 ∷ []) ∷ [])
+    -- no, for a 2 that comes later than the pair that the verdict names
+    ∷ (second (laterApart .0) (laterApart .1), (0 ∷ 0 ∷ []) ∷ [])
+    -- no, for a 2 that comes after a verdict 1
+    ∷ (judged (orphaned .0) (orphaned .1), (0 ∷ 0 ∷ []) ∷ (1 ∷ 3 ∷ 3 ∷ []) ∷ [])
+    ∷ (second (orphaned .0) (orphaned .1), (0 ∷ 0 ∷ []) ∷ [])
+    -- no, though the one lessee is closest to itself
+    ∷ (second (single .0) (single .1), (0 ∷ 0 ∷ []) ∷ [])
     -- 1 alone cannot be: the shortest table that is too long earns a 2 as well; of the longest that is not, row 0 breaks a rule
     ∷ (examined (zeros 24577), (1 ∷ 0 ∷ 0 ∷ []) ∷ [])
     ∷ (examined (zeros 24576), (3 ∷ 0 ∷ 0 ∷ []) ∷ [])
@@ -156,5 +191,5 @@ further =
 
 -- every sample says what document 01 says
 pub further-hold : map (λ (p : List (List ℕ) × List (List ℕ)). p .0) further ≡ map (λ (p : List (List ℕ) × List (List ℕ)). p .1) further
-unfolding opened further row table entry A table10 portfolio lessee lease asset judged reshaped
+unfolding opened further row table entry A table7 table10 portfolio lessee lease asset judged reshaped
 further-hold = refl

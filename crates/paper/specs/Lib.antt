@@ -8,6 +8,7 @@ pub mod NewTable
 pub mod Verdict
 pub mod Calls
 pub mod Links
+pub mod MadeUp
 pub mod Sound
 pub mod Faithful
 pub mod Opened

@@ -62,7 +62,7 @@ asset = 1 ∷ 2 ∷ 3 ∷ 4 ∷ []
 -- the refusal and its place, and the verdict's numbers
 unfoldable pub judged : List ℕ → List ℕ → List (List ℕ)
 unfolding opened
-judged b sb = let j = judge base b sb in (j .number ∷ j .place ∷ []) ∷ verdictNumbers (j .rest) ∷ []
+judged b sb = let j = judge base b sb in (j .number ∷ j .place ∷ []) ∷ verdictNumbers (j .rest .verdict) ∷ []
 
 -- a reshape with room for ten lines
 abbrev pub reshaped : List ℕ → List ℕ → Reshaping

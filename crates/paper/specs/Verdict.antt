@@ -21,6 +21,17 @@ verdictNumbers (missing e r) = 1 ∷ e ∷ r ∷ []
 verdictNumbers (apart e f) = 2 ∷ e ∷ f ∷ []
 verdictNumbers (unsure e f) = 3 ∷ e ∷ f ∷ []
 
+abbrev pub isApart : Verdict → Bool
+isApart kept = false
+isApart (missing e r) = false
+isApart (apart e f) = true
+isApart (unsure e f) = false
+
+-- What judging says of a table and a shape.
+pub record Judgement : Type 0 where
+  pub verdict : Verdict
+  pub noneApart : Bool  -- the second answer
+
 -- l is the least of the levels
 abbrev pub isLeast : ℕ → List ℕ → Bool
 isLeast l ls = any (eqb l) ls && all (leb l) ls
@@ -81,3 +92,10 @@ module _ (t : List Node) (s : Shape) where
   -- that earns a 2 or a 3 decides. 0: none of these.
   unfoldable pub verdict : Verdict
   verdict = firstOr kept (lone ++ overPairs pairFault (numbers s))
+
+  -- The second answer is yes exactly when no pair of entries would earn a 2.
+  unfoldable pub noneApart : Bool
+  noneApart = not (any isApart (overPairs pairFault (numbers s)))
+
+  abbrev pub judgement : Judgement
+  judgement = record { verdict = verdict; noneApart = noneApart }
