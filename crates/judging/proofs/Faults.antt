@@ -1,17 +1,20 @@
--- The walk over the pairs of entries to the first that earns a 2 or a 3. Assumes nothing.
+-- The walk over the pairs of entries: to the first that earns a 2 or a 3, and to the first that earns a 2. Assumes nothing.
 use Prim.Native.Nat.{ℕ, _+_, _-_, _≤_, _<_}
 use native.Mathlib.Omega.{arith}
 use mathlib.Core.Path.{_≡_, refl, sym, _∙_, ap}
 use mathlib.Core.Logic.{⊎-elim}
-use mathlib.Core.Bool.{Bool}
+use mathlib.Core.Bool.{Bool, true, false}
 use mathlib.Core.List.{List, [], _∷_, _++_}
-use Rattle.paper.specs.Lists.{firstOr, joinMap, count}
+use lib.Dec.{eqb}
+use borrow.Author.Tests.{eq-eqb, ne-eqb}
+use Rattle.paper.specs.Lists.{joinMap, count}
 use Rattle.paper.specs.Verdict
-use Rattle.paper.specs.Verdict.{kept, overPairs}
+use Rattle.paper.specs.Verdict.{apart, overPairs}
 use types.Run.{OneOf}
 use denote.Enum.Declared.{tagOf}
 use Rattle.shapes.specs.declared.shape.Shape.{Shape}
-use Rattle.judging.specs.Pairs.{earned, fault}
+use Rattle.judging.specs.Pairs.{Found, earned, fault, apartPair}
+use Rattle.judging.specs.declared.pairs.Path.{Path}
 use Rattle.shapes.specs.Edges.{meetingOf}
 use Rattle.judging.specs.Told.{told}
 use Rattle.judging.specs.declared.verdict.Verdict.{Verdict}
@@ -19,49 +22,54 @@ use Rattle.judging.specs.declared.verdict.Verdict.the-variants.{Kept, Mi
 use Rattle.judging.proofs.verdict.Verdict.{the-type}
 use Rattle.judging.proofs.Counting.{count-from, count-done}
 
--- ---- the walk
-module _ (g : ℕ → ℕ → List Verdict.Verdict) (n : ℕ) where
-  -- the first fault of all pairs
-  abbrev pub first : Verdict.Verdict
-  first = firstOr kept (overPairs g (count 0 n))
+-- ---- the walk, for whatever is asked of the list of faults
+module _ {B : Type 0} (ask : List Verdict.Verdict → B) (g : ℕ → ℕ → List Verdict.Verdict) (n : ℕ) where
+  -- the answer for all pairs
+  abbrev pub answer : B
+  answer = ask (overPairs g (count 0 n))
 
-  -- it is the first fault from entry e on
+  -- it is the answer from entry e on
   abbrev pub Outer : ℕ → Type 0
-  Outer e = firstOr kept (overPairs g (count e (n - e))) ≡ first
+  Outer e = ask (overPairs g (count e (n - e))) ≡ answer
 
-  -- it is the first fault of entry e with f and those after it, then of the entries after e
+  -- the faults of entry e with f and those after it, then of the entries after e
+  abbrev pub from : ℕ → ℕ → List Verdict.Verdict
+  from e f = joinMap (g e) (count f (n - f)) ++ overPairs g (count (e + 1) (n - (e + 1)))
+
+  -- it is the answer for these
   abbrev pub Inner : ℕ → ℕ → Type 0
-  Inner e f = firstOr kept (joinMap (g e) (count f (n - f)) ++ overPairs g (count (e + 1) (n - (e + 1)))) ≡ first
+  Inner e f = ask (from e f) ≡ answer
 
   pub outer-start : Outer 0
-  outer-start = let q : n - 0 ≡ n = omega arith in ap (λ k. firstOr kept (overPairs g (count 0 k))) q
+  outer-start = let q : n - 0 ≡ n = omega arith in ap (λ k. ask (overPairs g (count 0 k))) q
 
   pub inner-start : (e : ℕ) → e < n → Outer e → Inner e (e + 1)
-  inner-start e lt o = ap (λ c. firstOr kept (overPairs g c)) (sym (count-from e n lt)) ∙ o
+  inner-start e lt o = ap (λ c. ask (overPairs g c)) (sym (count-from e n lt)) ∙ o
 
   module _ (e f : ℕ) (i : Inner e f) where
     module _ (lt : f < n) where
       later : List Verdict.Verdict
       later = joinMap (g e) (count (f + 1) (n - (f + 1)))
 
-      next : (l : List Verdict.Verdict) → g e f ≡ l → firstOr kept ((l ++ later) ++ overPairs g (count (e + 1) (n - (e + 1)))) ≡ first
+      next : (l : List Verdict.Verdict) → g e f ≡ l → ask ((l ++ later) ++ overPairs g (count (e + 1) (n - (e + 1)))) ≡ answer
       unfolding later
       next l q =
-          ap (λ k. firstOr kept ((k ++ later) ++ overPairs g (count (e + 1) (n - (e + 1))))) (sym q)
-          ∙ ap (λ c. firstOr kept (joinMap (g e) c ++ overPairs g (count (e + 1) (n - (e + 1))))) (sym (count-from f n lt)) ∙ i
+          ap (λ k. ask ((k ++ later) ++ overPairs g (count (e + 1) (n - (e + 1))))) (sym q)
+          ∙ ap (λ c. ask (joinMap (g e) c ++ overPairs g (count (e + 1) (n - (e + 1))))) (sym (count-from f n lt)) ∙ i
 
       pub inner-step : g e f ≡ [] → Inner e (f + 1)
       unfolding later
       inner-step q = next [] q
 
-      pub inner-found : (v : Verdict.Verdict) → g e f ≡ v ∷ [] → v ≡ first
+      pub inner-found : (v : Verdict.Verdict) → g e f ≡ v ∷ [] → ask (v ∷ from e (f + 1)) ≡ answer
+      unfolding later
       inner-found v q = next (v ∷ []) q
 
     pub inner-end : n ≤ f → Outer (e + 1)
-    inner-end past = ap (λ c. firstOr kept (joinMap (g e) c ++ overPairs g (count (e + 1) (n - (e + 1))))) (sym (count-done f n past)) ∙ i
+    inner-end past = ap (λ c. ask (joinMap (g e) c ++ overPairs g (count (e + 1) (n - (e + 1))))) (sym (count-done f n past)) ∙ i
 
-  pub outer-end : (e : ℕ) → n ≤ e → Outer e → kept ≡ first
-  outer-end e past o = ap (λ c. firstOr kept (overPairs g c)) (sym (count-done e n past)) ∙ o
+  pub outer-end : (e : ℕ) → n ≤ e → Outer e → ask [] ≡ answer
+  outer-end e past o = ap (λ c. ask (overPairs g c)) (sym (count-done e n past)) ∙ o
 
 -- ---- one pair
 -- what each pair of entries earns, where it is a fault
@@ -84,3 +92,15 @@ module _ (s : Shape) (ways : List ℕ) (full : List Bool) (meetings : List ℕ) 
       one (Missing e r) h = refl
       one (Apart e f) h = refl
       one (Unsure e f) h = refl
+
+-- ---- one pair and a 2
+module _ (s : Shape) (ways meetings : List ℕ) (e f m : ℕ) (qm : m ≡ meetingOf meetings (s .types) e f) {path : Path}
+    (w : Found (s .levels) (s .edges) ways e f path) where
+  apart-by : (b : Bool) → eqb (path .least) m ≡ b → apartPair s ways meetings e f ≡ elim b as (λ _. List Verdict.Verdict) [ true ↦ [] | false ↦ apart e f ∷ [] ]
+  apart-by b q = rw (← q, qm, w .least-is) refl
+
+  pub apart-none : path .least ≡ m → apartPair s ways meetings e f ≡ []
+  apart-none q = apart-by true (eq-eqb (path .least) m q)
+
+  pub apart-one : (path .least ≡ m → ⊥) → apartPair s ways meetings e f ≡ apart e f ∷ []
+  apart-one ne = apart-by false (ne-eqb (path .least) m ne)

@@ -1,18 +1,23 @@
 -- What the search for a row without a partner says, by what it found. Assumes nothing.
-use Prim.Native.Nat.{ℕ}
+use Prim.Native.Nat.{ℕ, _-_}
 use native.Mathlib.Omega.{arith}
-use mathlib.Core.Path.{_≡_, refl, sym, _∙_, ap}
+use mathlib.Core.Path.{_≡_, refl, sym, _∙_, ap, subst}
 use mathlib.Core.Logic.{inl, ⊎-elim}
+use mathlib.Core.Bool.{Bool, true, false}
 use mathlib.Core.List.{List, [], _∷_, _++_, map}
+use lib.Dec.{leb}
+use borrow.Author.Tests.{leb-true, leb-false}
 use Rattle.paper.specs.Lists.{Has, firstOr, count}
 use Rattle.paper.specs.Verdict
 use Rattle.paper.specs.Verdict.{kept, missing, verdictNumbers}
-use Rattle.paper.proofs.Lists.{join-has, map-has}
+use Rattle.paper.proofs.Lists.{join-has, has-join, map-has, has-map, some-in, has-count}
 use types.Run.{OneOf}
 use denote.Enum.Declared.{tagOf}
 use Rattle.shapes.specs.declared.shape.Shape.{Shape}
 use Rattle.judging.specs.Told.{told}
 use Rattle.judging.specs.Lone.{aloneRows, loneFrom}
+use Rattle.judging.specs.Edges.{WalkedTo}
+use Rattle.judging.specs.declared.edges.Edges.{Edges}
 use Rattle.judging.specs.declared.verdict.Verdict.{Verdict}
 use Rattle.judging.specs.declared.verdict.Verdict.the-variants.{Kept, Missing, Apart, Unsure}
 use Rattle.judging.proofs.verdict.Verdict.{the-type}
@@ -44,3 +49,20 @@ module _ (levels types : List ℕ) (rows : ℕ) (s : Shape) (c n : ℕ) where
       go : (xs : List Verdict.Verdict) → ((v : Verdict.Verdict) → Has v xs → v ≡ kept → ⊥) → firstOr kept xs ≡ kept → xs ≡ []
       go [] h q = refl
       go (x ∷ xs) h q = absurd (h x (inl refl) q)
+
+module _ (levels types : List ℕ) (rows : ℕ) (s : Shape) (edges : Edges) (walked : WalkedTo levels types rows s edges) where
+  -- where no row is without a partner all edges are walked
+  pub all-walked : loneFrom levels types rows s 1 (s .entries - 1) ≡ [] → edges .met ≡ s .entries
+  unfolding loneFrom
+  all-walked none = go (leb (s .entries) (edges .met)) refl
+    where
+      go : (b : Bool) → leb (s .entries) (edges .met) ≡ b → edges .met ≡ s .entries
+      go true e = omega (arith, leb-true (s .entries) (edges .met) e, walked .all-met .few)
+      go false e =
+          let lt = leb-false (s .entries) (edges .met) e in
+          let alone = aloneRows levels types rows s (edges .met) in
+          let (r, h) = some-in alone (walked .alone lt) in
+          let here = has-count 1 (s .entries - 1) (edges .met) (walked .all-met .some) (omega arith) in
+          let row = has-map (missing (edges .met)) r alone h in
+          absurd (subst (Has (missing (edges .met) r)) none
+          (has-join (λ c. map (missing c) (aloneRows levels types rows s c)) (edges .met) (missing (edges .met) r) (count 1 (s .entries - 1)) here row))

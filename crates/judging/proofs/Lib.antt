@@ -6,6 +6,7 @@ pub mod Search
 pub mod Ways
 pub mod Earned
 pub mod Faults
+pub mod Beside
 pub mod Closest
 pub mod Found
 pub mod Whole

@@ -2,7 +2,7 @@
 use Prim.Native.Nat.{ℕ, _≤_, _<_}
 use native.Mathlib.Omega.{arith}
 use mathlib.Core.Path.{_≡_, refl, sym, _∙_}
-use mathlib.Core.Bool.{Bool, true, false, true≢false}
+use mathlib.Core.Bool.{Bool, true, false, _&&_, true≢false}
 use mathlib.Core.List.{List}
 use lib.Dec.{eqb}
 use lib.ListN.{getD}
@@ -50,6 +50,14 @@ module _ (levels types : List ℕ) (rows l b : ℕ) where
       let (c, p) = keep-has _ j (count 0 rows) h in
       let (x, y) = both (eqb (getD types j 0) b) (eqb (startOf levels l i) (startOf levels l j)) p in
       none j (omega (arith, count-has 0 rows j c)) (eqb-true (getD types j 0) b x) (eqb-true (startOf levels l i) (startOf levels l j) y))
+
+  -- a row of type a with one of type b in its run is not lone, and neither is one of another type
+  pub joined-lone : (a i : ℕ) → (getD types i 0 ≡ a → Joined i) → isLone levels types rows l a b i ≡ false
+  joined-lone a i joined = go (eqb (getD types i 0) a) refl
+    where
+      go : (x : Bool) → eqb (getD types i 0) a ≡ x → (x && isEmpty (closestRows levels types rows l b i)) ≡ false
+      go true e = joined-some i (joined (eqb-true (getD types i 0) a e))
+      go false e = refl
 
   module _ (a : ℕ) where
     -- no row of type a is lone where each has one of type b in its run

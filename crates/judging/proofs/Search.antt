@@ -1,6 +1,7 @@
 -- The search for a row without a partner, step by step. Assumes nothing.
 use Prim.Native.Nat.{ℕ, zero, suc, _+_, _-_, _≤_, _<_}
 use native.Mathlib.Nat.{not-suc-le-zero}
+use native.Mathlib.Numerals.{add-one}
 use native.Mathlib.Omega.{arith}
 use mathlib.Core.Path.{_≡_, refl, sym, _∙_, ap, subst}
 use mathlib.Core.Logic.{inl, inr, ⊎-elim}
@@ -17,6 +18,7 @@ use Rattle.closest.proofs.Starts.{start-begins, start-on, start-le, start-grows
 use Rattle.shapes.specs.Shape.{typeOf, parentOf, edgeOf}
 use Rattle.shapes.specs.declared.shape.Shape.{Shape}
 use Rattle.judging.specs.Lone.{isLone, loneRows, aloneRows, loneFrom, Bound, candidateFrom, OnInRun}
+use Rattle.judging.specs.Edges.{MetBefore}
 use Rattle.judging.proofs.Rows.{Apart, joined-some, apart-none, begins-within, on-above}
 use Rattle.judging.proofs.Counting.{count-from, count-done}
 
@@ -131,7 +133,7 @@ module _ (levels types : List ℕ) (rows : ℕ) (s : Shape) where
         ∙ sym (ap (λ cs. firstOr kept (joinMap (λ c. map (missing c) (aloneRows levels types rows s c)) cs)) (count-from c (s .entries) lt))
 
     -- an entry whose rows all have a partner is passed over
-    pub entry-met : c < s .entries → isEmpty (aloneRows levels types rows s c) ≡ true → entriesFrom c ≡ entriesFrom (c + 1)
+    entry-met : c < s .entries → isEmpty (aloneRows levels types rows s c) ≡ true → entriesFrom c ≡ entriesFrom (c + 1)
     unfolding loneFrom
     entry-met lt e =
         ap (λ cs. firstOr kept (joinMap (λ c. map (missing c) (aloneRows levels types rows s c)) cs)) (count-from c (s .entries) lt)
@@ -144,6 +146,15 @@ module _ (levels types : List ℕ) (rows : ℕ) (s : Shape) where
     pub entry-none : s .entries ≤ c → entriesFrom c ≡ kept
     unfolding loneFrom
     entry-none le = ap (λ cs. firstOr kept (joinMap (λ c. map (missing c) (aloneRows levels types rows s c)) cs)) (count-done c (s .entries) le)
+
+  -- so are all entries before entry n
+  pub entries-met : (n : ℕ) → 1 ≤ n → n ≤ s .entries → ((c : ℕ) → c < n → isEmpty (aloneRows levels types rows s c) ≡ true)
+      → entriesFrom n ≡ entriesFrom 1
+  entries-met zero some few each = let z : ⊥ = omega arith in absurd z
+  entries-met (suc zero) some few each = refl
+  entries-met (suc (suc n)) some few each =
+      ap entriesFrom (sym (add-one (suc n))) ∙ sym (entry-met (suc n) (omega arith) (each (suc n) (omega arith)))
+      ∙ entries-met (suc n) (omega arith) (omega arith) (λ c lt. each c (omega arith))
 
   -- row r is asked first
   module _ (c r : ℕ) (lr : r < rows) where
@@ -161,6 +172,13 @@ module _ (levels types : List ℕ) (rows : ℕ) (s : Shape) where
     row-found : isAlone c r ≡ true → missing c r ≡ rowsFrom c r
     row-found e = ap (firstFrom c) (sym (row-asked true e))
 
+  -- the rows before row r are passed
+  rows-passed : (c r : ℕ) → r ≤ rows → ((i : ℕ) → i < r → isAlone c i ≡ false) → rowsFrom c r ≡ rowsFrom c 0
+  rows-passed c zero le none = refl
+  rows-passed c (suc r) le none =
+      ap (rowsFrom c) (sym (add-one r)) ∙ row-passed c r (omega arith) (none r (omega arith))
+      ∙ rows-passed c r (omega arith) (λ i lt. none i (omega arith))
+
   rows-done : (c r : ℕ) → rows ≤ r → rowsFrom c r ≡ entriesFrom (c + 1)
   rows-done c r le = ap (λ rs. firstFrom c (keep (isAlone c) rs)) (count-done r rows le)
 
@@ -177,7 +195,7 @@ pub record Asked (levels types : List ℕ) (rows : ℕ) (s : Shape) (c own other
 pub record Done (levels types : List ℕ) (rows : ℕ) (s : Shape) (c j r : ℕ) (answer : Verdict) : Type 0 where
   pub inside : r ≤ rows
   pub first : r ≡ 0 → j ≡ 0
-  pub stands : (q : ℕ) → r ≡ suc q → Stands levels types rows (edgeOf s c) (typeOf s (parentOf s c)) q j
+  pub stands : (q : ℕ) → r ≡ suc q → begins levels (edgeOf s c) r ≡ false → Stands levels types rows (edgeOf s c) (typeOf s (parentOf s c)) q j
   pub rest : rowsFrom levels types rows s c r ≡ answer
 
 module _ {levels types : List ℕ} {rows : ℕ} {s : Shape} {c own other bound : ℕ} (q : Asked levels types rows s c own other bound) (answer : Verdict) where
@@ -195,12 +213,13 @@ module _ {levels types : List ℕ} {rows : ℕ} {s : Shape} {c own other bound :
       → OnInRun levels rows bound j k → Candidates levels types rows (edgeOf s c) (typeOf s (parentOf s c)) r k
   candidates-on r j k cs lj ne = candidates-next levels types rows l b bound (q .bytes) (q .bounds) r j k cs lj (λ e. ne (e ∙ sym (q .other-is)))
 
-  pub done-none : entriesFrom levels types rows s c ≡ answer → Done levels types rows s c 0 0 answer
-  done-none h = record {
-    inside = omega arith;
-    first = λ z. refl;
-    stands = λ p e. let z : ⊥ = omega arith in absurd z;
-    rest = entry-more levels types rows s c (q .before) ∙ h;
+  -- the walk may begin at row r, where a run begins, if the rows before it have a partner
+  pub done-before : (r : ℕ) → MetBefore levels types rows s c r → entriesFrom levels types rows s c ≡ answer → Done levels types rows s c r r answer
+  done-before r m h = record {
+    inside = m .inside;
+    first = λ z. z;
+    stands = λ p e no. absurd (true≢false (sym (m .new-run (omega arith)) ∙ no));
+    rest = rows-passed levels types rows s c r (m .inside) (m .none) ∙ entry-more levels types rows s c (q .before) ∙ h;
   }
 
   module _ (j r : ℕ) (w : Done levels types rows s c j r answer) (lr : r < rows) where
@@ -222,14 +241,15 @@ module _ {levels types : List ℕ} {rows : ℕ} {s : Shape} {c own other bound :
             on zero z = subst (λ r. Stands levels types rows l b r j) (sym z)
                 (subst (Stands levels types rows l b 0) (sym (w .first z)) (stands-first levels types rows l b bound (q .bytes) (q .bounds) (omega arith)))
             on (suc p) z = subst (λ r. Stands levels types rows l b r j) (sym z)
-                (stands-on levels types rows l b bound (q .bytes) (q .bounds) p j (subst (λ r. bound < getD levels r 0) z up) (w .stands p z))
+                (stands-on levels types rows l b bound (q .bytes) (q .bounds) p j (subst (λ r. bound < getD levels r 0) z up)
+                (w .stands p z (on-above levels l bound r (q .bounds) (q .bytes r) up)))
 
     -- the next row, where this one is passed over
     next-row : (k : ℕ) → Stands levels types rows l b r k → isLone levels types rows l (typeOf s c) b r ≡ false → Done levels types rows s c k (r + 1) answer
     next-row k g e = record {
       inside = omega arith;
       first = λ z. let y : ⊥ = omega arith in absurd y;
-      stands = λ p z. let y : r ≡ p = omega arith in subst (λ r. Stands levels types rows l b r k) y g;
+      stands = λ p z on. let y : r ≡ p = omega arith in subst (λ r. Stands levels types rows l b r k) y g;
       rest = row-passed levels types rows s c r lr e ∙ w .rest;
     }
 

@@ -6,7 +6,7 @@ use lib.ListN.{getD}
 use Rattle.paper.specs.Format.{base}
 use Rattle.paper.specs.Calls.{Reply, judge}
 use Rattle.judging.specs.Told.{numbersOf}
-use Rattle.judging.specs.Judged.{judged, inNumbers}
+use Rattle.judging.specs.Judged.{InNumbers, judged, inNumbers}
 use Rattle.judging.specs.declared.verdict.Verdict.{Verdict}
 use Rattle.judging.specs.declared.verdict.Verdict.the-variants.{Kept, Missing, Apart, Unsure}
 use Rattle.judging.specs.declared.judge.Judged.{Judged}
@@ -30,5 +30,11 @@ of-numbers (Unsure e f) = refl
 pub judge-unique : (t s : List ℕ) (a b : Judged) → judged a ≡ inNumbers (judge base t s) → judged b ≡ inNumbers (judge base t s) → a ≡ b
 judge-unique t s a b p q =
     let e : judged a ≡ judged b = p ∙ sym q in
-    let v : a .verdict ≡ b .verdict = sym (of-numbers (a .verdict)) ∙ ap (λ (x : Reply (List ℕ)). fromNumbers (x .rest)) e ∙ of-numbers (b .verdict) in
-    λ i. record { number = ap (λ (x : Reply (List ℕ)). x .number) e i; place = ap (λ (x : Reply (List ℕ)). x .place) e i; verdict = v i }
+    let v : a .verdict ≡ b .verdict =
+    sym (of-numbers (a .verdict)) ∙ ap (λ (x : Reply InNumbers). fromNumbers (x .rest .verdict)) e ∙ of-numbers (b .verdict) in
+    λ i. record {
+      number = ap (λ (x : Reply InNumbers). x .number) e i;
+      place = ap (λ (x : Reply InNumbers). x .place) e i;
+      verdict = v i;
+      «none_apart» = ap (λ (x : Reply InNumbers). x .rest .noneApart) e i;
+    }

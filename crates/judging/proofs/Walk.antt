@@ -1,5 +1,6 @@
 -- The walk of one edge, run by run. Assumes nothing.
 use Prim.Native.Nat.{ℕ, zero, suc, _+_, _≤_, _<_}
+use native.Mathlib.Nat.{not-suc-le-zero}
 use native.Mathlib.Numerals.{add-one}
 use native.Mathlib.Omega.{arith}
 use mathlib.Core.Path.{_≡_, refl, sym, _∙_, ap, ap₂, subst}
@@ -14,10 +15,9 @@ use Rattle.paper.proofs.Lists.{both, either, or-left, or-right}
 use Rattle.types.proofs.Step.{below}
 use Rattle.closest.specs.Runs.{begins, startOf}
 use Rattle.closest.proofs.Starts.{start-begins, start-on, start-le, start-grows}
-use Rattle.judging.specs.Lone.{loneRows}
-use Rattle.judging.specs.Edges.{served, Walked}
-use Rattle.judging.specs.declared.edges.Edge.{Edge}
-use Rattle.judging.proofs.Rows.{Joined, Apart, all-joined, one-apart}
+use Rattle.judging.specs.Lone.{isLone, loneRows}
+use Rattle.judging.specs.Edges.{served, Before, Walked}
+use Rattle.judging.proofs.Rows.{Joined, Apart, joined-lone, all-joined, one-apart}
 
 module _ (levels types : List ℕ) (l : ℕ) where
   -- a row of type k stands in the last run of the first i rows
@@ -133,6 +133,13 @@ module _ (levels types : List ℕ) (l : ℕ) where
         earlier le false q ih =
             ⊎-elim (λ same. inl (start-on levels l i q ∙ same)) (λ h. inr h) (ih (ap (kept a b) (add-one i) ∙ sym (kept-on (suc i) q a b) ∙ e))
 
+    -- no row of type a before a run that begins is lone, where the runs before it are kept
+    none-before : (i : ℕ) → i < rows → begins levels l i ≡ true → kept a b (i + 1) ≡ true → (r : ℕ) → r < i → isLone levels types rows l a b r ≡ false
+    none-before i li q e r lt =
+        joined-lone levels types rows l b a r (λ own. ⊎-elim
+        (λ same. let z : ⊥ = omega (arith, start-begins levels l i q, start-le levels l r, same) in absurd z) (λ h. h)
+        (kept-true i li e r (omega arith) own))
+
     -- some row of type a is apart
     abbrev Some : Type 0
     Some = (r : ℕ) × (r < rows) × (getD types r 0 ≡ a) × Apart levels types rows l b r
@@ -184,55 +191,87 @@ module _ (levels types : List ℕ) (l : ℕ) where
                 rw (p, q) (sym (one-apart levels types rows l b a r lr own none))
 
 -- ---- the walk as it goes
--- what is found of the first i rows: the runs before the last one, and the types that stand in the last one
-pub record Passed (levels types : List ℕ) (rows l a b : ℕ) (edge : Edge) (parent child : Bool) (i : ℕ) : Type 0 where
+-- what is found of the first i rows: of the runs before the last one, which begins at row `from`, and the types that stand in the last one
+pub record Passed (levels types : List ℕ) (rows l a b : ℕ) (full parent child : Bool) (from i : ℕ) : Type 0 where
   pub inside : i ≤ rows
-  pub full-is : edge .full ≡ kept levels types l a b i
-  pub met-is : edge .met ≡ kept levels types l b a i
+  pub full-is : full ≡ kept levels types l a b i
+  pub all-met : kept levels types l b a i ≡ true
+  pub before : Before levels types rows l a b from
   pub parent-is : parent ≡ seen levels types l a i
   pub child-is : child ≡ seen levels types l b i
 
--- next is the edge with one run more
-abbrev pub RunMore : Edge → Bool → Bool → Edge → Type 0
-RunMore edge parent child next = (next .full ≡ (edge .full && served parent child)) × (next .met ≡ (edge .met && served child parent))
+-- nothing stands before row 0
+pub before-none : (levels types : List ℕ) (rows l a b : ℕ) → Before levels types rows l a b 0
+before-none levels types rows l a b = record {
+  inside = omega arith;
+  new-run = λ lt. absurd (not-suc-le-zero lt);
+  none = λ i lt. absurd (not-suc-le-zero lt);
+}
 
-pub passed-none : (levels types : List ℕ) (rows l a b : ℕ) → Passed levels types rows l a b (record { full = true; met = true }) false false 0
+pub passed-none : (levels types : List ℕ) (rows l a b : ℕ) → Passed levels types rows l a b true false false 0 0
 unfolding kept seen
-passed-none levels types rows l a b = record { inside = omega arith; full-is = refl; met-is = refl; parent-is = refl; child-is = refl }
+passed-none levels types rows l a b = record {
+  inside = omega arith;
+  full-is = refl;
+  all-met = refl;
+  before = before-none levels types rows l a b;
+  parent-is = refl;
+  child-is = refl;
+}
 
-module _ {levels types : List ℕ} {rows l a b : ℕ} {edge : Edge} {parent child : Bool} {i : ℕ} (p : Passed levels types rows l a b edge parent child i) where
-  full-more : {next : Edge} → RunMore edge parent child next → next .full ≡ allKept levels types l a b i
-  full-more m = m .0 ∙ ap₂ (λ x y. x && y) (p .full-is) (ap₂ served (p .parent-is) (p .child-is))
+module _ {levels types : List ℕ} {rows l a b : ℕ} {full parent child : Bool} {from i : ℕ} (p : Passed levels types rows l a b full parent child from i) where
+  -- with the last run
+  full-more : (x : Bool) → x ≡ served parent child → full && x ≡ allKept levels types l a b i
+  full-more x e = ap₂ (λ x y. x && y) (p .full-is) (e ∙ ap₂ served (p .parent-is) (p .child-is))
 
-  met-more : {next : Edge} → RunMore edge parent child next → next .met ≡ allKept levels types l b a i
-  met-more m = m .1 ∙ ap₂ (λ x y. x && y) (p .met-is) (ap₂ served (p .child-is) (p .parent-is))
+  met-more : (x : Bool) → x ≡ served child parent → x ≡ allKept levels types l b a i
+  met-more x e = e ∙ ap₂ served (p .child-is) (p .parent-is) ∙ ap (λ k. k && served (seen levels types l b i) (seen levels types l a i)) (sym (p .all-met))
 
-  -- row i begins a run
-  pub passed-new : (next : Edge) → i < rows → begins levels l i ≡ true → RunMore edge parent child next
-      → Passed levels types rows l a b next (eqb (getD types i 0) a) (eqb (getD types i 0) b) (i + 1)
-  passed-new next lt q m = record {
-    inside = omega arith;
-    full-is = full-more m ∙ sym (kept-new levels types l i q a b);
-    met-is = met-more m ∙ sym (kept-new levels types l i q b a);
-    parent-is = sym (seen-new levels types l i q a);
-    child-is = sym (seen-new levels types l i q b);
-  }
+  module _ (met : Bool) (em : met ≡ served child parent) where
+    -- row i begins a run, and the one before it is met
+    pub passed-new : i < rows → begins levels l i ≡ true → met ≡ true → (x : Bool) → x ≡ served parent child
+        → Passed levels types rows l a b (full && x) (eqb (getD types i 0) a) (eqb (getD types i 0) b) i (i + 1)
+    passed-new lt q here x ex =
+        let met-now : kept levels types l b a (i + 1) ≡ true = kept-new levels types l i q b a ∙ sym (met-more met em) ∙ here in
+        record {
+          inside = omega arith;
+          full-is = full-more x ex ∙ sym (kept-new levels types l i q a b);
+          all-met = met-now;
+          before = record { inside = p .inside; new-run = λ pos. q; none = none-before levels types l b a rows i lt q met-now };
+          parent-is = sym (seen-new levels types l i q a);
+          child-is = sym (seen-new levels types l i q b);
+        }
+
+    -- it is not met
+    pub passed-lone : i < rows → begins levels l i ≡ true → met ≡ false
+        → Walked levels types rows l a b (record { full = full; met = false; from = from })
+    passed-lone lt q lost =
+        let (r, lr, own, none) = kept-false levels types l b a rows (i + 1) (omega arith) (kept-new levels types l i q b a ∙ sym (met-more met em) ∙ lost) in
+        record {
+          full-is = λ e. absurd (true≢false (sym e));
+          met-is = sym (one-apart levels types rows l a b r lr own none);
+          before = p .before;
+        }
+
+    -- all rows are passed
+    pub passed-all : rows ≤ i → (x : Bool) → x ≡ served parent child
+        → Walked levels types rows l a b (record { full = full && x; met = met; from = from })
+    passed-all le x ex =
+        let e : i ≡ rows = omega (arith, p .inside) in
+        record {
+          full-is = λ here. full-more x ex ∙ ap (allKept levels types l a b) e ∙ walk-end levels types l a b rows;
+          met-is = met-more met em ∙ ap (allKept levels types l b a) e ∙ walk-end levels types l b a rows;
+          before = p .before;
+        }
 
   -- row i is of the run so far
   pub passed-on : i < rows → begins levels l i ≡ false
-      → Passed levels types rows l a b edge (parent || eqb (getD types i 0) a) (child || eqb (getD types i 0) b) (i + 1)
+      → Passed levels types rows l a b full (parent || eqb (getD types i 0) a) (child || eqb (getD types i 0) b) from (i + 1)
   passed-on lt q = record {
     inside = omega arith;
     full-is = p .full-is ∙ sym (kept-on levels types l i q a b);
-    met-is = p .met-is ∙ sym (kept-on levels types l i q b a);
+    all-met = kept-on levels types l i q b a ∙ p .all-met;
+    before = p .before;
     parent-is = ap (λ x. x || eqb (getD types i 0) a) (p .parent-is) ∙ sym (seen-on levels types l i q a);
     child-is = ap (λ x. x || eqb (getD types i 0) b) (p .child-is) ∙ sym (seen-on levels types l i q b);
   }
-
-  pub passed-all : (next : Edge) → rows ≤ i → RunMore edge parent child next → Walked levels types rows l a b next
-  passed-all next le m =
-      let e : i ≡ rows = omega (arith, p .inside) in
-      record {
-        full-is = full-more m ∙ ap (allKept levels types l a b) e ∙ walk-end levels types l a b rows;
-        met-is = met-more m ∙ ap (allKept levels types l b a) e ∙ walk-end levels types l b a rows;
-      }

@@ -1,19 +1,21 @@
--- From a prepared table and shape to the verdict. Assumes nothing.
+-- From a prepared table and shape to the verdict and the second answer. Assumes nothing.
 use Prim.Native.Nat.{ℕ, zero, suc, _+_, _-_, _≤_, _<_}
 use native.Mathlib.Omega.{arith}
-use mathlib.Core.Path.{_≡_, refl, sym, _∙_, ap, ap₂}
+use mathlib.Core.Path.{_≡_, refl, sym, _∙_, ap, ap₂, subst}
 use mathlib.Core.Bool.{Bool, true, false, _&&_, not}
 use mathlib.Core.List.{List, [], _∷_, _++_, map}
+use lib.Dec.{eqb}
 use lib.ListN.{length, getD, drop}
-use Rattle.paper.specs.Lists.{Has, keep, all, firstOr, joinMap, count}
+use Rattle.paper.specs.Lists.{Has, keep, all, any, firstOr, joinMap, count}
 use Rattle.paper.specs.Format.{base}
 use Rattle.paper.specs.Tables.{rows}
 use Rattle.paper.specs.Closeness.{Node, nodes, ofKind, kindsMeet, closestOf}
 use Rattle.paper.specs.Shapes as Paper
 use Rattle.paper.specs.Shapes.{numbers, kind, parent, way, path}
 use Rattle.paper.specs.Verdict
-use Rattle.paper.specs.Verdict.{kept, missing, verdictNumbers, isEmpty, overPairs, meeting, partners, alone, full, edgeLevel, lone, pairFault, verdict}
-use Rattle.paper.specs.Calls.{judge, reply, given, _>>=_, Reply}
+use Rattle.paper.specs.Verdict.{Judgement, kept, missing, isApart, verdictNumbers, isEmpty, overPairs}
+use Rattle.paper.specs.Verdict.{meeting, partners, alone, full, edgeLevel, lone, pairFault, verdict, noneApart, judgement}
+use Rattle.paper.specs.Calls.{judge, reply, given, noJudgement, _>>=_, Reply}
 use Rattle.paper.proofs.Agree.{shared-length}
 use Rattle.paper.proofs.Closeness.{kindsMeet-sym, kindsMeet-le}
 use Rattle.closest.proofs.Levels.{level-most}
@@ -26,16 +28,17 @@ use Rattle.shapes.proofs.Given.{ways-are, way-deep}
 use Rattle.shapes.proofs.Inside.{way-inside, path-inside}
 use Rattle.shapes.proofs.Places.{way-place}
 use Rattle.judging.specs.Told.{told, numbersOf}
-use Rattle.judging.specs.Judged.{judged, inNumbers}
+use Rattle.judging.specs.Judged.{InNumbers, judged, inNumbers}
 use Rattle.judging.specs.declared.verdict.Verdict.{Verdict}
 use Rattle.judging.specs.declared.verdict.Verdict.the-variants.{Kept, Missing, Apart, Unsure}
 use Rattle.judging.specs.declared.judge.Judged.{Judged}
+use Rattle.judging.specs.declared.edges.Edges.{Edges}
 use Rattle.judging.specs.Lone.{aloneOf, aloneRows, loneFrom}
-use Rattle.judging.specs.Edges.{Fulls}
-use Rattle.judging.specs.Pairs.{Room, firstFault, fault, earned, earnedBy}
+use Rattle.judging.specs.Edges.{Fulls, WalkedTo}
+use Rattle.judging.specs.Pairs.{Room, leastOn, firstFault, fault, earned, earnedBy, apartPair, noPairApart}
 use Rattle.judging.proofs.Closest.{alone-empty, alone-missing}
-use Rattle.judging.proofs.Found.{first-found, none-lone}
-use Rattle.judging.proofs.Earned.{earned-fault, faults-same}
+use Rattle.judging.proofs.Found.{first-found, none-lone, all-walked}
+use Rattle.judging.proofs.Earned.{least-is, earned-fault, join-related, pairs-related, more-same, NoneIn, none-more, none-paper}
 
 -- ---- the rows of an edge's types
 -- no row is left over exactly where all pass
@@ -56,12 +59,6 @@ module _ (t : List Node) (p : Paper.Shape) (c : ℕ) where
   alone-is : aloneOf t (kind p c) (kind p (parent p c)) ≡ alone t p c
   unfolding aloneOf alone partners
   alone-is = refl
-
--- the same for each of the numbers, the same for all
-join-same : {A : Type 0} (g h : ℕ → List A) (i n : ℕ) → ((e : ℕ) → i ≤ e → e < i + n → g e ≡ h e) → joinMap g (count i n) ≡ joinMap h (count i n)
-join-same g h i zero q = refl
-join-same {A} g h i (suc n) q =
-    ap₂ {C = List A} (λ x y. x ++ y) (q i (omega arith) (omega arith)) (join-same g h (suc i) n (λ e a b. q e (omega arith) (omega arith)))
 
 -- ---- a prepared table and shape
 module _ {t sb : List ℕ} {w : Work} (r : Ready t sb w) where
@@ -136,7 +133,7 @@ module _ {t sb : List ℕ} {w : Work} (r : Ready t sb w) where
   lone-is : loneFrom (w .levels) (w .types) (w .rows) s 1 (s .entries - 1) ≡ lone ns p
   unfolding loneFrom lone
   lone-is =
-      join-same told-rows told-nodes 1 (s .entries - 1) (λ e ge lt. one e (omega (arith, r .shaped .sized .some)))
+      join-related _≡_ refl more-same told-rows told-nodes 1 (s .entries - 1) (λ e ge lt. one e (omega (arith, r .shaped .sized .some)))
       ∙ ap (joinMap told-nodes) (rest (s .entries) (length (p .ways)) (r .holds .counted) (r .shaped .sized .some))
     where
       one : (e : ℕ) → e < s .entries → told-rows e ≡ told-nodes e
@@ -155,7 +152,30 @@ module _ {t sb : List ℕ} {w : Work} (r : Ready t sb w) where
       let q = e ∙ ap (firstOr kept) lone-is in
       q ∙ sym (first-found (lone ns p) (overPairs (pairFault ns p) (numbers p)) (λ x. ne (q ∙ x)))
 
-  module _ (fulls : List Bool) (filled : Fulls (w .levels) (w .types) (w .rows) (w .shape) fulls) where
+  -- ---- the pairs of entries
+  -- the edges on a path are among the entries, and the types meet no deeper than levels go
+  inside : (e f : ℕ) → e < f → f < s .entries → (c : ℕ) → Has c (path p e f) → c < s .entries
+  inside e f lt lf c h =
+      omega (arith, path-inside p (ways-are t sb (r .given-is)) e f (entry-in e (omega arith)) (entry-in f lf) c h, r .holds .counted)
+
+  small : (e f : ℕ) → e < f → f < s .entries → meetingOf (w .meetings) (s .types) e f < 255
+  small e f lt lf = omega (arith, meeting-is e f (omega arith) lf, meeting-small e f)
+
+  -- no pair earns a 2, by the arrays and by the paper
+  pub apart-are : noPairApart (w .shape) (w .ways) (w .meetings) ≡ noneApart (nodes (rows base t)) (shapeIn base t sb)
+  unfolding noPairApart noneApart
+  apart-are =
+      pairs-related NoneIn refl none-more (apartPair s (w .ways) (w .meetings)) (pairFault ns p) 0 (s .entries) (λ e f ge lt lf. pair e f lt (omega arith))
+      ∙ ap (λ n. not (any isApart (overPairs (pairFault ns p) (count 0 n)))) (r .holds .counted)
+    where
+      pair : (e f : ℕ) → e < f → f < s .entries → NoneIn (apartPair s (w .ways) (w .meetings) e f) (pairFault ns p e f)
+      pair e f lt lf =
+          let m = meetingOf (w .meetings) (s .types) e f in
+          none-paper ns p e f _
+          (ap₂ (λ a b. eqb (leastOn (s .edges) a b) m) (r .holds .way-is e (omega arith)) (r .holds .way-is f lf)
+          ∙ least-is ns p (s .edges) e f m (meeting-is e f (omega arith) lf) (small e f lt lf) (λ c h. edge-is c (inside e f lt lf c h)))
+
+  module _ (fulls : List Bool) (filled : Fulls (w .levels) (w .types) (w .rows) (w .shape) (w .shape .entries) fulls) where
     fulls-are : (c : ℕ) → c < s .entries → getD fulls c false ≡ full ns p c
     fulls-are c lt =
         filled c lt
@@ -165,41 +185,42 @@ module _ {t sb : List ℕ} {w : Work} (r : Ready t sb w) where
     faults-are : firstFault s (w .ways) fulls (w .meetings) ≡ firstOr kept (overPairs (pairFault ns p) (numbers p))
     unfolding firstFault
     faults-are =
-        ap (firstOr kept) (faults-same _ (pairFault ns p) 0 (s .entries) (λ e f ge lt lf. pair e f lt (omega arith))
+        ap (firstOr kept) (pairs-related _≡_ refl more-same _ (pairFault ns p) 0 (s .entries) (λ e f ge lt lf. pair e f lt (omega arith))
         ∙ ap (λ n. overPairs (pairFault ns p) (count 0 n)) (r .holds .counted))
       where
         pair : (e f : ℕ) → e < f → f < s .entries
             → fault (earned (s .levels) (s .edges) fulls (w .ways) (meetingOf (w .meetings) (s .types) e f) e f) ≡ pairFault ns p e f
         pair e f lt lf =
-            let le : e < s .entries = omega arith in
-            let m = meeting-is e f le lf in
-            ap₂ (λ a b. fault (earnedBy (s .edges) fulls (meetingOf (w .meetings) (s .types) e f) e f a b)) (r .holds .way-is e le) (r .holds .way-is f lf)
-            ∙ earned-fault ns p (s .edges) fulls e f (meetingOf (w .meetings) (s .types) e f) m (omega (arith, m, meeting-small e f))
-            (λ c h. edge-is c (inside c h)) (λ c h. fulls-are c (inside c h))
-          where
-            inside : (c : ℕ) → Has c (path p e f) → c < s .entries
-            inside c h = omega (arith, path-inside p (ways-are t sb (r .given-is)) e f (entry-in e (omega arith)) (entry-in f lf) c h, r .holds .counted)
+            let m = meetingOf (w .meetings) (s .types) e f in
+            ap₂ (λ a b. fault (earnedBy (s .edges) fulls m e f a b)) (r .holds .way-is e (omega arith)) (r .holds .way-is f lf)
+            ∙ earned-fault ns p (s .edges) e f m (meeting-is e f (omega arith) lf) (small e f lt lf) (λ c h. edge-is c (inside e f lt lf c h))
+            fulls (λ c h. fulls-are c (inside e f lt lf c h))
 
-    pub pair-verdict : firstOr kept (loneFrom (w .levels) (w .types) (w .rows) (w .shape) 1 (w .shape .entries - 1)) ≡ kept
-        → firstFault (w .shape) (w .ways) fulls (w .meetings) ≡ verdict (nodes (rows base t)) (shapeIn base t sb)
-    unfolding verdict
-    pair-verdict q =
-        faults-are
-        ∙ ap (λ l. firstOr kept (l ++ overPairs (pairFault ns p) (numbers p)))
-        (sym (sym lone-is ∙ none-lone (w .levels) (w .types) (w .rows) s 1 (s .entries - 1) q))
+  -- where no row is without a partner all edges are walked, and the first pair that earns a 2 or a 3 decides
+  pub pair-verdict : (edges : Edges) → WalkedTo (w .levels) (w .types) (w .rows) (w .shape) edges
+      → firstOr kept (loneFrom (w .levels) (w .types) (w .rows) (w .shape) 1 (w .shape .entries - 1)) ≡ kept
+      → firstFault (w .shape) (w .ways) (edges .full) (w .meetings) ≡ verdict (nodes (rows base t)) (shapeIn base t sb)
+  unfolding verdict
+  pair-verdict edges walked q =
+      let none = none-lone (w .levels) (w .types) (w .rows) s 1 (s .entries - 1) q in
+      let all : edges .met ≡ s .entries = all-walked (w .levels) (w .types) (w .rows) s edges walked none in
+      faults-are (edges .full) (subst (λ n. Fulls (w .levels) (w .types) (w .rows) s n (edges .full)) all (walked .fulls))
+      ∙ ap (λ l. firstOr kept (l ++ overPairs (pairFault ns p) (numbers p))) (sym (sym lone-is ∙ none))
 
 -- ---- the answer
 module _ {t sb : List ℕ} {w : Work} (p : Prepared t sb w) where
-  pub judge-refused : (w .number ≡ 0 → ⊥) → record { number = w .number; place = w .place; rest = kept } ≡ judge base t sb
+  pub judge-refused : (w .number ≡ 0 → ⊥) → record { number = w .number; place = w .place; rest = noJudgement } ≡ judge base t sb
   unfolding judge
-  judge-refused ne = sym (ap (λ a. reply kept (a >>= (λ x. given (verdict (x .nodes) (x .shape))))) (p .refused-is ne))
+  judge-refused ne = sym (ap (λ a. reply noJudgement (a >>= (λ x. given (judgement (x .nodes) (x .shape))))) (p .refused-is ne))
 
-  pub judge-given : w .number ≡ 0 → (v : Verdict.Verdict) → v ≡ verdict (nodes (rows base t)) (shapeIn base t sb)
-      → record { number = 0; place = 0; rest = v } ≡ judge base t sb
+  -- the verdict v and the second answer n are those of the paper
+  pub judge-given : w .number ≡ 0 → (v : Verdict.Verdict) (n : Bool) → v ≡ verdict (nodes (rows base t)) (shapeIn base t sb)
+      → n ≡ noPairApart (w .shape) (w .ways) (w .meetings)
+      → record { number = 0; place = 0; rest = record { verdict = v; noneApart = n } } ≡ judge base t sb
   unfolding judge
-  judge-given z v e =
-      ap {B = Reply Verdict.Verdict} (λ v. record { number = 0; place = 0; rest = v }) e
-      ∙ sym (ap (λ a. reply kept (a >>= (λ x. given (verdict (x .nodes) (x .shape))))) (p .ready z .given-is))
+  judge-given z v n e q =
+      ap₂ {C = Reply Judgement} (λ v n. record { number = 0; place = 0; rest = record { verdict = v; noneApart = n } }) e (q ∙ apart-are (p .ready z))
+      ∙ sym (ap (λ a. reply noJudgement (a >>= (λ x. given (judgement (x .nodes) (x .shape))))) (p .ready z .given-is))
 
 -- the numbers of a verdict are those of the paper's
 numbers-told : (v : Verdict) → numbersOf v ≡ verdictNumbers (told v)
@@ -208,8 +229,10 @@ numbers-told (Missing e r) = refl
 numbers-told (Apart e f) = refl
 numbers-told (Unsure e f) = refl
 
-pub answered : (r : Judged) (v : Verdict) (b : Reply Verdict.Verdict) → (r .number ≡ 0) × (r .place ≡ 0) × (r .verdict ≡ v)
-    → record { number = 0; place = 0; rest = told v } ≡ b → judged r ≡ inNumbers b
-answered r v b (n, p, q) e =
-    ap₂ {C = Reply (List ℕ)} (λ k l. record { number = k; place = l; rest = numbersOf (r .verdict) }) n p
-    ∙ ap {B = Reply (List ℕ)} (λ x. record { number = 0; place = 0; rest = x }) (ap numbersOf q ∙ numbers-told v) ∙ ap inNumbers e
+pub answered : (r : Judged) (v : Verdict) (n : Bool) (b : Reply Judgement)
+    → (r .number ≡ 0) × (r .place ≡ 0) × (r .verdict ≡ v) × (r .«none_apart» ≡ n)
+    → record { number = 0; place = 0; rest = record { verdict = told v; noneApart = n } } ≡ b → judged r ≡ inNumbers b
+answered r v n b (z, p, q, o) e =
+    ap₂ {C = Reply InNumbers} (λ k l. record { number = k; place = l; rest = record { verdict = numbersOf (r .verdict); noneApart = r .«none_apart» } }) z p
+    ∙ ap₂ {C = Reply InNumbers} (λ x y. record { number = 0; place = 0; rest = record { verdict = x; noneApart = y } }) (ap numbersOf q ∙ numbers-told v) o
+    ∙ ap inNumbers e

@@ -8,11 +8,14 @@ use lib.ListN.{length, getD, drop}
 use Rattle.paper.specs.Lists.{firstOr, count}
 use Rattle.paper.specs.Format.{mostEntries}
 use Rattle.paper.specs.Closeness.{shared}
-use Rattle.paper.specs.Verdict.{Verdict, kept, missing, apart, unsure, overPairs}
+use Rattle.paper.specs.Verdict.{Verdict, kept, missing, apart, unsure, isEmpty, overPairs}
 use Rattle.shapes.specs.Edges.{meetingOf}
 use Rattle.shapes.specs.Shape.{levelOf, Sized}
 use Rattle.shapes.specs.Ways.{wayPlaces, wayAt}
 use Rattle.shapes.specs.declared.shape.Shape.{Shape}
+use Rattle.judging.specs.Told.{told}
+use Rattle.judging.specs.declared.verdict.Verdict as Judged
+use Rattle.judging.specs.declared.pairs.Path.{Path}
 
 -- the least of b and these
 abbrev pub lowest : ℕ → List ℕ → ℕ
@@ -35,19 +38,26 @@ module _ (edges : List ℕ) where
   sureOn full l [] = false
   sureOn full l (c ∷ cs) = eqb (getD edges c 0) l || (getD full c false && sureOn full l cs)
 
+  -- the least level on the path between two entries whose ways are these
+  abbrev pub leastOn : List ℕ → List ℕ → ℕ
+  leastOn a b = lowest (lowest 255 (levelsOn (drop (shared a b) a))) (levelsOn (drop (shared a b) b))
+
   -- what a pair earns whose types meet at m and whose ways are these
   abbrev pub earnedBy : List Bool → ℕ → ℕ → ℕ → List ℕ → List ℕ → Verdict
   earnedBy full m e f a b =
-      let down = drop (shared a b) a in
-      let up = drop (shared a b) b in
-      elim (eqb (lowest (lowest 255 (levelsOn down)) (levelsOn up)) m) [
-        | true ↦ elim (sureOn full m down || sureOn full m up) [ true ↦ kept | false ↦ unsure e f ]
+      elim (eqb (leastOn a b) m) [
+        | true ↦ elim (sureOn full m (drop (shared a b) a) || sureOn full m (drop (shared a b) b)) [ true ↦ kept | false ↦ unsure e f ]
         | false ↦ apart e f
       ]
 
 -- the entries from entry 0 down to e
 abbrev pub wayOf : (levels ways : List ℕ) → ℕ → List ℕ
 wayOf levels ways e = wayAt ways e (getD levels e 0)
+
+-- what is found of the path between e and f
+pub record Found (levels edges ways : List ℕ) (e f : ℕ) (path : Path) : Type 0 where
+  pub shared-is : path .shared ≡ shared (wayOf levels ways e) (wayOf levels ways f)
+  pub least-is : path .least ≡ leastOn edges (wayOf levels ways e) (wayOf levels ways f)
 
 abbrev pub earned : (levels edges : List ℕ) → List Bool → (ways : List ℕ) → ℕ → ℕ → ℕ → Verdict
 earned levels edges full ways m e f = earnedBy edges full m e f (wayOf levels ways e) (wayOf levels ways f)
@@ -56,6 +66,22 @@ earned levels edges full ways m e f = earnedBy edges full m e f (wayOf levels wa
 unfoldable pub firstFault : Shape → List ℕ → List Bool → List ℕ → Verdict
 firstFault s ways full meetings =
     firstOr kept (overPairs (λ e f. fault (earned (s .levels) (s .edges) full ways (meetingOf meetings (s .types) e f) e f)) (count 0 (s .entries)))
+
+-- the fault is the first that the pairs earn, whichever edges are full
+abbrev pub FirstFault : Shape → List ℕ → List ℕ → Judged.Verdict → Type 0
+FirstFault s ways meetings v = (full : List Bool) × (told v ≡ firstFault s ways full meetings)
+
+-- the 2 that the pair earns, where its types do not meet at the least level on the path
+abbrev pub apartPair : Shape → List ℕ → List ℕ → ℕ → ℕ → List Verdict
+apartPair s ways meetings e f =
+    elim (eqb (leastOn (s .edges) (wayOf (s .levels) ways e) (wayOf (s .levels) ways f)) (meetingOf meetings (s .types) e f)) [
+      | true ↦ []
+      | false ↦ apart e f ∷ []
+    ]
+
+-- no pair earns a 2
+unfoldable pub noPairApart : Shape → List ℕ → List ℕ → Bool
+noPairApart s ways meetings = isEmpty (overPairs (apartPair s ways meetings) (count 0 (s .entries)))
 
 -- the way of entry e, of n levels, has a place for each level, and holds entries
 pub record WayFits (ways : List ℕ) (e n : ℕ) : Type 0 where

@@ -12,7 +12,7 @@ ghost use Rattle.closest.specs.Runs.{Rows};
 ghost use Rattle.shapes.specs.Shape.{Sized};
 ghost use Rattle.judging.specs.Told.{told};
 ghost use Rattle.judging.specs.Lone.{candidateFrom, OnInRun, loneFrom};
-ghost use Rattle.judging.specs.Edges.{Mets};
+ghost use Rattle.judging.specs.Edges.{AllMet};
 
 // Where the candidates for row r are looked for: from r itself where a run begins there, and else from j on.
 fn candidate_from(levels: &[u8], bound: u8, r: usize, j: usize) -> usize
@@ -40,29 +40,26 @@ fn next_in_run(levels: &[u8], rows: usize, bound: u8, j: usize) -> usize
     k
 }
 
-// The first row without a partner, by entry, then by row. An entry whose rows all have one is passed over.
+// The first row without a partner, by entry, then by row: from entry `met` on, whose rows before row `from` all have one.
 pub fn first_lone(
     levels: &[u8],
     types: &[u8],
     rows: usize,
     shape: Shape,
-    met: [bool; 16],
+    met: usize,
+    from: usize,
 ) -> Verdict
-    requires { ⌜ Rows rows (now levels) (now types) × Sized shape × Mets (now levels) (now types) rows shape met ⌝ }
+    requires { ⌜ Rows rows (now levels) (now types) × Sized shape × AllMet (now levels) (now types) rows shape met from ⌝ }
     ensures { λ r. ⌜ told r ≡ firstOr kept (loneFrom (now (levels .entry)) (now (types .entry)) rows shape 1 (shape .entries - 1)) ⌝ }
 {
     let mut lone = Verdict::Kept;
-    let mut c = 1;
+    let mut c = met;
+    let mut r = from;
     'entries: while c < shape.entries {
-        if met[c] {
-            c += 1;
-            continue 'entries;
-        }
         let own = shape.types[c];
         let other = shape.types[bytes::wide(shape.parents[c])];
         let bound = run_bound(shape.edges[c]);
-        let mut j = 0;
-        let mut r = 0;
+        let mut j = r;
         'rows: while r < rows {
             j = candidate_from(levels, bound, r, j);
             if types[r] == own {
@@ -78,6 +75,7 @@ pub fn first_lone(
             }
             r += 1;
         }
+        r = 0;
         c += 1;
     }
     lone

@@ -1,5 +1,6 @@
 // Pairs of entries: the least level on their path, full edges, and the first pair that earns a 2 or a 3. Full edges come in an array,
-// found once for all pairs. What runs for each pair takes only the arrays that it reads, since a Shape by value is copied at each call.
+// found once for all pairs. What runs for each pair takes only the arrays that it reads, since a Shape by value is copied
+// at each call.
 use crate::verdict::Verdict;
 use shapes::edges::meeting;
 use shapes::shape::Shape;
@@ -7,7 +8,7 @@ ghost use mathlib.Core.Path.{_≡_};
 ghost use lib.ListN.{length, getD, drop};
 ghost use Rattle.paper.specs.Closeness.{shared};
 ghost use Rattle.judging.specs.Told.{told};
-ghost use Rattle.judging.specs.Pairs.{WayFits, wayOf, lowest, levelsOn, sureOn, earned, Room, firstFault};
+ghost use Rattle.judging.specs.Pairs.{WayFits, wayOf, lowest, levelsOn, sureOn, Found, earned, Room, firstFault};
 
 // How many entries the ways of e and f share.
 fn shared_way(levels: [u8; 16], ways: &[u8], e: usize, f: usize) -> usize
@@ -76,6 +77,26 @@ fn sure_down(
     false
 }
 
+// What is found of the path between two entries.
+pub struct Path {
+    pub shared: usize, // how many entries their ways share
+    pub least: usize, // the least level on it
+}
+
+// The path between the entries e and f.
+pub fn walk_path(levels: [u8; 16], edges: [u8; 16], ways: &[u8], e: usize, f: usize) -> Path
+    requires { ⌜ WayFits (now ways) e (getD levels e 0) × WayFits (now ways) f (getD levels f 0) ⌝ }
+    ensures { λ r. ⌜ Found levels edges (now (ways .entry)) e f r ⌝ }
+{
+    let k = shared_way(levels, ways, e, f);
+    let down = least_level(levels, edges, ways, e, k, 255);
+    let least = least_level(levels, edges, ways, f, k, down);
+    Path {
+        shared: k,
+        least: least,
+    }
+}
+
 // What the pair of entries e and f earns, whose types meet at l.
 fn pair_verdict(
     levels: [u8; 16],
@@ -89,10 +110,9 @@ fn pair_verdict(
     requires { ⌜ WayFits (now ways) e (getD levels e 0) × WayFits (now ways) f (getD levels f 0) ⌝ }
     ensures { λ r. ⌜ told r ≡ earned levels edges full (now (ways .entry)) l e f ⌝ }
 {
-    let k = shared_way(levels, ways, e, f);
-    let down = least_level(levels, edges, ways, e, k, 255);
-    let least = least_level(levels, edges, ways, f, k, down);
-    if least != l {
+    let path = walk_path(levels, edges, ways, e, f);
+    let k = path.shared;
+    if path.least != l {
         return Verdict::Apart {
             first: e,
             second: f,

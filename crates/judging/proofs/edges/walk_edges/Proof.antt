@@ -1,24 +1,29 @@
--- `judging::edges::walk_edges` meets its contract: the flags of the entries before c are right. Assumes nothing.
+-- `judging::edges::walk_edges` meets its contract: all entries before c are met, and their full edges are known. Assumes nothing.
 use Prim.Native.Nat.{_-_, _≤_, _<_}
 use native.Mathlib.Omega.{arith}
-use mathlib.Core.Path.{refl}
-use mathlib.Core.Bool.{false}
+use mathlib.Core.Path.{_≡_, refl, sym, _∙_}
+use mathlib.Core.Bool.{true, false}
 use borrow.Author.Needs.{needs}
+use borrow.Author.Tests.{not-true, not-false}
 use Rattle.closest.proofs.Filled.{Filled}
-use Rattle.judging.proofs.Flags.{fullAt, metAt, first-full, first-met, full-more, met-more}
+use Rattle.judging.proofs.Flags.{fullAt, metAt, first-full, first-met, full-more, met-is, met-more, met-before}
 use Rattle.judging.proofs.edges.walk_edges.Statement.{statement}
 use Rattle.judging.proofs.edges.walk_edges.Tie as tie
 
 abbrev Inv-loop : tie.InvT-loop
-Inv-loop levels types rows shape full₀ met₀ c₀ full met c =
-    (1 ≤ c) × (c ≤ shape .entries) × Filled (fullAt levels types rows shape) false 16 c full × Filled (metAt levels types rows shape) false 16 c met
+Inv-loop levels types rows shape full₀ c₀ full c =
+    (1 ≤ c) × (c ≤ shape .entries) × Filled (fullAt levels types rows shape) false 16 c full × ((e : _) → e < c → metAt levels types rows shape e ≡ true)
 
 abbrev μ-loop : tie.MeasureT-loop
-μ-loop levels types rows shape full₀ met₀ c₀ full met c = shape .entries - c
+μ-loop levels types rows shape full₀ c₀ full c = shape .entries - c
 
 -- where the walk begins
 abbrev begun : tie.At-loop Inv-loop μ-loop → tie.Start Inv-loop μ-loop
 begun w = w .before .before .before
+
+-- the entry whose edge is walked
+abbrev entry : tie.After-walk-edge Inv-loop μ-loop → tie.After-wide Inv-loop μ-loop
+entry e = e .before .before .before .before
 
 loop-holds : tie.Need-loop-holds Inv-loop μ-loop
 loop-holds c =
@@ -27,7 +32,7 @@ loop-holds c =
       omega arith,
       s .pre .1 .some,
       first-full (a .levels .now) (a .types .now) (a .rows) (a .t4) (s .pre .1) _ refl refl,
-      first-met (a .levels .now) (a .types .now) (a .rows) (a .t4) (s .pre .1) _ refl refl,
+      first-met (a .levels .now) (a .types .now) (a .rows) (a .t4) (s .pre .1),
     )
 
 element-copy-out-wide : tie.Need-element-copy-out-wide Inv-loop μ-loop
@@ -51,11 +56,31 @@ element-copy-out-walk-edge-3 c = search needs
 walk-edge-requires : tie.Need-walk-edge-requires Inv-loop μ-loop
 walk-edge-requires c κs = search needs
 
+returns : tie.Need-returns Inv-loop μ-loop
+returns c =
+    let e = c .before .before in
+    let p = entry e in
+    let i = p .before .before in
+    let w = i .before in
+    let a = begun w .args in
+    let v = w .loop .inv in
+    record {
+      all-met = record {
+        some = v .0;
+        few = v .1;
+        each = v .3;
+        before = λ lt.
+            met-before (a .levels .now) (a .types .now) (a .rows) (a .t4) (w .loop .c) (p .wide .result) (e .walk-edge .result) (p .wide .ensures .0)
+            (e .walk-edge .ensures);
+      };
+      alone = λ lt.
+          sym (met-is (a .levels .now) (a .types .now) (a .rows) (a .t4) (w .loop .c) (p .wide .result) (e .walk-edge .result) (p .wide .ensures .0)
+          (e .walk-edge .ensures)) ∙ not-true (e .walk-edge .result .met) (c .if1 .taken);
+      fulls = v .2 .at;
+    }
+
 array-write-full : tie.Need-array-write-full Inv-loop μ-loop
 array-write-full c = search needs
-
-array-write-met : tie.Need-array-write-met Inv-loop μ-loop
-array-write-met c = search needs
 
 add-c : tie.Need-add-c Inv-loop μ-loop
 add-c c = search needs
@@ -65,24 +90,31 @@ loop-less c = search needs
 
 loop-again : tie.Need-loop-again Inv-loop μ-loop
 loop-again c =
-    let p = c .before .before .before .before in
+    let e = c .before .before in
+    let p = entry e in
     let i = p .before .before in
     let w = i .before in
     let s = begun w in
     let a = s .args in
-    let lt : w .loop .c < 16 = omega (arith, i .loop-test .taken, s .pre .1 .few) in (
+    let v = w .loop .inv in
+    let here = not-false (e .walk-edge .result .met) (c .if1 .left) in (
       omega arith,
       omega (arith, i .loop-test .taken),
-      full-more (a .levels .now) (a .types .now) (a .rows) (a .t4) (w .loop .c) (p .wide .result) (c .walk-edge .result) (w .loop .full) (w .loop .met)
-          lt (p .wide .ensures .0) (c .walk-edge .ensures) (w .loop .inv .2),
-      met-more (a .levels .now) (a .types .now) (a .rows) (a .t4) (w .loop .c) (p .wide .result) (c .walk-edge .result) (w .loop .full) (w .loop .met)
-          lt (p .wide .ensures .0) (c .walk-edge .ensures) (w .loop .inv .3),
+      full-more (a .levels .now) (a .types .now) (a .rows) (a .t4) (w .loop .c) (p .wide .result) (e .walk-edge .result) (p .wide .ensures .0)
+          (e .walk-edge .ensures) here (w .loop .full) (omega (arith, i .loop-test .taken, s .pre .1 .few)) (v .2),
+      met-more (a .levels .now) (a .types .now) (a .rows) (a .t4) (w .loop .c) (p .wide .result) (e .walk-edge .result) (p .wide .ensures .0)
+          (e .walk-edge .ensures) here (v .3),
     )
 
-returns : tie.Need-returns Inv-loop μ-loop
-returns c =
+returns-2 : tie.Need-returns-2 Inv-loop μ-loop
+returns-2 c =
     let v = c .before .loop .inv in
-    (λ e lt. v .2 .at e (omega (arith, c .loop-test .left)), λ e lt. v .3 .at e (omega (arith, c .loop-test .left)))
+    let none : c .before .loop .c < begun (c .before) .args .t4 .entries → ⊥ = λ lt. omega (arith, c .loop-test .left) in
+    record {
+      all-met = record { some = v .0; few = v .1; each = v .3; before = λ lt. absurd (none lt) };
+      alone = λ lt. absurd (none lt);
+      fulls = v .2 .at;
+    }
 
 pub walk-edges-spec : {M : Type 1} → statement M
 walk-edges-spec =
@@ -97,9 +129,9 @@ walk-edges-spec =
     element-copy-out-walk-edge-2
     element-copy-out-walk-edge-3
     walk-edge-requires
+    returns
     array-write-full
-    array-write-met
     add-c
     loop-less
     loop-again
-    returns)
+    returns-2)

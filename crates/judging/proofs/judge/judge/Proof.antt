@@ -29,7 +29,7 @@ ready u = prepared u .prepare .ensures .ready (u .if1 .left)
 
 -- where the edges are walked
 abbrev walked : tie.After-first-lone → tie.After-walk-edges
-walked c = c .before .before .before .before
+walked c = c .before .before .before
 
 -- where no row is without a partner
 abbrev searched : tie.After-meetings3 → tie.After-enum-told
@@ -70,9 +70,9 @@ slice-aggregate-first-lone-2 c = search needs
 
 first-lone-requires : tie.Need-first-lone-requires
 first-lone-requires c κs =
-    let e = c .before .before .before in
+    let e = c .before .before in
     let r = ready (tested (e .before)) in
-    (r .rows-are, r .shaped .sized, e .walk-edges .ensures .1)
+    (r .rows-are, r .shaped .sized, e .walk-edges .ensures .all-met)
 
 enum-told : tie.Need-enum-told
 enum-told c = search needs
@@ -88,32 +88,62 @@ first-fault-requires c κs =
     let u = tested (walked (searched c .before .before) .before) in
     (room (ready u) (sym (slice-aggregate-first-fault (c .before))), sym (slice-aggregate-first-fault-2 c))
 
+slice-aggregate-none-apart-beside : tie.Need-slice-aggregate-none-apart-beside
+slice-aggregate-none-apart-beside c = search needs
+
+slice-aggregate-none-apart-beside-2 : tie.Need-slice-aggregate-none-apart-beside-2
+slice-aggregate-none-apart-beside-2 c = search needs
+
+none-apart-beside-requires : tie.Need-none-apart-beside-requires
+none-apart-beside-requires c κs =
+    let v = c .before .before in
+    let e = walked (searched (v .before) .before .before) in (
+      room (ready (tested (e .before))) (sym (slice-aggregate-none-apart-beside (c .before))),
+      sym (slice-aggregate-none-apart-beside-2 c),
+      (e .walk-edges .result .full, v .first-fault .ensures),
+    )
+
 given-requires : tie.Need-given-requires
 given-requires c κs = search needs
+
+slice-aggregate-none-apart : tie.Need-slice-aggregate-none-apart
+slice-aggregate-none-apart c = search needs
+
+slice-aggregate-none-apart-2 : tie.Need-slice-aggregate-none-apart-2
+slice-aggregate-none-apart-2 c = search needs
+
+none-apart-requires : tie.Need-none-apart-requires
+none-apart-requires c κs =
+    let u = tested (walked (c .before .before .before) .before) in
+    (room (ready u) (sym (slice-aggregate-none-apart (c .before))), sym (slice-aggregate-none-apart-2 c))
 
 given-requires-2 : tie.Need-given-requires-2
 given-requires-2 c κs = search needs
 
 returns-2 : tie.Need-returns-2
 returns-2 c =
-    let v = c .before in
+    let o = c .before in
+    let v = o .before .before .before in
     let k = searched (v .before) in
     let l = k .before .before in
     let e = walked l in
     let u = tested (e .before) in
-    answered (c .given .result) (v .first-fault .result) _ (c .given .ensures)
-    (judge-given (prepared u .prepare .ensures) (u .if1 .left) _
+    answered (c .given .result) (v .first-fault .result) (o .none-apart-beside .result) _ (c .given .ensures)
+    (judge-given (prepared u .prepare .ensures) (u .if1 .left) _ _
     (v .first-fault .ensures
-    ∙ pair-verdict (ready u) (e .walk-edges .result .full) (e .walk-edges .ensures .0) (sym (l .first-lone .ensures) ∙ ap told (k .enum-told .given .1))))
+    ∙ pair-verdict (ready u) (e .walk-edges .result) (e .walk-edges .ensures) (sym (l .first-lone .ensures) ∙ ap told (k .enum-told .given .1)))
+    (o .none-apart-beside .ensures))
 
 returns-3 : tie.Need-returns-3
 returns-3 c =
-    let m = c .before in
+    let o = c .before in
+    let m = o .before .before .before in
     let l = m .before in
     let u = tested (walked l .before) in
-    answered (c .given2 .result) (l .first-lone .result) _ (c .given2 .ensures)
-    (judge-given (prepared u .prepare .ensures) (u .if1 .left) _
-    (alone-verdict (ready u) (told (l .first-lone .result)) (l .first-lone .ensures) (not-kept (l .first-lone .result) (m .match .keys2))))
+    answered (c .given2 .result) (l .first-lone .result) (o .none-apart .result) _ (c .given2 .ensures)
+    (judge-given (prepared u .prepare .ensures) (u .if1 .left) _ _
+    (alone-verdict (ready u) (told (l .first-lone .result)) (l .first-lone .ensures) (not-kept (l .first-lone .result) (m .match .keys2)))
+    (o .none-apart .ensures))
 
 pub judge-spec : {M : Type 1} → statement M
 judge-spec =
@@ -135,7 +165,13 @@ judge-spec =
     slice-aggregate-first-fault
     slice-aggregate-first-fault-2
     first-fault-requires
+    slice-aggregate-none-apart-beside
+    slice-aggregate-none-apart-beside-2
+    none-apart-beside-requires
     given-requires
+    slice-aggregate-none-apart
+    slice-aggregate-none-apart-2
+    none-apart-requires
     given-requires-2
     returns-2
     returns-3)

@@ -1,50 +1,51 @@
 -- `judging::lone::first_lone` meets its contract: the answer is still to come from the entry, the row and the candidate on.
 -- Assumes nothing.
-use Prim.Native.Nat.{_-_, _≤_}
+use Prim.Native.Nat.{_-_, _≤_, _<_}
 use native.Mathlib.Omega.{arith}
 use mathlib.Core.Path.{_≡_, refl, sym, _∙_, ap}
 use mathlib.Core.Logic.{⊎-elim}
-use mathlib.Core.Bool.{true}
 use borrow.Author.Needs.{needs}
-use Rattle.paper.specs.Verdict.{Verdict, isEmpty}
+use Rattle.paper.specs.Verdict.{Verdict}
 use Rattle.shapes.specs.Shape.{typeOf, parentOf, edgeOf}
 use Rattle.judging.specs.Told.{told}
-use Rattle.judging.specs.Lone.{aloneRows}
+use Rattle.judging.specs.Edges.{MetBefore}
 use Rattle.judging.specs.declared.verdict.Verdict.the-variants.{Kept}
-use Rattle.judging.proofs.Search.{Candidates, candidates-here, candidates-on, entriesFrom, entry-met, entry-none}
-use Rattle.judging.proofs.Search.{Stands, Asked, Done, done-none, standing, done-other, done-partnered, done-alone, done-all}
+use Rattle.judging.proofs.Walk.{before-none}
+use Rattle.judging.proofs.Search.{Candidates, candidates-here, candidates-on, entriesFrom, entries-met, entry-none}
+use Rattle.judging.proofs.Search.{Stands, Asked, Done, done-before, standing, done-other, done-partnered, done-alone, done-all}
 use Rattle.judging.proofs.lone.first_lone.Statement.{statement}
 use Rattle.judging.proofs.lone.first_lone.Tie as tie
 
 abbrev Inv-loop : tie.InvT-loop
-Inv-loop levels types rows shape met lone c own other bound j₀ r₀ j r =
+Inv-loop levels types rows met from shape lone c r₀ own other bound j₀ r j =
     (r ≡ r₀) × Candidates levels types rows (edgeOf shape c) (typeOf shape (parentOf shape c)) r₀ j
 
 abbrev μ-loop : tie.MeasureT-loop
-μ-loop levels types rows shape met lone c own other bound j₀ r₀ j r = rows - j
+μ-loop levels types rows met from shape lone c r₀ own other bound j₀ r j = rows - j
 
 abbrev Inv-rows : tie.InvT-rows
-Inv-rows levels types rows shape met lone₀ c own other bound j₀ r₀ lone j r =
+Inv-rows levels types rows met from shape lone₀ c r₀ own other bound j₀ lone r j =
     (lone ≡ Kept) × Done levels types rows shape c j r (entriesFrom levels types rows shape 1)
 
 abbrev μ-rows : tie.MeasureT-rows
-μ-rows levels types rows shape met lone₀ c own other bound j₀ r₀ lone j r = rows - r
+μ-rows levels types rows met from shape lone₀ c r₀ own other bound j₀ lone r j = rows - r
 
 abbrev Inv-entries : tie.InvT-entries
-Inv-entries levels types rows shape met lone₀ c₀ lone c =
+Inv-entries levels types rows met from shape lone₀ c₀ r₀ lone c r =
     (1 ≤ c) × (c ≤ shape .entries) × (lone ≡ Kept) × (entriesFrom levels types rows shape c ≡ entriesFrom levels types rows shape 1)
+    × (c < shape .entries → MetBefore levels types rows shape c r)
 
 abbrev μ-entries : tie.MeasureT-entries
-μ-entries levels types rows shape met lone₀ c₀ lone c = shape .entries - c
+μ-entries levels types rows met from shape lone₀ c₀ r₀ lone c r = shape .entries - c
 
 -- ---- places
 -- where the search begins
 abbrev begun : tie.At-entries Inv-loop μ-loop Inv-rows μ-rows Inv-entries μ-entries → tie.Start Inv-loop μ-loop Inv-rows μ-rows Inv-entries μ-entries
 begun e = e .before .before .before
 
--- an entry that is not passed over
+-- the entry whose rows are searched
 abbrev entry : tie.After-run-bound Inv-loop μ-loop Inv-rows μ-rows Inv-entries μ-entries → tie.In-entries Inv-loop μ-loop Inv-rows μ-rows Inv-entries μ-entries
-entry p = p .before .before .before .before .before .before .before
+entry p = p .before .before .before .before .before .before
 
 -- a row whose candidates are walked
 abbrev row : tie.At-loop Inv-loop μ-loop Inv-rows μ-rows Inv-entries μ-entries → tie.In-rows Inv-loop μ-loop Inv-rows μ-rows Inv-entries μ-entries
@@ -85,29 +86,10 @@ stood k =
 
 -- ---- the answers
 entries-holds : tie.Need-entries-holds Inv-loop μ-loop Inv-rows μ-rows Inv-entries μ-entries
-entries-holds c = (omega arith, c .before .before .pre .1 .some, refl, refl)
-
-array-read-if1 : tie.Need-array-read-if1 Inv-loop μ-loop Inv-rows μ-rows Inv-entries μ-entries
-array-read-if1 c = search needs
-
-add-c : tie.Need-add-c Inv-loop μ-loop Inv-rows μ-rows Inv-entries μ-entries
-add-c c = search needs
-
-entries-less : tie.Need-entries-less Inv-loop μ-loop Inv-rows μ-rows Inv-entries μ-entries
-entries-less c = search needs
-
-entries-again : tie.Need-entries-again Inv-loop μ-loop Inv-rows μ-rows Inv-entries μ-entries
-entries-again c =
-    let w = c .before .before in
-    let s = begun w in
-    let a = s .args in
-    let all : isEmpty (aloneRows (a .levels .now) (a .types .now) (a .rows) (a .t4) (w .entries .c)) ≡ true =
-    sym (s .pre .2 (w .entries .c) (c .before .entries-test .taken)) ∙ c .if1 .taken in (
-      omega arith,
-      omega (arith, c .before .entries-test .taken),
-      w .entries .inv .2,
-      sym (entry-met (a .levels .now) (a .types .now) (a .rows) (a .t4) (w .entries .c) (c .before .entries-test .taken) all) ∙ w .entries .inv .3,
-    )
+entries-holds c =
+    let a = c .before .before .args in
+    let m = c .before .before .pre .2 in
+    (m .some, m .few, refl, entries-met (a .levels .now) (a .types .now) (a .rows) (a .t4) (a .met) (m .some) (m .few) (m .each), m .before)
 
 element-copy-out-own :
     tie.Need-element-copy-out-own Inv-loop μ-loop Inv-rows μ-rows Inv-entries μ-entries
@@ -123,7 +105,7 @@ wide-requires c κs = search needs
 element-copy-out-other :
     tie.Need-element-copy-out-other Inv-loop μ-loop Inv-rows μ-rows Inv-entries μ-entries
 element-copy-out-other c =
-    let i = c .before .before .before .before in
+    let i = c .before .before .before in
     let z = begun (i .before) .pre .1 in
     omega (arith, c .wide .ensures .0, z .under (i .before .entries .c) (i .before .entries .inv .0) (i .entries-test .taken), z .few)
 
@@ -136,15 +118,18 @@ run-bound-requires :
 run-bound-requires c κs = search needs
 
 rows-holds : tie.Need-rows-holds Inv-loop μ-loop Inv-rows μ-rows Inv-entries μ-entries
-rows-holds c = let e = entry c .before .entries in (e .inv .2, done-none (asked c) (wanted c) (e .inv .3))
+rows-holds c =
+    let i = entry c in
+    let e = i .before .entries in
+    (e .inv .2, done-before (asked c) (wanted c) (e .r) (e .inv .4 (i .entries-test .taken)) (e .inv .3))
 
 candidate-from-requires :
     tie.Need-candidate-from-requires Inv-loop μ-loop Inv-rows μ-rows Inv-entries μ-entries
 candidate-from-requires c κs = search needs
 
-shared-slice-read-if2 :
-    tie.Need-shared-slice-read-if2 Inv-loop μ-loop Inv-rows μ-rows Inv-entries μ-entries
-shared-slice-read-if2 c = search needs
+shared-slice-read-if1 :
+    tie.Need-shared-slice-read-if1 Inv-loop μ-loop Inv-rows μ-rows Inv-entries μ-entries
+shared-slice-read-if1 c = search needs
 
 loop-holds : tie.Need-loop-holds Inv-loop μ-loop Inv-rows μ-rows Inv-entries μ-entries
 loop-holds c =
@@ -152,9 +137,9 @@ loop-holds c =
     let p = k .before .before .before in
     (refl, candidates-here (asked p) (wanted p) (k .before .before .rows .r) (k .candidate-from .result) (stood k))
 
-shared-slice-read-if3 :
-    tie.Need-shared-slice-read-if3 Inv-loop μ-loop Inv-rows μ-rows Inv-entries μ-entries
-shared-slice-read-if3 c = search needs
+shared-slice-read-if2 :
+    tie.Need-shared-slice-read-if2 Inv-loop μ-loop Inv-rows μ-rows Inv-entries μ-entries
+shared-slice-read-if2 c = search needs
 
 add-r : tie.Need-add-r Inv-loop μ-loop Inv-rows μ-rows Inv-entries μ-entries
 add-r c = search needs
@@ -169,8 +154,8 @@ rows-again c =
     let w = d .before in
     rw (l .loop .inv .0) (
       w .rows .inv .0,
-      done-partnered (asked (w .before)) (wanted (w .before)) (w .rows .j) (w .rows .r) (w .rows .inv .1) (d .rows-test .taken) (l .before .if2 .taken)
-          (l .loop .j) (l .loop .inv .1) (c .before .before .loop-test .taken) (c .if3 .taken),
+      done-partnered (asked (w .before)) (wanted (w .before)) (w .rows .j) (w .rows .r) (w .rows .inv .1) (d .rows-test .taken) (l .before .if1 .taken)
+          (l .loop .j) (l .loop .inv .1) (c .before .before .loop-test .taken) (c .if2 .taken),
     )
 
 next-in-run-requires :
@@ -190,7 +175,7 @@ loop-again c =
     let w = row l .before in (
       l .loop .inv .0,
       candidates-on (asked (w .before)) (wanted (w .before)) (w .rows .r) (l .loop .j) (c .next-in-run .result) (l .loop .inv .1)
-          (i .loop-test .taken) (o .if3 .left) (c .next-in-run .ensures),
+          (i .loop-test .taken) (o .if2 .left) (c .next-in-run .ensures),
     )
 
 add-r-2 : tie.Need-add-r-2 Inv-loop μ-loop Inv-rows μ-rows Inv-entries μ-entries
@@ -206,23 +191,24 @@ rows-again-2 c =
     let w = d .before in (
       w .rows .inv .0,
       done-other (asked (w .before)) (wanted (w .before)) (w .rows .j) (w .rows .r) (w .rows .inv .1) (d .rows-test .taken) (k .candidate-from .result)
-          (stood k) (c .if2 .left),
+          (stood k) (c .if1 .left),
     )
 
-add-c-2 : tie.Need-add-c-2 Inv-loop μ-loop Inv-rows μ-rows Inv-entries μ-entries
-add-c-2 c = search needs
+add-c : tie.Need-add-c Inv-loop μ-loop Inv-rows μ-rows Inv-entries μ-entries
+add-c c = search needs
 
-entries-less-2 : tie.Need-entries-less-2 Inv-loop μ-loop Inv-rows μ-rows Inv-entries μ-entries
-entries-less-2 c = search needs
+entries-less : tie.Need-entries-less Inv-loop μ-loop Inv-rows μ-rows Inv-entries μ-entries
+entries-less c = search needs
 
-entries-again-2 : tie.Need-entries-again-2 Inv-loop μ-loop Inv-rows μ-rows Inv-entries μ-entries
-entries-again-2 c =
+entries-again : tie.Need-entries-again Inv-loop μ-loop Inv-rows μ-rows Inv-entries μ-entries
+entries-again c =
     let w = c .before in
     let i = entry (w .before) in (
       omega arith,
       omega (arith, i .entries-test .taken),
       w .rows .inv .0,
       done-all (asked (w .before)) (wanted (w .before)) (w .rows .j) (w .rows .r) (c .rows-test .left) (w .rows .inv .1),
+      λ lt. before-none _ _ _ _ _ _,
     )
 
 returns : tie.Need-returns Inv-loop μ-loop Inv-rows μ-rows Inv-entries μ-entries
@@ -238,7 +224,7 @@ returns-2 c =
     let d = row l in
     let w = d .before in
     rw (l .loop .inv .0)
-    (done-alone (asked (w .before)) (wanted (w .before)) (w .rows .j) (w .rows .r) (w .rows .inv .1) (d .rows-test .taken) (l .before .if2 .taken)
+    (done-alone (asked (w .before)) (wanted (w .before)) (w .rows .j) (w .rows .r) (w .rows .inv .1) (d .rows-test .taken) (l .before .if1 .taken)
     (l .loop .j) (l .loop .inv .1) (c .loop-test .left))
 
 pub first-lone-spec : {M : Type 1} → statement M
@@ -252,10 +238,6 @@ first-lone-spec =
     Inv-entries
     μ-entries
     entries-holds
-    array-read-if1
-    add-c
-    entries-less
-    entries-again
     element-copy-out-own
     element-copy-out-wide
     wide-requires
@@ -264,9 +246,9 @@ first-lone-spec =
     run-bound-requires
     rows-holds
     candidate-from-requires
-    shared-slice-read-if2
+    shared-slice-read-if1
     loop-holds
-    shared-slice-read-if3
+    shared-slice-read-if2
     add-r
     rows-less
     rows-again
@@ -276,8 +258,8 @@ first-lone-spec =
     add-r-2
     rows-less-2
     rows-again-2
-    add-c-2
-    entries-less-2
-    entries-again-2
+    add-c
+    entries-less
+    entries-again
     returns
     returns-2)

@@ -3,7 +3,8 @@ use Prim.Native.Nat.{ℕ, _-_}
 use native.Mathlib.Omega.{arith}
 use mathlib.Core.List.{List}
 use borrow.Author.Needs.{needs}
-use Rattle.paper.specs.Verdict.{Verdict}
+use Rattle.paper.specs.Lists.{firstOr}
+use Rattle.paper.specs.Verdict.{Verdict, kept}
 use Rattle.judging.specs.Told.{told}
 use Rattle.judging.specs.Pairs.{firstFault}
 use Rattle.judging.proofs.Ways.{way-fits}
@@ -13,13 +14,13 @@ use Rattle.judging.proofs.pairs.first_fault.Statement.{statement}
 use Rattle.judging.proofs.pairs.first_fault.Tie as tie
 
 abbrev Inv-loop2 : tie.InvT-loop2
-Inv-loop2 shape ways full meetings levels edges types e f₀ f = Inner (faultsOf shape ways full meetings) (shape .entries) e f
+Inv-loop2 shape ways full meetings levels edges types e f₀ f = Inner (firstOr kept) (faultsOf shape ways full meetings) (shape .entries) e f
 
 abbrev μ-loop2 : tie.MeasureT-loop2
 μ-loop2 shape ways full meetings levels edges types e f₀ f = shape .entries - f
 
 abbrev Inv-loop : tie.InvT-loop
-Inv-loop shape ways full meetings levels edges types e₀ e = Outer (faultsOf shape ways full meetings) (shape .entries) e
+Inv-loop shape ways full meetings levels edges types e₀ e = Outer (firstOr kept) (faultsOf shape ways full meetings) (shape .entries) e
 
 abbrev μ-loop : tie.MeasureT-loop
 μ-loop shape ways full meetings levels edges types e₀ e = shape .entries - e
@@ -38,7 +39,7 @@ entries w = begun w .args .shape .entries
 loop-holds : tie.Need-loop-holds Inv-loop2 μ-loop2 Inv-loop μ-loop
 loop-holds c =
     let a = c .before .before .before .before .before .args in
-    outer-start (faultsOf (a .shape) (a .ways .now) (a .full) (a .meetings .now)) (a .shape .entries)
+    outer-start (firstOr kept) (faultsOf (a .shape) (a .ways .now) (a .full) (a .meetings .now)) (a .shape .entries)
 
 add-f : tie.Need-add-f Inv-loop2 μ-loop2 Inv-loop μ-loop
 add-f c = search needs
@@ -46,7 +47,7 @@ add-f c = search needs
 loop2-holds : tie.Need-loop2-holds Inv-loop2 μ-loop2 Inv-loop μ-loop
 loop2-holds c =
     let w = c .before .before in
-    inner-start (faults w) (entries w) (w .loop .e) (c .if1 .taken) (w .loop .inv)
+    inner-start (firstOr kept) (faults w) (entries w) (w .loop .e) (c .if1 .taken) (w .loop .inv)
 
 meeting-requires : tie.Need-meeting-requires Inv-loop2 μ-loop2 Inv-loop μ-loop
 meeting-requires c κs =
@@ -79,7 +80,7 @@ loop2-again c =
     let d = v .before .before .before .before in
     let w = d .before .before .before in
     let a = begun w .args in
-    inner-step (faults w) (entries w) (w .loop .e) (d .loop2 .f) (d .loop2 .inv) (v .before .before .if2 .taken)
+    inner-step (firstOr kept) (faults w) (entries w) (w .loop .e) (d .loop2 .f) (d .loop2 .inv) (v .before .before .if2 .taken)
     (faults-none (a .shape) (a .ways .now) (a .full) (a .meetings .now) (w .loop .e) (d .loop2 .f) (v .before .meeting .result)
     (v .before .meeting .ensures .0) (v .pair-verdict .result) (v .pair-verdict .ensures) (c .enum-told .given .1))
 
@@ -90,7 +91,8 @@ returns c =
     let d = v .before .before .before .before in
     let w = d .before .before .before in
     let a = begun w .args in
-    inner-found (faults w) (entries w) (w .loop .e) (d .loop2 .f) (d .loop2 .inv) (v .before .before .if2 .taken) (told (v .pair-verdict .result))
+    inner-found (firstOr kept) (faults w) (entries w) (w .loop .e) (d .loop2 .f) (d .loop2 .inv) (v .before .before .if2 .taken)
+    (told (v .pair-verdict .result))
     (faults-one (a .shape) (a .ways .now) (a .full) (a .meetings .now) (w .loop .e) (d .loop2 .f) (v .before .meeting .result)
     (v .before .meeting .ensures .0) (v .pair-verdict .result) (v .pair-verdict .ensures) (c .match .keys2))
 
@@ -104,13 +106,13 @@ loop-again : tie.Need-loop-again Inv-loop2 μ-loop2 Inv-loop μ-loop
 loop-again c =
     let d = c .before .before in
     let w = d .before .before .before in
-    inner-end (faults w) (entries w) (w .loop .e) (d .loop2 .f) (d .loop2 .inv) (c .if2 .left)
+    inner-end (firstOr kept) (faults w) (entries w) (w .loop .e) (d .loop2 .f) (d .loop2 .inv) (c .if2 .left)
 
 returns-2 : tie.Need-returns-2 Inv-loop2 μ-loop2 Inv-loop μ-loop
 unfolding firstFault
 returns-2 c =
     let w = c .before .before in
-    outer-end (faults w) (entries w) (w .loop .e) (c .if1 .left) (w .loop .inv)
+    outer-end (firstOr kept) (faults w) (entries w) (w .loop .e) (c .if1 .left) (w .loop .inv)
 
 pub first-fault-spec : {M : Type 1} → statement M
 first-fault-spec =

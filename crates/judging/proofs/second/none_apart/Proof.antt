@@ -1,0 +1,138 @@
+-- `judging::second::none_apart` meets its contract: whether a pair earns a 2 is still to come from the pair on. Assumes nothing.
+use Prim.Native.Nat.{ℕ, _-_}
+use native.Mathlib.Omega.{arith}
+use mathlib.Core.List.{List}
+use borrow.Author.Needs.{needs}
+use Rattle.paper.specs.Verdict.{Verdict, apart, isEmpty}
+use Rattle.judging.specs.Pairs.{apartPair, noPairApart}
+use Rattle.judging.proofs.Ways.{way-fits}
+use Rattle.judging.proofs.Faults.{Outer, Inner, outer-start, inner-start, inner-step, inner-found, inner-end, outer-end}
+use Rattle.judging.proofs.Faults.{apart-none, apart-one}
+use Rattle.judging.proofs.second.none_apart.Statement.{statement}
+use Rattle.judging.proofs.second.none_apart.Tie as tie
+
+abbrev Inv-loop2 : tie.InvT-loop2
+Inv-loop2 shape ways meetings levels edges types e f₀ f = Inner isEmpty (apartPair shape ways meetings) (shape .entries) e f
+
+abbrev μ-loop2 : tie.MeasureT-loop2
+μ-loop2 shape ways meetings levels edges types e f₀ f = shape .entries - f
+
+abbrev Inv-loop : tie.InvT-loop
+Inv-loop shape ways meetings levels edges types e₀ e = Outer isEmpty (apartPair shape ways meetings) (shape .entries) e
+
+abbrev μ-loop : tie.MeasureT-loop
+μ-loop shape ways meetings levels edges types e₀ e = shape .entries - e
+
+-- where the walk begins
+abbrev begun : tie.At-loop Inv-loop2 μ-loop2 Inv-loop μ-loop → tie.Start Inv-loop2 μ-loop2 Inv-loop μ-loop
+begun w = w .before .before .before .before .before .before
+
+-- the 2 that each pair of entries earns
+abbrev pairs : (w : tie.At-loop Inv-loop2 μ-loop2 Inv-loop μ-loop) → ℕ → ℕ → List Verdict
+pairs w = let a = begun w .args in apartPair (a .shape) (a .ways .now) (a .meetings .now)
+
+abbrev entries : (w : tie.At-loop Inv-loop2 μ-loop2 Inv-loop μ-loop) → ℕ
+entries w = begun w .args .shape .entries
+
+-- where a pair is asked for, and the entry before it
+abbrev asked : tie.After-walk-path Inv-loop2 μ-loop2 Inv-loop μ-loop → tie.At-loop2 Inv-loop2 μ-loop2 Inv-loop μ-loop
+asked v = v .before .before .before .before
+
+abbrev outer : tie.At-loop2 Inv-loop2 μ-loop2 Inv-loop μ-loop → tie.At-loop Inv-loop2 μ-loop2 Inv-loop μ-loop
+outer d = d .before .before .before
+
+loop-holds : tie.Need-loop-holds Inv-loop2 μ-loop2 Inv-loop μ-loop
+loop-holds c =
+    let a = c .before .before .before .before .before .args in
+    outer-start isEmpty (apartPair (a .shape) (a .ways .now) (a .meetings .now)) (a .shape .entries)
+
+add-f : tie.Need-add-f Inv-loop2 μ-loop2 Inv-loop μ-loop
+add-f c = search needs
+
+loop2-holds : tie.Need-loop2-holds Inv-loop2 μ-loop2 Inv-loop μ-loop
+loop2-holds c =
+    let w = c .before .before in
+    inner-start isEmpty (pairs w) (entries w) (w .loop .e) (c .if1 .taken) (w .loop .inv)
+
+meeting-requires : tie.Need-meeting-requires Inv-loop2 μ-loop2 Inv-loop μ-loop
+meeting-requires c κs =
+    let d = c .before .before in
+    let w = outer d in
+    let p = begun w .pre in
+    let z = p .0 .sized in
+    let le = d .before .if1 .taken in
+    (p .1, omega (arith, z .few, le), omega (arith, z .few, c .if2 .taken), z .typed (w .loop .e) le, z .typed (d .loop2 .f) (c .if2 .taken))
+
+walk-path-requires : tie.Need-walk-path-requires Inv-loop2 μ-loop2 Inv-loop μ-loop
+walk-path-requires c κs =
+    let d = c .before .before .before in
+    let w = outer d in
+    let room = begun w .pre .0 in
+    (way-fits room (w .loop .e) (d .before .if1 .taken), way-fits room (d .loop2 .f) (c .before .if2 .taken))
+
+returns : tie.Need-returns Inv-loop2 μ-loop2 Inv-loop μ-loop
+unfolding noPairApart
+returns c =
+    let v = c .before .before in
+    let d = asked v in
+    let w = outer d in
+    let a = begun w .args in
+    inner-found isEmpty (pairs w) (entries w) (w .loop .e) (d .loop2 .f) (d .loop2 .inv) (v .before .before .if2 .taken) (apart (w .loop .e) (d .loop2 .f))
+    (apart-one (a .shape) (a .ways .now) (a .meetings .now) (w .loop .e) (d .loop2 .f) (v .before .meeting .result) (v .before .meeting .ensures .0)
+    (v .walk-path .ensures) (c .if3 .taken))
+
+add-f-2 : tie.Need-add-f-2 Inv-loop2 μ-loop2 Inv-loop μ-loop
+add-f-2 c = search needs
+
+loop2-less : tie.Need-loop2-less Inv-loop2 μ-loop2 Inv-loop μ-loop
+loop2-less c = search needs
+
+loop2-again : tie.Need-loop2-again Inv-loop2 μ-loop2 Inv-loop μ-loop
+loop2-again c =
+    let v = c .before .before in
+    let d = asked v in
+    let w = outer d in
+    let a = begun w .args in
+    inner-step isEmpty (pairs w) (entries w) (w .loop .e) (d .loop2 .f) (d .loop2 .inv) (v .before .before .if2 .taken)
+    (apart-none (a .shape) (a .ways .now) (a .meetings .now) (w .loop .e) (d .loop2 .f) (v .before .meeting .result) (v .before .meeting .ensures .0)
+    (v .walk-path .ensures) (c .if3 .left))
+
+add-e : tie.Need-add-e Inv-loop2 μ-loop2 Inv-loop μ-loop
+add-e c = search needs
+
+loop-less : tie.Need-loop-less Inv-loop2 μ-loop2 Inv-loop μ-loop
+loop-less c = search needs
+
+loop-again : tie.Need-loop-again Inv-loop2 μ-loop2 Inv-loop μ-loop
+loop-again c =
+    let d = c .before .before in
+    let w = outer d in
+    inner-end isEmpty (pairs w) (entries w) (w .loop .e) (d .loop2 .f) (d .loop2 .inv) (c .if2 .left)
+
+returns-2 : tie.Need-returns-2 Inv-loop2 μ-loop2 Inv-loop μ-loop
+unfolding noPairApart
+returns-2 c =
+    let w = c .before .before in
+    outer-end isEmpty (pairs w) (entries w) (w .loop .e) (c .if1 .left) (w .loop .inv)
+
+pub none-apart-spec : {M : Type 1} → statement M
+none-apart-spec =
+    tie.close
+    (tie.spec
+    Inv-loop2
+    μ-loop2
+    Inv-loop
+    μ-loop
+    loop-holds
+    add-f
+    loop2-holds
+    meeting-requires
+    walk-path-requires
+    returns
+    add-f-2
+    loop2-less
+    loop2-again
+    add-e
+    loop-less
+    loop-again
+    returns-2)
