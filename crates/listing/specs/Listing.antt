@@ -7,7 +7,7 @@ use lib.ListN.{take, drop}
 use Rattle.paper.specs.Format.{base, rowBytes, signed}
 use Rattle.paper.specs.Tables.{rowOf, dewey}
 use Rattle.paper.specs.NewTable.{entryUnit}
-use Rattle.paper.specs.Verdict.{Verdict, verdictNumbers}
+use Rattle.paper.specs.Verdict.{Judgement, verdictNumbers}
 use Rattle.paper.specs.Calls.{Reply, Reshaping}
 use Rattle.listing.specs.Text.{ascii, newline, space, dot, decimal, signedText, parted}
 use Rattle.listing.specs.Names.{nameText}
@@ -46,11 +46,11 @@ unfoldable pub linesText : List ℕ → List ℕ → List ℕ
 linesText table [] = []
 linesText table (source ∷ sources) = lineText (take (rowBytes base) table) source ++ linesText (drop (rowBytes base) table) sources
 
--- `refused N P`, or `verdict` with its numbers and then a line each
-unfoldable pub listingText : Reply Verdict → Reshaping → List ℕ
+-- `refused N P`, or `verdict` with its numbers and then a line each; the second answer is not printed
+unfoldable pub listingText : Reply Judgement → Reshaping → List ℕ
 listingText judged reshaped =
     let r = reshaped .reply in
     elim (eqb (r .number) 0) [
-      | true ↦ verdictText (verdictNumbers (judged .rest)) ++ linesText (reshaped .table) (take (r .rest) (reshaped .sources))
+      | true ↦ verdictText (verdictNumbers (judged .rest .verdict)) ++ linesText (reshaped .table) (take (r .rest) (reshaped .sources))
       | false ↦ refusedText (r .number) (r .place)
     ]

@@ -3,6 +3,7 @@ use Prim.Native.Nat.{ℕ, zero, suc, _+_, _*_, _≤_}
 use native.Mathlib.Nat.{mul-zero, mul-suc, mul-comm}
 use native.Mathlib.Omega.{arith}
 use mathlib.Core.Path.{_≡_, sym, _∙_, ap, ap₂, subst, subst₂}
+use mathlib.Core.Bool.{true}
 use mathlib.Core.List.{List, [], _++_}
 use lib.ListN.{length, take, drop, length-map}
 use lib.Seq.{sets, sets-eq}
@@ -13,9 +14,11 @@ use Rattle.paper.specs.Closeness.{nodes}
 use Rattle.paper.specs.NewTable.{Line, lines, newTable, sourceList, entryUnit}
 use Rattle.paper.specs.Calls.{Reply, Reshaping, reshape, roomIn}
 use Rattle.paper.specs.Links.{LinksKept}
+use Rattle.paper.specs.MadeUp.{NothingMadeUp, unshown}
 use Rattle.paper.specs.Sound.{SoundSource}
 use Rattle.paper.proofs.Promises.{reshape-links, written-length}
 use Rattle.paper.proofs.Bytes.{Small}
+use Rattle.paper.proofs.MadeUp.{reshape-none-made-up, reshape-unshown}
 use Rattle.paper.proofs.Sound.{narrow-sound}
 use Rattle.tables.proofs.Rows.{row-in}
 use Rattle.shapes.specs.Tests.{shapeIn}
@@ -45,14 +48,16 @@ labels-fit : Small (base .labels)
 unfolding base
 labels-fit = omega arith
 
--- an answer that is the definition's keeps demand 3 too, and leaves a sound source
+-- an answer that is the definition's has the other parts of the promise too
 pub reshapes : {t s new sources : List ℕ} (r : Reshaped) (new′ sources′ : List ℕ) → reshaped r ≡ reshape base t s new sources .reply
     → new′ ≡ reshape base t s new sources .table → sources′ ≡ reshape base t s new sources .sources → Reshapes t s new sources r new′ sources′
 reshapes {t} {s} {new} {sources} r new′ sources′ er en es = record {
   answer = er;
   bytes = en;
   places = es;
-  links = λ z v. subst₂ (λ a b. LinksKept base t s a b) (sym front) (sym (ap₂ (λ k l. take k l) count es)) (reshape-links base t s new sources (accepted z) v);
+  links = λ z v. subst₂ (λ a b. LinksKept base t s a b) (sym front) (sym listed) (reshape-links base t s new sources (accepted z) v);
+  none-made-up = λ z ok. subst₂ (λ a b. NothingMadeUp base t s a b) (sym front) (sym listed) (reshape-none-made-up base t s new sources (accepted z) ok);
+  named-unshown = λ z e i v. subst (λ b. unshown e i b ≡ true) (sym listed) (reshape-unshown base t s new sources (accepted z) e i v);
   sound = λ z le. subst₂ (λ a k. SoundSource base s a k) (sym front) (sym count)
       (narrow-sound base t s new sources labels-fit (accepted z) (omega (arith, count, le)));
 }
@@ -65,6 +70,9 @@ reshapes {t} {s} {new} {sources} r new′ sources′ er en es = record {
 
     front : take (r .lines * rowBytes base) new′ ≡ take (reshape base t s new sources .reply .rest * rowBytes base) (reshape base t s new sources .table)
     front = ap₂ (λ k l. take (k * rowBytes base) l) count en
+
+    listed : take (r .lines) sources′ ≡ take (reshape base t s new sources .reply .rest) (reshape base t s new sources .sources)
+    listed = ap₂ (λ k l. take k l) count es
 
 -- the runs are named, and the lists are long enough for what is written
 pub runs-named : {t s : List ℕ} {w : Work} → Ready t s w → {runs lists : List ℕ} → Runs mostLevels (w .rows) (w .levels) runs

@@ -1,11 +1,13 @@
 -- Any two answers that a contract allows are equal. Assumes nothing.
 use Prim.Native.Nat.{ℕ, _*_, _≤_}
 use mathlib.Core.Path.{_≡_, sym, _∙_, ap}
+use mathlib.Core.Bool.{true}
 use mathlib.Core.List.{List}
 use lib.ListN.{take}
 use Rattle.paper.specs.Format.{base, mostRows, rowBytes}
-use Rattle.paper.specs.Verdict.{kept}
+use Rattle.paper.specs.Verdict.{kept, missing}
 use Rattle.paper.specs.Links.{LinksKept}
+use Rattle.paper.specs.MadeUp.{NothingMadeUp, unshown}
 use Rattle.paper.specs.Sound.{SoundSource}
 use Rattle.paper.specs.Calls.{Reply, Figures, judge, summarise}
 use Rattle.reshaping.specs.Reshaped.{summarised, Reshapes}
@@ -22,8 +24,18 @@ module _ {t s new sources new₁ sources₁ : List ℕ} {a : Reshaped} (p : Resh
   )
 
   -- Demand 3 is a part of the promise.
-  pub links-promised : a .number ≡ 0 → judge base t s .rest ≡ kept → LinksKept base t s (take (a .lines * rowBytes base) new₁) (take (a .lines) sources₁)
+  pub links-promised : a .number ≡ 0 → judge base t s .rest .verdict ≡ kept
+      → LinksKept base t s (take (a .lines * rowBytes base) new₁) (take (a .lines) sources₁)
   links-promised = p .links
+
+  -- So is it that where the second answer is yes nothing is made up.
+  pub none-made-up-promised : a .number ≡ 0 → judge base t s .rest .noneApart ≡ true
+      → NothingMadeUp base t s (take (a .lines * rowBytes base) new₁) (take (a .lines) sources₁)
+  none-made-up-promised = p .none-made-up
+
+  -- So is it that the row that verdict 1 names is in no line of the entry that it names.
+  pub named-unshown-promised : a .number ≡ 0 → (e i : ℕ) → judge base t s .rest .verdict ≡ missing e i → unshown e i (take (a .lines) sources₁) ≡ true
+  named-unshown-promised = p .named-unshown
 
   -- So is it that a new table of at most 1,024 lines is a sound source.
   pub sound-promised : a .number ≡ 0 → a .lines ≤ mostRows → SoundSource base s (take (a .lines * rowBytes base) new₁) (a .lines)

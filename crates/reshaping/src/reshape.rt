@@ -35,8 +35,10 @@ fn refused(number: usize, place: usize) -> Reshaped
 // are counted before the first is written. A refused call changes nothing.
 //
 // `Reshapes` has the buyer's demand among its parts: where the call is accepted and the verdict on the same table and shape is 0, the new
-// table and the source list that it leaves keep the links between records. None is missing and none is made up. And where it is accepted
-// with at most 1,024 lines, the new table is a sound source, so that it can be reshaped again with no test in between.
+// table and the source list that it leaves keep the links between records. None is missing and none is made up. Where the second answer is
+// yes, none is made up whatever the verdict. Where the verdict is 1, the row that it names is in no line of the entry that it names. And
+// where the call is accepted with at most 1,024 lines, the new table is a sound source, so that it can be reshaped again with no test in
+// between.
 pub fn reshape(table: &[u8], shape: &[u8], new: &mut [u8], sources: &mut [u32]) -> Reshaped
     ensures { λ r. ⌜ Reshapes (now (table .entry)) (now (shape .entry)) (now (new .entry)) (now (sources .entry)) r (now (new .exit)) (now (sources .exit)) ⌝ }
 {

@@ -2,13 +2,15 @@
 -- both are one, and so is what they leave of what was lent. A clause taken away or weakened is refused here. Assumes nothing.
 use Prim.Native.Nat.{ℕ, _*_, _≤_}
 use mathlib.Core.Path.{_≡_, sym, _∙_, ap}
+use mathlib.Core.Bool.{true}
 use mathlib.Core.List.{List, map}
 use lib.ListN.{take}
 use denote.Ref.{RefT, now}
 use Rattle.paper.specs.Format.{base, mostRows, rowBytes}
-use Rattle.paper.specs.Verdict.{kept}
+use Rattle.paper.specs.Verdict.{kept, missing}
 use Rattle.paper.specs.Calls.{Reply, adorn, judge}
 use Rattle.paper.specs.Links.{LinksKept}
+use Rattle.paper.specs.MadeUp.{NothingMadeUp, unshown}
 use Rattle.paper.specs.Sound.{SoundSource}
 use Rattle.adorned.specs.Told.{told}
 use Rattle.adorned.specs.Lent.{adornedTypes}
@@ -66,9 +68,21 @@ reshape-settled κs a r s e f x y =
 
 -- demand 3: where the reshape is accepted and the verdict on the same table and shape is 0, what the call leaves keeps the links
 pub reshape-keeps-links : (κs : _) (a : _) (r : Reshaped) (e : _) → reshape.Learnt κs a r e
-    → r .number ≡ 0 → judge base (now (a .0)) (now (a .1 .0)) .rest ≡ kept
+    → r .number ≡ 0 → judge base (now (a .0)) (now (a .1 .0)) .rest .verdict ≡ kept
     → LinksKept base (now (a .0)) (now (a .1 .0)) (take (r .lines * rowBytes base) (now (e .1 .1 .0))) (take (r .lines) (now (e .1 .1 .1 .0)))
 reshape-keeps-links κs a r e x = reshaping.links-promised x
+
+-- where the reshape is accepted and the second answer on the same table and shape is yes, nothing is made up in what the call leaves
+pub reshape-makes-nothing-up : (κs : _) (a : _) (r : Reshaped) (e : _) → reshape.Learnt κs a r e
+    → r .number ≡ 0 → judge base (now (a .0)) (now (a .1 .0)) .rest .noneApart ≡ true
+    → NothingMadeUp base (now (a .0)) (now (a .1 .0)) (take (r .lines * rowBytes base) (now (e .1 .1 .0))) (take (r .lines) (now (e .1 .1 .1 .0)))
+reshape-makes-nothing-up κs a r e x = reshaping.none-made-up-promised x
+
+-- where the reshape is accepted and verdict 1 names an entry and a row, no line that the call leaves is of that entry and row
+pub reshape-leaves-out-named : (κs : _) (a : _) (r : Reshaped) (e : _) → reshape.Learnt κs a r e
+    → r .number ≡ 0 → (n i : ℕ) → judge base (now (a .0)) (now (a .1 .0)) .rest .verdict ≡ missing n i
+    → unshown n i (take (r .lines) (now (e .1 .1 .1 .0))) ≡ true
+reshape-leaves-out-named κs a r e x = reshaping.named-unshown-promised x
 
 -- where the reshape is accepted with at most 1,024 lines, what the call leaves is a sound source
 pub reshape-leaves-source : (κs : _) (a : _) (r : Reshaped) (e : _) → reshape.Learnt κs a r e → r .number ≡ 0 → r .lines ≤ mostRows

@@ -59,7 +59,7 @@ pub fn adorn(table: &[u8], summaries: &mut [TypeSummary]) -> AdornedTypes
     }
 }
 
-// Judges a table and a shape: refusals 1 to 7, or the verdict.
+// Judges a table and a shape: refusals 1 to 7, or the verdict and the second answer, which is yes where no pair of entries would earn a 2.
 pub fn judge(table: &[u8], shape: &[u8]) -> Judged
     ensures { λ r. ⌜ judged r ≡ inNumbers (judge base (now (table .entry)) (now (shape .entry))) ⌝ }
 {
@@ -68,7 +68,8 @@ pub fn judge(table: &[u8], shape: &[u8]) -> Judged
 
 // Reshapes a table: refusals 1 to 8, or the new table and its source list, at the front of what was lent; what lies past them stays as it
 // was. `Reshapes` says so of the answer and of every lent byte and place, and has the buyer's demand: where the verdict on the same table
-// and shape is 0, what the call leaves keeps the links between records, none missing and none made up. A new table of at most 1,024 lines
+// and shape is 0, what the call leaves keeps the links between records, none missing and none made up. Where the second answer is yes, none
+// is made up whatever the verdict. The row that verdict 1 names is in no line of the entry that it names. A new table of at most 1,024 lines
 // is a sound source: no call refuses it with 1 to 4.
 pub fn reshape(table: &[u8], shape: &[u8], new: &mut [u8], sources: &mut [u32]) -> Reshaped
     ensures { λ r. ⌜ Reshapes (now (table .entry)) (now (shape .entry)) (now (new .entry)) (now (sources .entry)) r (now (new .exit)) (now (sources .exit)) ⌝ }

@@ -1,26 +1,26 @@
--- Laws of the answers in numbers: where a looked-up row stands, and the verdict. Assumes nothing.
+-- Laws of the answers in numbers: where a looked-up row stands, the verdict and the second answer. Assumes nothing.
 use Prim.Native.Nat.{ℕ, _*_, _≤_, _<_}
 use native.Mathlib.Omega.{arith}
-use mathlib.Core.Path.{_≡_, sym, _∙_, ap}
-use mathlib.Core.List.{List, [], _∷_}
+use mathlib.Core.Path.{_≡_, sym, _∙_, ap, ap₂}
+use mathlib.Core.List.{List, [], _∷_, _++_}
 use lib.ListN.{length, take, drop}
 use Rattle.paper.specs.Lists.{padded}
 use Rattle.paper.specs.Format.{base, whole}
 use Rattle.paper.specs.Tables.{rows}
-use Rattle.paper.specs.Verdict
+use Rattle.paper.specs.Verdict.{Judgement}
 use Rattle.paper.specs.Calls.{given, Reply, tests1-3, lookUp}
 use Rattle.judging.specs.Told.{numbersOf}
-use Rattle.judging.specs.Judged.{judged, inNumbers}
+use Rattle.judging.specs.Judged.{InNumbers, judged, inNumbers}
 use Rattle.judging.specs.declared.judge.Judged.{Judged}
+use Rattle.judging.specs.declared.verdict.Verdict.{Verdict}
 use Rattle.paper.proofs.Calls.{passed1-3}
 use Rattle.bytes.proofs.Laws.{record-length}
 use Rattle.tables.specs.Reply.{startOf}
 use Rattle.tables.proofs.Back.{refused-start}
 use Rattle.tables.proofs.Examine.{lookUp-row}
 use Rattle.tables.proofs.Rows.{row-in}
-use Rattle.silmezga_c.specs.Told.{LooksUp, inThree, threeNumbers}
+use Rattle.silmezga_c.specs.Told.{LooksUp, asNumber, fourNumbers}
 use Rattle.silmezga_c.specs.declared.LookedUp.{LookedUp}
-use Rattle.silmezga_c.specs.declared.JudgedNumbers.{JudgedNumbers}
 
 -- ---- look-up
 module _ (t : List ℕ) (i : ℕ) where
@@ -59,11 +59,14 @@ module _ (t : List ℕ) (i : ℕ) where
         }
 
 -- ---- judging
--- a verdict's numbers, made up to three, are those of the reply that they were judged to be
-pub in-three : (j : Judged) (r : JudgedNumbers) (x : Reply Rattle.paper.specs.Verdict.Verdict) → judged j ≡ inNumbers x
-    → r .number ≡ j .number → r .place ≡ j .place → (r .verdict ∷ r .first ∷ r .second ∷ []) ≡ padded 3 (numbersOf (j .verdict))
-    → inThree r ≡ threeNumbers x
-in-three j r x e n p v =
-    let told : inThree r ≡ record { number = j .number; place = j .place; rest = padded 3 (numbersOf (j .verdict)) } =
-    λ i. record { number = n i; place = p i; rest = v i } in
-    told ∙ ap (λ (y : Reply (List ℕ)). record { number = y .number; place = y .place; rest = padded 3 (y .rest) }) e
+-- the four numbers of a verdict in numbers and a second answer
+abbrev four : InNumbers → List ℕ
+four y = padded 3 (y .verdict) ++ (asNumber (y .noneApart) ∷ [])
+
+-- a verdict's numbers, made up to three, and the second answer's are those of the reply that they were judged to be
+pub in-four : (j : Judged) (x : Reply Judgement) → judged j ≡ inNumbers x → {v : Verdict} → j .verdict ≡ v → {n : ℕ} → n ≡ asNumber (j .«none_apart»)
+    → record { number = j .number; place = j .place; rest = padded 3 (numbersOf v) ++ (n ∷ []) } ≡ fourNumbers x
+in-four j x e p q =
+    let told : List ℕ → Reply (List ℕ) = λ l. record { number = j .number; place = j .place; rest = l } in
+    ap₂ (λ v n. told (padded 3 (numbersOf v) ++ (n ∷ []))) (sym p) q
+    ∙ ap {B = Reply (List ℕ)} (λ (y : Reply InNumbers). record { number = y .number; place = y .place; rest = four (y .rest) }) e

@@ -2,13 +2,15 @@
 -- it allows both are one, and so is what they leave of what was lent. Assumes nothing.
 use Prim.Native.Nat.{ℕ, _*_, _≤_}
 use mathlib.Core.Path.{_≡_, sym, _∙_, ap}
+use mathlib.Core.Bool.{true}
 use mathlib.Core.List.{List}
 use lib.ListN.{getD, take}
 use denote.Ref.{now}
 use Rattle.paper.specs.Format.{base, mostRows, rowBytes}
-use Rattle.paper.specs.Verdict.{kept}
+use Rattle.paper.specs.Verdict.{kept, missing}
 use Rattle.paper.specs.Calls.{Reply, judge}
 use Rattle.paper.specs.Links.{LinksKept}
+use Rattle.paper.specs.MadeUp.{NothingMadeUp, unshown}
 use Rattle.paper.specs.Sound.{SoundSource}
 use Rattle.adorned.specs.declared.TypeSummary.{TypeSummary}
 use Rattle.adorned.specs.declared.lent.AdornedTypes.{AdornedTypes}
@@ -17,7 +19,7 @@ use Rattle.reshaping.proofs.Unique as reshaping
 use Rattle.reshaping.specs.declared.reshape.Reshaped.{Reshaped}
 use Rattle.silmezga.proofs.Settles.{Asks-nothing, Settles, Walk-asks-nothing, Walk-settles, nothing, two-clauses}
 use Rattle.silmezga.proofs.Unique.{adorn-unique}
-use Rattle.silmezga_c.specs.Told.{LooksUp, inThree, threeNumbers}
+use Rattle.silmezga_c.specs.Told.{LooksUp, inFour, fourNumbers}
 use Rattle.silmezga_c.specs.declared.LookedUp.{LookedUp}
 use Rattle.silmezga_c.specs.declared.JudgedNumbers.{JudgedNumbers}
 use Rattle.silmezga_c.proofs.silmezga_examine.Reads as examine
@@ -59,16 +61,17 @@ adorn-settled M 𝓤 H A mem run κs a g r s e f =
     λ i. (u .0 i, u .1 i))
 
 -- ---- judging
-judge-unique : (t s : List ℕ) (a b : JudgedNumbers) → inThree a ≡ threeNumbers (judge base t s) → inThree b ≡ threeNumbers (judge base t s) → a ≡ b
+judge-unique : (t s : List ℕ) (a b : JudgedNumbers) → inFour a ≡ fourNumbers (judge base t s) → inFour b ≡ fourNumbers (judge base t s) → a ≡ b
 judge-unique t s a b p q =
-    let e : inThree a ≡ inThree b = p ∙ sym q in
-    let at : (k : ℕ) → getD (inThree a .rest) k 0 ≡ getD (inThree b .rest) k 0 = λ k. ap (λ (x : Reply (List ℕ)). getD (x .rest) k 0) e in
+    let e : inFour a ≡ inFour b = p ∙ sym q in
+    let at : (k : ℕ) → getD (inFour a .rest) k 0 ≡ getD (inFour b .rest) k 0 = λ k. ap (λ (x : Reply (List ℕ)). getD (x .rest) k 0) e in
     λ i. record {
       number = ap (λ (x : Reply (List ℕ)). x .number) e i;
       place = ap (λ (x : Reply (List ℕ)). x .place) e i;
       verdict = at 0 i;
       first = at 1 i;
       second = at 2 i;
+      «none_apart» = at 3 i;
     }
 
 pub judge-asks : Asks-nothing judge-call.Asked
@@ -88,9 +91,21 @@ reshape-settled κs a r s e f x y =
 
 -- demand 3: where the reshape is accepted and the verdict on the same table and shape is 0, what the call leaves keeps the links
 pub reshape-keeps-links : (κs : _) (a : _) (r : Reshaped) (e : _) → reshape.Learnt κs a r e
-    → r .number ≡ 0 → judge base (now (a .0)) (now (a .1 .0)) .rest ≡ kept
+    → r .number ≡ 0 → judge base (now (a .0)) (now (a .1 .0)) .rest .verdict ≡ kept
     → LinksKept base (now (a .0)) (now (a .1 .0)) (take (r .lines * rowBytes base) (now (e .1 .1 .0))) (take (r .lines) (now (e .1 .1 .1 .0)))
 reshape-keeps-links κs a r e x = reshaping.links-promised x
+
+-- where the reshape is accepted and the second answer on the same table and shape is yes, nothing is made up in what the call leaves
+pub reshape-makes-nothing-up : (κs : _) (a : _) (r : Reshaped) (e : _) → reshape.Learnt κs a r e
+    → r .number ≡ 0 → judge base (now (a .0)) (now (a .1 .0)) .rest .noneApart ≡ true
+    → NothingMadeUp base (now (a .0)) (now (a .1 .0)) (take (r .lines * rowBytes base) (now (e .1 .1 .0))) (take (r .lines) (now (e .1 .1 .1 .0)))
+reshape-makes-nothing-up κs a r e x = reshaping.none-made-up-promised x
+
+-- where the reshape is accepted and verdict 1 names an entry and a row, no line that the call leaves is of that entry and row
+pub reshape-leaves-out-named : (κs : _) (a : _) (r : Reshaped) (e : _) → reshape.Learnt κs a r e
+    → r .number ≡ 0 → (n i : ℕ) → judge base (now (a .0)) (now (a .1 .0)) .rest .verdict ≡ missing n i
+    → unshown n i (take (r .lines) (now (e .1 .1 .1 .0))) ≡ true
+reshape-leaves-out-named κs a r e x = reshaping.named-unshown-promised x
 
 -- where the reshape is accepted with at most 1,024 lines, what the call leaves is a sound source
 pub reshape-leaves-source : (κs : _) (a : _) (r : Reshaped) (e : _) → reshape.Learnt κs a r e → r .number ≡ 0 → r .lines ≤ mostRows

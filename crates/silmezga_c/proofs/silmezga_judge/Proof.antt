@@ -1,21 +1,37 @@
 -- `silmezga_c::silmezga_judge` meets its contract. Assumes nothing.
-use mathlib.Core.Path.{sym, _∙_, ap}
-use mathlib.Core.List.{[], _∷_}
+use Prim.Native.Nat.{ℕ}
+use mathlib.Core.Path.{_≡_, _∙_}
+use mathlib.Core.List.{List, [], _∷_, _++_}
 use Rattle.paper.specs.Lists.{padded}
 use Rattle.paper.specs.Format.{base}
-use Rattle.paper.specs.Calls.{judge}
+use Rattle.paper.specs.Calls.{Reply, judge}
 use Rattle.judging.specs.Told.{numbersOf}
-use Rattle.silmezga_c.proofs.Told.{in-three}
+use Rattle.judging.specs.declared.verdict.Verdict.{Verdict}
+use Rattle.silmezga_c.specs.Told.{fourNumbers}
+use Rattle.silmezga_c.proofs.Told.{in-four}
 use borrow.Author.Needs.{needs}
 use Rattle.silmezga_c.proofs.silmezga_judge.Statement.{statement}
 use Rattle.silmezga_c.proofs.silmezga_judge.Tie as tie
-use Rattle.silmezga_c.proofs.silmezga_judge.Reads as reads
-use Rattle.silmezga_c.proofs.silmezga_judge.Lts as lts
-use Rattle.silmezga.proofs.judge.Reads as judge-reads
-use Rattle.silmezga_c.proofs.in_numbers.Reads as in-numbers-reads
+
+-- what is told of a verdict, where the second answer is a number
+abbrev numbers : tie.After-as-number → Verdict → Reply (List ℕ)
+numbers c v =
+    let j = c .before .judge .result in
+    record { number = j .number; place = j .place; rest = padded 3 (numbersOf v) ++ (c .as-number .result ∷ []) }
+
+-- told of the verdict that judging gave, it is what the contract says
+told : (c : tie.After-as-number) {v : Verdict} → c .before .judge .result .verdict ≡ v
+    → let a = c .before .before .before .before .args in numbers c v ≡ fourNumbers (judge base (a .table .now) (a .shape .now))
+told c e =
+    let a = c .before .before .before .before .args in
+    let j = c .before .judge in
+    in-four (j .result) (judge base (a .table .now) (a .shape .now)) (j .ensures) e (c .as-number .ensures)
 
 judge-requires : tie.Need-judge-requires
 judge-requires c κs = search needs
+
+as-number-requires : tie.Need-as-number-requires
+as-number-requires c κs = search needs
 
 enum-told : tie.Need-enum-told
 enum-told c = search needs
@@ -42,42 +58,23 @@ in-numbers-requires-4 : tie.Need-in-numbers-requires-4
 in-numbers-requires-4 c κs = search needs
 
 returns : tie.Need-returns
-returns c =
-    let v = c .before .before .before .judge in
-    let a = c .before .before .before .before .before .before .args in
-    let t = c .in-numbers .ensures in
-    in-three (v .result) (c .in-numbers .result) (judge base (a .table .now) (a .shape .now)) (v .ensures) (t .0) (t .1)
-    ((λ i. t .2 i ∷ t .3 i ∷ t .4 i ∷ []) ∙ ap (λ x. padded 3 (numbersOf x)) (sym (c .before .enum-told .given .1)))
+returns c = c .in-numbers .ensures ∙ told (c .before .before .before) (c .before .enum-told .given .1)
 
 returns-2 : tie.Need-returns-2
-returns-2 c =
-    let v = c .before .before .before .before .judge in
-    let a = c .before .before .before .before .before .before .before .args in
-    let t = c .in-numbers2 .ensures in
-    in-three (v .result) (c .in-numbers2 .result) (judge base (a .table .now) (a .shape .now)) (v .ensures) (t .0) (t .1)
-    ((λ i. t .2 i ∷ t .3 i ∷ t .4 i ∷ []) ∙ ap (λ x. padded 3 (numbersOf x)) (sym (c .before .before .verdict .given .1)))
+returns-2 c = c .in-numbers2 .ensures ∙ told (c .before .before .before .before) (c .before .before .verdict .given .1)
 
 returns-3 : tie.Need-returns-3
-returns-3 c =
-    let v = c .before .before .before .before .judge in
-    let a = c .before .before .before .before .before .before .before .args in
-    let t = c .in-numbers3 .ensures in
-    in-three (v .result) (c .in-numbers3 .result) (judge base (a .table .now) (a .shape .now)) (v .ensures) (t .0) (t .1)
-    ((λ i. t .2 i ∷ t .3 i ∷ t .4 i ∷ []) ∙ ap (λ x. padded 3 (numbersOf x)) (sym (c .before .before .verdict2 .given .1)))
+returns-3 c = c .in-numbers3 .ensures ∙ told (c .before .before .before .before) (c .before .before .verdict2 .given .1)
 
 returns-4 : tie.Need-returns-4
-returns-4 c =
-    let v = c .before .before .before .before .judge in
-    let a = c .before .before .before .before .before .before .before .args in
-    let t = c .in-numbers4 .ensures in
-    in-three (v .result) (c .in-numbers4 .result) (judge base (a .table .now) (a .shape .now)) (v .ensures) (t .0) (t .1)
-    ((λ i. t .2 i ∷ t .3 i ∷ t .4 i ∷ []) ∙ ap (λ x. padded 3 (numbersOf x)) (sym (c .before .before .verdict3 .given .1)))
+returns-4 c = c .in-numbers4 .ensures ∙ told (c .before .before .before .before) (c .before .before .verdict3 .given .1)
 
 pub silmezga-judge-spec : {M : Type 1} → statement M
 silmezga-judge-spec =
     tie.close
     (tie.spec
     judge-requires
+    as-number-requires
     enum-told
     in-numbers-requires
     enum-known-verdict
