@@ -167,6 +167,11 @@ def chained(case):
     return reshaped(*second) if second else [("none",)]
 
 
+def judged(case):
+    number, place, verdict, none_apart = judging(case.table, case.shape)
+    return [(number, place, *verdict, "yes" if none_apart else "no")]
+
+
 def summarised(case):
     number, place, entries = summary(case.table, case.shape)
     return [(number, place)] + [(e, *three) for e, three in enumerate(zip(*entries)) if any(three)]
@@ -175,10 +180,9 @@ def summarised(case):
 def told(case):
     """The parts of a case's line, each a list of pieces."""
     number, place, part = paper01.look_up(case.table, case.row)
-    refused, at, verdict = judging(case.table, case.shape)
     parts = {
         "examining": [paper01.examine(case.table)], "reading": [read(case.table)], "look-up": [(number, place, part.hex())],
-        "adorning": adorned(case), "judging": [(refused, at, *verdict)], "reshaping": reshaped(*reshaping(case)), "summarising": summarised(case)}
+        "adorning": adorned(case), "judging": judged(case), "reshaping": reshaped(*reshaping(case)), "summarising": summarised(case)}
     return {**parts, "again": chained(case)} if case.again else parts
 
 

@@ -24,8 +24,8 @@ VALUES = range(0, 1000, 100)
 
 P8_TABLE = "1[2[3] 2[4]]"
 
-# these folders are about what the program prints, which no call gives
-OF_TEXT = "labels_22a", "labels_22b", "cut_off", "label_1000"
+# these folders are about what the program prints, which no call gives, or reports; case_verdicts.py has the last two
+OF_TEXT = "labels_22a", "labels_22b", "cut_off", "label_1000", "hidden_by_1", "hidden_by_3"
 
 
 def expect(what, hand, said):

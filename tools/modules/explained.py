@@ -1,7 +1,7 @@
 """What the program reports of an answer for ./intake --explain, and what the command says, read from docs/HELP.md: a second reading."""
 import pathlib, re, struct
 
-import samples, table_text
+import paper01, samples, table_text
 
 PAGE = pathlib.Path(__file__).resolve().parents[2] / "docs" / "HELP.md"
 
@@ -54,11 +54,24 @@ NAMED = {
 }
 
 
-def reported(table, shape):
-    """The answer, and what it names, a line each."""
-    answer = samples.listing(table, shape).split("\n")[0]
+def facts(table, shape, answer):
+    """What an answer names, a line each."""
     kind, places = " ".join(answer.split(" ")[:2]), answer.split(" ")[2:]
-    return [answer] + [line for tell, place in zip(NAMED.get(kind, ()), places) for line in tell(table, shape, int(place))]
+    return [line for tell, place in zip(NAMED.get(kind, ()), places) for line in tell(table, shape, int(place))]
+
+
+def second(table, shape, answer):
+    """The second answer in the program's words, in a list; none beside a refusal."""
+    if answer.startswith("refused"):
+        return []
+    *_, none_apart = paper01.judge(table, shape)
+    return ["none apart" if none_apart else "some apart"]
+
+
+def reported(table, shape):
+    """The answer, what it names, and the second answer, a line each."""
+    answer = samples.listing(table, shape).split("\n")[0]
+    return [answer, *facts(table, shape, answer), *second(table, shape, answer)]
 
 
 def helped(answer):
@@ -73,8 +86,15 @@ def helped(answer):
     raise ValueError(f"{PAGE.name} has nothing on {answer!r}")
 
 
+def tried_seconds():
+    """(sample, tree, answer, second answer) of each row of the table in docs/HELP.md that shows the second answer."""
+    return re.findall(r"(?m)^\| (\w+) \| (\S.*?) \| `(verdict .*?)` \| `((?:none|some) apart)` \|", PAGE.read_text())
+
+
 def explained(table, shape):
     """What ./intake --explain says on standard error."""
-    answer, *facts = reported(table, shape)
-    means, then = helped(answer)
-    return "\n".join([answer, f"What it means: {means}", *(f"  {fact}" for fact in facts), f"What to do next: {then}"]) + "\n"
+    answer = reported(table, shape)[0]
+    found = [helped(each) for each in (answer, *second(table, shape, answer))]
+    lines = [answer, f"What it means: {found[0][0]}", *(f"  {fact}" for fact in facts(table, shape, answer))]
+    lines += [f"Second answer: {means}" for means, _ in found[1:]]
+    return "\n".join([*lines, f"What to do next: {' '.join(then for _, then in found)}"]) + "\n"

@@ -1,7 +1,7 @@
 """Tests of the folders of samples/ and of their listings."""
 import re, unittest
 
-import explained, paper01, samples, table_text
+import brackets, explained, paper01, samples, table_text
 from case_samples import P4
 from test_text import A_BYTES
 from testing import ROOT, loaded
@@ -17,6 +17,7 @@ class Samples(unittest.TestCase):
         "types_64": ("verdict 0", 2), "types_65": ("refused 4 64", 0), "entries_16": ("verdict 0", 48), "entries_17": ("refused 5 0", 0),
         "lines_1024": ("verdict 2 1 3", 1024), "lines_1025": ("refused 8 0", 0),
         "labels_22a": ("verdict 0", 23), "labels_22b": ("verdict 0", 19), "cut_off": ("refused 2 0", 0), "label_1000": ("refused 6 2", 0),
+        "hidden_by_1": ("verdict 1 3 8", 9), "hidden_by_3": ("verdict 3 1 3", 6),
     }
 
     def listed(self, name):
@@ -99,6 +100,39 @@ class Samples(unittest.TestCase):
             first, lines = self.listed(name).split("\n", 1)
             report = "\n".join([first, *explained.reported(table, shape), lines])
             self.assertEqual(texts, [self.listed(name), report, samples.summary(table, shape), samples.types(table)], name)
+
+    def test_second_answers(self):
+        """The table of docs/HELP.md that shows the second answer, which every verdict but 0 has in each way that it can."""
+        tried, kinds = explained.tried_seconds(), set()
+        both = {name: (table, shape) for name, table, shape in samples.samples()}
+        for name, tree, answer, second in tried:
+            table, shape = both[name]
+            self.assertEqual(table_text.shape_from(brackets.indented(tree), table_text.kinds_of(table)), shape, name)
+            first, *_, last = explained.reported(table, shape)
+            self.assertEqual((first, last), (answer, second), name)
+            kinds.add((answer.split()[1], second))
+        self.assertEqual(kinds, {("1", "none apart"), ("1", "some apart"), ("2", "some apart"), ("3", "none apart"), ("3", "some apart")})
+
+    def test_report(self):
+        """Worked out by hand: what is reported of a verdict with each second answer, and of a refusal, which has none."""
+        reports = {
+            "p4": ["verdict 0", "none apart"],
+            "p5": ["verdict 1 1 8", "entry 1: portfolio lessee lease", "row 8: 1.2.1, portfolio lessee lease, value 800", "none apart"],
+            "p6": ["verdict 2 1 2", "entry 1: portfolio lessee", "entry 2: portfolio lessee lease asset", "some apart"],
+            "p7": ["verdict 3 0 2", "entry 0: portfolio lease", "entry 2: portfolio payment", "none apart"],
+            "p1": ["refused 7 0", "entry 0: lease"], "cut_off": ["refused 2 0"]}
+        both = {name: (table, shape) for name, table, shape in samples.samples()}
+        for name, lines in reports.items():
+            self.assertEqual(explained.reported(*both[name]), lines, name)
+
+    def test_explained(self):
+        """The second answer stands between the facts and the advice, and a refusal is explained without it."""
+        both = {name: (table, shape) for name, table, shape in samples.samples()}
+        for name, second in (("p5", "none apart"), ("p6", "some apart")):
+            lines, (means, then) = explained.explained(*both[name]).split("\n"), explained.helped(second)
+            self.assertEqual((lines[4], lines[6:]), (f"Second answer: {means}", [""]), name)
+            self.assertTrue(lines[5].startswith("What to do next: ") and lines[5].endswith(f" {then}"), name)
+        self.assertNotIn("Second answer", explained.explained(*both["p1"]))
 
     def test_fans(self):
         """The tape kept by asset is the new table of the tape kept by lessee."""

@@ -69,11 +69,23 @@ fn verdict_alike(v: Verdict, kind: usize, one: usize, two: usize) -> bool {
     }
 }
 
+// For C the second answer is a number: 1 for yes, 0 for no.
+fn second_alike(none_apart: bool, told: usize) -> bool {
+    if none_apart {
+        return told == 1;
+    }
+    told == 0
+}
+
 fn judged_alike(t: &[u8], s: &[u8]) -> bool {
     let r = silmezga::judge(t, s);
     let v = r.verdict;
+    let none = r.none_apart;
     let c = silmezga_c::silmezga_judge(t, s);
-    r.number == c.number && r.place == c.place && verdict_alike(v, c.verdict, c.first, c.second)
+    r.number == c.number
+        && r.place == c.place
+        && verdict_alike(v, c.verdict, c.first, c.second)
+        && second_alike(none, c.none_apart)
 }
 
 fn summarised_alike(t: &[u8], s: &[u8]) -> bool {

@@ -115,12 +115,23 @@ fn print_verdict(v: Verdict) {
     }
 }
 
+// Prints the second answer.
+fn print_second(none_apart: bool) {
+    if none_apart {
+        io::write_all(STDOUT_FILENO, b" yes");
+    } else {
+        io::write_all(STDOUT_FILENO, b" no");
+    }
+}
+
 pub fn print_judged(t: &[u8], s: &[u8]) {
     let j = silmezga::judge(t, s);
     let v = j.verdict;
+    let none = j.none_apart;
     number(b": ", j.number);
     number(b" ", j.place);
     print_verdict(v);
+    print_second(none);
 }
 
 // An entry's figures, unless all of them are 0.

@@ -16,7 +16,7 @@
 // - look-up's number and place, and the bytes handed back, in hexadecimal digits;
 // - adorning's number, place and types; the six figures of each summary counted; and each other summary that is not as it was before
 //   the call, with its number;
-// - judging's number and place, and document 01's number of the verdict with its values;
+// - judging's number and place, document 01's number of the verdict with its values, and the second answer, `yes` or `no`;
 // - reshaping's number, place and lines; up to forty lines, each as twelve 16-bit numbers and its place of the source list, or,
 //   where there are more, the sum over every byte and every place of the lines; then each lent byte and each place past the last
 //   line that is not as it was before the call, with its index;

@@ -69,10 +69,11 @@ fn print_reshaped(
     }
     let j = silmezga::judge(source, shape);
     let v = j.verdict;
+    let none = j.none_apart;
     if !print_verdict(v) {
         return false;
     }
-    if !report_verdict(channel, source, shape, v) {
+    if !report_verdict(channel, source, shape, v, none) {
         return false;
     }
     print_lines(table, sources, r.lines)

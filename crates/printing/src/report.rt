@@ -1,4 +1,5 @@
-// What the program reports of a listing, on a channel: its answer, and the rows and the entries that this names.
+// What the program reports of a listing, on a channel: its answer, the rows and the entries that this names, and with a verdict the second
+// answer.
 use crate::out::NOWHERE;
 use crate::out::report;
 use facts::entry::put_entry;
@@ -148,8 +149,22 @@ fn report_named(channel: i32, table: &[u8], shape: &[u8], v: Verdict) -> bool {
     }
 }
 
-// A verdict, and what it names; nothing where there is no channel.
-pub fn report_verdict(channel: i32, table: &[u8], shape: &[u8], v: Verdict) -> bool {
+// The second answer.
+fn report_second(channel: i32, none_apart: bool) -> bool {
+    if none_apart {
+        return report(channel, b"none apart\n");
+    }
+    report(channel, b"some apart\n")
+}
+
+// A verdict, what it names, and the second answer; nothing where there is no channel.
+pub fn report_verdict(
+    channel: i32,
+    table: &[u8],
+    shape: &[u8],
+    v: Verdict,
+    none_apart: bool,
+) -> bool {
     if channel == NOWHERE {
         return true;
     }
@@ -158,5 +173,8 @@ pub fn report_verdict(channel: i32, table: &[u8], shape: &[u8], v: Verdict) -> b
     if !report(channel, &text[..n]) {
         return false;
     }
-    report_named(channel, table, shape, v)
+    if !report_named(channel, table, shape, v) {
+        return false;
+    }
+    report_second(channel, none_apart)
 }

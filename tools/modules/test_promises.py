@@ -1,0 +1,97 @@
+"""Tests of the second answer in paper01.py, and of what is promised of a new table, on the second reading's own lines."""
+import collections, itertools, random, unittest, unittest.mock
+
+import brackets, cases, paper01, promises
+from case_parts import bracketed
+
+
+def work_of(table_text, shape_text):
+    case = bracketed(table_text, shape_text)
+    work = paper01.Work(case.table, case.shape)
+    return work, work.lines(paper01.MOST_LINES)
+
+
+def drawn(count, seed):
+    """Works of drawn tables and shapes that are accepted, with their lines."""
+    rng = random.Random(seed)
+    while count:
+        table, shape = cases.case(rng, most_rows=rng.choice([6, 14, 30]), most_entries=rng.choice([3, 6, 16]), harm=0)
+        try:
+            work = paper01.Work(table, shape)
+            yield work, work.lines(paper01.MOST_LINES)
+            count -= 1
+        except paper01.Refused:
+            pass
+
+
+class Promises(unittest.TestCase):
+    def test_drawn(self):
+        """Every promise is kept, and every verdict comes up with each second answer that it can have."""
+        seen = collections.Counter()
+        for work, lines in drawn(600, 12):
+            self.assertEqual(list(promises.broken(work, lines)), [])
+            seen[work.verdict()[0], work.none_apart(), promises.is_made_up(work, lines)] += 1
+        self.assertEqual(set(seen), {(0, True, False), (1, True, False), (3, True, False), *((v, False, up) for v in (1, 2, 3) for up in (False, True))})
+
+    def test_broken_ones_are_found(self):
+        """A second answer that is always yes, a verdict that is always 0, and one that names a row that is shown."""
+        work, lines = work_of(brackets.A, "1[2 4[3]]")
+        self.assertEqual(list(promises.broken(work, lines)), [])
+        with unittest.mock.patch.object(work, "none_apart", lambda: True):
+            self.assertEqual(list(promises.broken(work, lines)), ["the second answer is yes, and a link is made up"])
+        with unittest.mock.patch.object(work, "verdict", lambda: (0,)):
+            self.assertEqual(list(promises.broken(work, lines)), ["verdict 0, and a link is missing or made up", "verdict 0, and the second answer is no"])
+        with unittest.mock.patch.object(work, "verdict", lambda: (1, 3, 2)):
+            self.assertEqual(list(promises.broken(work, lines)), ["verdict 1 names a row that stands in a line of its entry"])
+        case = bracketed(brackets.A, "1[2 4]")
+        with unittest.mock.patch.object(paper01.Work, "none_apart", lambda self: True), self.assertRaises(SystemExit):
+            promises.hold(case.table, case.shape)
+
+
+class MadeUp(unittest.TestCase):
+    def made_up(self, table_text, shape_text):
+        work, lines = work_of(table_text, shape_text)
+        return work.none_apart(), sorted(work.made_up(lines))
+
+    def hang_under(self, z, *lines):
+        """Do they hang under line z, or are they it?"""
+        return all(dewey[:len(z[2])] == z[2] for _, _, dewey in lines)
+
+    def test_by_hand(self):
+        # document 01: P6 makes up three pairs
+        self.assertEqual(self.made_up(brackets.A, "1[2 4]"), (False, [(1, 2, 7, 3), (1, 2, 7, 4), (1, 2, 7, 6)]))
+        self.assertEqual(self.made_up(brackets.A, "3[2 4]"), (True, []))
+        # after verdict 1 and after verdict 3
+        self.assertEqual(self.made_up(brackets.A, "4[3[2]]"), (True, []))
+        self.assertEqual(self.made_up("1[3[4] 3 5]", "3[4[5]]"), (True, []))
+        # a line and one further down beneath it: a lease comes to stand beneath another
+        self.assertEqual(self.made_up("1[3[4] 3 5]", "3[5[3]]"), (False, [(0, 2, 1, 3), (0, 2, 3, 1)]))
+
+    def test_one_way(self):
+        """`no` does not say that something is made up."""
+        self.assertEqual(self.made_up("1[2]", "1[2 2]"), (False, []))
+        self.assertEqual(self.made_up("1[2 2]", "1[2 2]"), (False, [(1, 2, 1, 2), (1, 2, 2, 1)]))
+
+    def test_as_the_request_says_it(self):
+        """Over any three lines, of which two hang under the third, or are it, and this is of their fork entry."""
+        for work, lines in drawn(200, 3):
+            if len(lines) <= 40:
+                said = {(x[0], y[0], x[1], y[1]) for x, y, z in itertools.product(lines, repeat=3)
+                        if x[0] < y[0] and z[0] == work.fork(x[0], y[0]) and self.hang_under(z, x, y) and not work.closest(x[1], y[1])}
+                self.assertEqual(set(work.made_up(lines)), said)
+
+
+class Second(unittest.TestCase):
+    def test_refused(self):
+        self.assertEqual(paper01.judge(b"", b""), (5, 0, (0,), False))
+        case = bracketed(brackets.A, "3[2 4]")
+        self.assertEqual(paper01.judge(case.table, case.shape), (0, 0, (0,), True))
+        self.assertEqual(paper01.judge(case.table[:-1], case.shape), (2, 0, (0,), False))
+
+    def test_earned_by_each_pair(self):
+        """The verdict, where it is no 1, is the first that a pair earns; the second answer looks at all of them."""
+        for work, _ in drawn(200, 7):
+            earned = [work.earns(e, f) for e, f in work.pairs_of_entries()]
+            self.assertEqual(work.none_apart(), 2 not in earned)
+            if work.verdict()[0] != 1:
+                self.assertEqual(work.verdict()[0], next(filter(None, earned), 0))
