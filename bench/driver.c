@@ -1,7 +1,8 @@
 /*
  * Holds the four calls to the former and the plain program on every tape, then measures the three. A round takes a batch of each call of
  * each program on each tape, so that a time in which the machine is busy falls on all of them alike. Prints a line for each tape and call,
- * with tabs between: tape, rows, call, nanoseconds of Silmezga, of the former program and of the plain one, the answer.
+ * with tabs between: tape, rows, call, nanoseconds of Silmezga, of the former program and of the plain one, the answer. On the last kinds
+ * of tapes, where one table has two shapes, judging alone is measured.
  */
 #define _POSIX_C_SOURCE 199309L
 #include <stdio.h>
@@ -13,7 +14,9 @@
 #include "plain.h"
 #include "tapes.h"
 
-enum { ROUNDS = 11, PROGRAMS = 3, CALLS = 4, KINDS = 9, SIZES = 4, TAPES = KINDS * SIZES, LINES = SILMEZGA_MOST_LINES };
+enum { ROUNDS = 11, PROGRAMS = 3, KINDS = 13, SIZES = 4, TAPES = KINDS * SIZES, LINES = SILMEZGA_MOST_LINES };
+enum { EXAMINE, JUDGE, RESHAPE, SUMMARISE, CALLS };
+enum { FOR_ALL_CALLS = 9 };    /* so many of the kinds of tapes; those after them are for judging */
 
 static const double batch_seconds = 0.002;
 static const char *const calls[] = {"examine", "judge", "reshape", "summarise"};
@@ -57,13 +60,13 @@ static void make_call(int p, const tape *t, int call)
     const program *made = &programs[p];
     answers *a = &given[p];
     switch (call) {
-    case 0:
+    case EXAMINE:
         a->examined = made->examine(t->table, t->table_len);
         break;
-    case 1:
+    case JUDGE:
         a->judged = made->judge(t->table, t->table_len, t->shape, t->shape_len);
         break;
-    case 2:
+    case RESHAPE:
         a->reshaped = made->reshape(t->table, t->table_len, t->shape, t->shape_len, a->new_table, sizeof a->new_table, a->sources, LINES);
         break;
     default:
@@ -138,18 +141,23 @@ static void print_lines(size_t refusal, size_t lines, const char *of)
 static void print_answer(int call)
 {
     switch (call) {
-    case 0:
+    case EXAMINE:
         printf("%zu rows", given[0].examined.rows);
         break;
-    case 1:
-        printf("verdict %zu", given[0].judged.verdict);
+    case JUDGE:
+        printf("verdict %zu%s", given[0].judged.verdict, given[0].judged.none_apart ? ", none apart" : "");
         break;
-    case 2:
+    case RESHAPE:
         print_lines(given[0].reshaped.number, given[0].reshaped.lines, "");
         break;
     default:
         print_lines(given[0].summary.number, given[0].summary.lines[0], " of entry 0");
     }
+}
+
+static int is_measured(int i, int call)
+{
+    return i % KINDS < FOR_ALL_CALLS || call == JUDGE;
 }
 
 static void print_figures(void)
@@ -158,6 +166,9 @@ static void print_figures(void)
     for (i = 0; i < TAPES; i++) {
         compare(&tapes[i]);
         for (call = 0; call < CALLS; call++) {
+            if (!is_measured(i, call)) {
+                continue;
+            }
             printf("%s\t%zu\t%s\t", tapes[i].name, tapes[i].rows, calls[call]);
             for (p = 0; p < PROGRAMS; p++) {
                 printf("%.0f\t", 1e9 * median(all[i][call][p].seconds));
@@ -173,7 +184,7 @@ static void measure(int round)
     int i, call, p;
     for (i = 0; i < TAPES; i++) {
         for (call = 0; call < CALLS; call++) {
-            for (p = 0; p < PROGRAMS; p++) {
+            for (p = 0; p < PROGRAMS && is_measured(i, call); p++) {
                 figures *f = &all[i][call][p];
                 f->seconds[round] = batch(p, &tapes[i], call, f->times) / (double)f->times;
             }
@@ -183,8 +194,10 @@ static void measure(int round)
 
 static void make_tapes(void)
 {
-    static void (*const make[KINDS])(tape *, size_t) = {make_book,     make_fan,      make_sixteen,    make_64_types,     make_random,
-                                                        make_one_tree, make_siblings, make_many_lines, make_vain_searches};
+    static void (*const make[KINDS])(tape *, size_t) = {
+        make_book, make_fan, make_sixteen, make_64_types, make_random, make_one_tree, make_siblings, make_many_lines, make_vain_searches,
+        make_lone_lease_kept, make_lone_lease_missing, make_lone_sixteen_kept, make_lone_sixteen_missing
+    };
     int i;
     for (i = 0; i < TAPES; i++) {
         make[i % KINDS](&tapes[i], (size_t)128 << i / KINDS);
@@ -198,7 +211,7 @@ int main(void)
     for (i = 0; i < TAPES; i++) {
         compare(&tapes[i]);
         for (call = 0; call < CALLS; call++) {
-            for (p = 0; p < PROGRAMS; p++) {
+            for (p = 0; p < PROGRAMS && is_measured(i, call); p++) {
                 all[i][call][p].times = times_for(p, &tapes[i], call);
             }
         }

@@ -16,6 +16,10 @@ BARS = {
     "summarise": {tape: 1.2 if tape == "sixteen" else 1.0 for tape in BARRED},
 }
 MOST_GROWTH = 9.0
+# The most that judging with verdict 1 may take, for one with verdict 0 on the same table.
+MOST_MISSING = 1.0
+SPREAD = 0.05  # what the ratios of two runs of the same code differ by
+KEPT, MISSING = ", verdict 0", ", verdict 1"  # how the names of such a table's two tapes end
 
 ABOUT = """# Bench
 
@@ -41,6 +45,8 @@ algorithms, and no machine-word tricks.
 | siblings | one way down to level 5, all other rows on level 6 beneath it: numbers that differ in the last component only, and no bar | meter[payment asset] |
 | many lines | hostile: 1,024 rows that ask for {many:,} lines | 6 entries, one below the other |
 | vain searches | hostile: 4 lines a row, which just fit, nearly each with 14 searches of its tree that find nothing | 16 entries |
+| lone lease | the book, its last row a lease without an asset; judged only | lease[lessee asset] for verdict 0, asset[lessee lease] for verdict 1 |
+| lone sixteen | the same table; judged only | 16 entries on 6 levels: asset[lessee asset[asset[..]] ..] for verdict 0, a lease as the last entry for verdict 1 |
 """
 
 GOES = """
@@ -54,11 +60,17 @@ entry, however many lines there are. When lines are written, the first and the n
 child entry for them. A row's type is tried first where it was last found after a row of the same type, and else searched for among the
 types listed so far.
 
+With verdict 1 no edge is walked past the first row without a partner, and the search for that row begins in its run; then the pairs of entries are
+looked at for a 2 only, for which full edges do not matter.
+
 `bench/plain.c` is quicker because it does less. It numbers the labels, so that a type is looked up. It lists the rows of each type, and
 the rows of the ancestor type that an edge's two types share cut their lists into runs, so that the lines of an entry are counted by a walk
 of these three lists and not of all rows. And beneath a line it walks only the child entries that have lines.
 """
 
+
+SAME_TABLE = f"""One table, judged with two shapes of as many entries. Verdict 1 is to cost no more than verdict 0, also where it comes at the last entry and names
+the last row, as here. The ratios of two runs of the same code differ by up to {SPREAD}, which the bar allows for."""
 
 def read(path):
     """The nanoseconds of each program, and the answer, by tape, rows and call."""
@@ -134,6 +146,18 @@ def growth_bars(figures, machine):
     return rows
 
 
+def verdicts(figures, machine):
+    """A row for each table that is judged with two shapes: the times with verdict 0 and with verdict 1, and their ratio for each program."""
+    rows = []
+    for name, n in sorted((tape.removesuffix(MISSING), n) for tape, n, _ in figures if tape.endswith(MISSING)):
+        kept, missing = figures[name + KEPT, n, "judge"], figures[name + MISSING, n, "judge"]
+        own, *others = [missing[program] / kept[program] for program in PROGRAMS]
+        measured = [time(kept["Silmezga"]), time(missing["Silmezga"]), times(MOST_MISSING + SPREAD)] + held(own, MOST_MISSING + SPREAD)
+        rows.append([name, f"{n:,}"] + measured + [times(ratio) for ratio in others] + [f"{kept['answer']}; {missing['answer']}", machine])
+    programs = ["Silmezga, verdict 0", "verdict 1", "at most", "ratio", "", "ratio of former", "ratio of plain"]
+    return table(["tape", "rows", *programs, "answers", "machine"], rows)
+
+
 def passed(ratios, growths):
     """How many bars are passed, in a sentence."""
     former, plain, own = [sum(row[at] == "pass" for row in rows) for rows, at in ((ratios, 4), (ratios, 6), (growths, 4))]
@@ -151,6 +175,7 @@ def main():
     ratios, growths = ratio_bars(figures, machine), growth_bars(figures, machine)
     parts = section("Bars: ratios at 1,024 rows", table(["tape", "call", "at most", "to former", "", "to plain", "", "machine"], ratios))
     parts += section("Bars: greatest growth, 128 to 1,024 rows", table(["tape", "call", "at most", "Silmezga", "", "machine"], growths))
+    parts += section("Judging with verdict 1 beside verdict 0", [SAME_TABLE, ""] + verdicts(figures, machine))
     parts += section("At 1,024 rows", beside(figures, machine, [(tape, 1024) for tape in USUAL]))
     parts += section("Growth from 128 to 1,024 rows, 8 times as many", growth(figures, machine))
     parts += section("Hostile tables", beside(figures, machine, [(tape, 1024) for tape in HOSTILE]))

@@ -93,16 +93,22 @@ void make_fan(tape *t, size_t rows)
     lease_with_lessee_and_asset(t);
 }
 
-void make_sixteen(tape *t, size_t rows)
+/* Sixteen entries on 6 levels: lessees for the second, types of this size for the others, of another for the last. */
+static void sixteen_entries(tape *t, unsigned size, unsigned last)
 {
     unsigned e;
-    start(t, "sixteen");
-    book_rows(t, rows);
-    add_entry(t, 1, 3, down_to_asset);
+    add_entry(t, 1, size, down_to_asset);
     add_entry(t, 2, 2, down_to_asset);
     for (e = 0; e < 14; e++) {
-        add_entry(t, 2 + e % 5, 3, down_to_asset);
+        add_entry(t, 2 + e % 5, e < 13 ? size : last, down_to_asset);
     }
+}
+
+void make_sixteen(tape *t, size_t rows)
+{
+    start(t, "sixteen");
+    book_rows(t, rows);
+    sixteen_entries(t, 3, 3);
 }
 
 /* Trees of 64 rows, a row of each type: 3 types below the root, 4 below each of them, 4 below each of those. */
@@ -257,4 +263,38 @@ void make_vain_searches(tape *t, size_t rows)
     for (i = 0; i < 14; i++) {
         add_entry(t, 3, 2, payment);
     }
+}
+
+/* A book, and a lease more that has no asset. */
+static void start_lone(tape *t, const char *name, size_t rows)
+{
+    start(t, name);
+    book_rows(t, rows - 1);
+    add_row(t, 3, LEASE);
+}
+
+void make_lone_lease_kept(tape *t, size_t rows)
+{
+    start_lone(t, "lone lease, verdict 0", rows);
+    lease_with_lessee_and_asset(t);
+}
+
+void make_lone_lease_missing(tape *t, size_t rows)
+{
+    start_lone(t, "lone lease, verdict 1", rows);
+    add_entry(t, 1, 4, down_to_asset);
+    add_entry(t, 2, 2, down_to_asset);
+    add_entry(t, 2, 3, down_to_asset);
+}
+
+void make_lone_sixteen_kept(tape *t, size_t rows)
+{
+    start_lone(t, "lone sixteen, verdict 0", rows);
+    sixteen_entries(t, 4, 4);
+}
+
+void make_lone_sixteen_missing(tape *t, size_t rows)
+{
+    start_lone(t, "lone sixteen, verdict 1", rows);
+    sixteen_entries(t, 4, 3);
 }

@@ -41,4 +41,18 @@ void make_many_lines(tape *t, size_t rows);
 /* Hostile: 4 lines a row, which just fit, and of which nearly each asks for 14 searches of a whole tree that find nothing. */
 void make_vain_searches(tape *t, size_t rows);
 
+/*
+ * For judging alone: one table with two shapes of as many entries, of verdict 0 and of verdict 1. The table is a book whose last row is a
+ * lease without an asset. Verdict 1 is as dear as it can be: it comes at the last entry and names the last row, and no two entries are
+ * apart, so that all pairs are looked at.
+ */
+
+/* To lease[lessee asset] and to asset[lessee lease]. */
+void make_lone_lease_kept(tape *t, size_t rows);
+void make_lone_lease_missing(tape *t, size_t rows);
+
+/* To 16 entries on 6 levels, assets but for the lessee, and to the same with a lease as the last. */
+void make_lone_sixteen_kept(tape *t, size_t rows);
+void make_lone_sixteen_missing(tape *t, size_t rows);
+
 #endif

@@ -53,7 +53,7 @@ extern "C" {
 #endif
 
 /* The version of the project; CHANGELOG.md says what each brought. */
-#define SILMEZGA_VERSION "1.2.0"
+#define SILMEZGA_VERSION "1.3.0"
 
 /* The archive's numbers have 64 bits: this line refuses a target whose size_t has not. */
 typedef char silmezga_size_t_has_64_bits[sizeof(size_t) == 8 ? 1 : -1];
@@ -103,6 +103,11 @@ enum {
  * parent entry's type closest to it. An edge of the shape, from an entry to its parent, has the level at which the two types meet; it is
  * full when every row of the parent's type has a closest row of the child's. The path between two entries runs up to the deepest entry
  * above or equal to both (the fork) and down again.
+ *
+ * The verdict is the first fault that is found. The second answer, `none_apart`, is about all pairs of entries, whatever the verdict: it
+ * is 1 exactly when none of them would earn a 2. Then a reshape makes nothing up, also with verdict 1 or 3: any two lines of different
+ * entries that hang under, or are, one line of their fork entry have closest source rows. With verdict 0 it is 1, with verdict 2 it is 0.
+ * It holds one way only: 0 does not mean that something is made up.
  */
 enum {
     SILMEZGA_KEPT = 0,       /* the move keeps every link and makes up none */
@@ -149,6 +154,7 @@ typedef struct {
     size_t verdict;             /* 0 to 3 */
     size_t first;               /* verdict 1: the entry; 2 and 3: the earlier entry; 0: zero */
     size_t second;              /* verdict 1: the row; 2 and 3: the later entry; 0: zero */
+    size_t none_apart;          /* the second answer: 1 where no pair of entries would earn a 2, else 0 */
 } silmezga_judged;
 
 typedef struct {
@@ -179,7 +185,7 @@ silmezga_looked_up silmezga_look_up(const uint8_t *table, size_t table_len, size
  */
 silmezga_adorned silmezga_adorn(const uint8_t *table, size_t table_len, silmezga_type_summary *summaries, size_t lent);
 
-/* Judges a table and a shape: refusals 1 to 7, or the verdict in numbers. */
+/* Judges a table and a shape: refusals 1 to 7, or the verdict in numbers and the second answer. */
 silmezga_judged silmezga_judge(const uint8_t *table, size_t table_len, const uint8_t *shape, size_t shape_len);
 
 /*
@@ -189,8 +195,10 @@ silmezga_judged silmezga_judge(const uint8_t *table, size_t table_len, const uin
  * `new_len` is in bytes, `source_places` in numbers. There is room for the least of new_len / 24, source_places and 4,096 lines; the lines
  * are counted before the first is written. Where the verdict on the same table and shape is 0, what the call leaves keeps the links
  * between records: the pairs of source rows read off the closest pairs of new lines are exactly the closest pairs of source rows of those
- * two types. A new table of at most 1,024 lines is a sound source: no call refuses its `lines` x 24 bytes with 1 to 4, so that they can
- * be reshaped again with no test in between.
+ * two types. Where the second answer is 1, whatever the verdict, nothing is made up: any two lines of different entries that hang under,
+ * or are, one line of their fork entry have closest source rows. Where the verdict is 1 with entry e and row r, that row stands in no
+ * line of that entry: no place of `sources` among the lines written is e x 65,536 + r. A new table of at most 1,024 lines is a sound
+ * source: no call refuses its `lines` x 24 bytes with 1 to 4, so that they can be reshaped again with no test in between.
  */
 silmezga_reshaped silmezga_reshape(const uint8_t *table, size_t table_len, const uint8_t *shape, size_t shape_len, uint8_t *new_table,
                                    size_t new_len, uint32_t *sources, size_t source_places);

@@ -90,6 +90,14 @@ static void show_adorned(size_t table_len, size_t lent)
     }
 }
 
+/* What the second answer adds to verdicts 1 and 3. Verdict 0 says as much already, and verdict 2 names two entries that are apart. */
+static void show_none_apart(silmezga_judged answer)
+{
+    if (answer.verdict == SILMEZGA_MISSING || answer.verdict == SILMEZGA_UNSURE) {
+        printf("  %s\n", answer.none_apart ? "no two entries are apart: nothing is made up" : "two entries are apart: something may be made up");
+    }
+}
+
 static void show_judged(size_t table_len, size_t shape_len)
 {
     silmezga_judged answer = silmezga_judge(table, table_len, shape, shape_len);
@@ -109,6 +117,7 @@ static void show_judged(size_t table_len, size_t shape_len)
     default:
         printf("judge: verdict 3, entries %zu and %zu\n", answer.first, answer.second);
     }
+    show_none_apart(answer);
 }
 
 static void show_reshaped(size_t table_len, size_t shape_len)

@@ -1,7 +1,7 @@
 //! Shows what the six calls say of the files source.tab and shape.tab in a folder: show FOLDER
 //!
 //! By hand, in examples/rust: SILMEZGA_LIB=$PWD/../../target/staticlib cargo run --example show -- ../../samples/p4
-use silmezga::{Refusal, TypeSummary, Verdict};
+use silmezga::{Judgement, Refusal, TypeSummary, Verdict};
 use std::{env, fs, path::Path, process};
 
 fn word(bytes: &[u8]) -> u16 {
@@ -43,13 +43,24 @@ fn adorned(table: &[u8], lent: usize) -> Result<String, Refusal> {
     Ok(text)
 }
 
+/// What the second answer adds to verdicts 1 and 3. Verdict 0 says as much already, and verdict 2 names two entries that are apart.
+fn none_apart(judgement: Judgement) -> &'static str {
+    match judgement.verdict {
+        Verdict::Kept | Verdict::Apart { .. } => "",
+        _ if judgement.none_apart => "  no two entries are apart: nothing is made up\n",
+        _ => "  two entries are apart: something may be made up\n",
+    }
+}
+
 fn judged(table: &[u8], shape: &[u8]) -> Result<String, Refusal> {
-    Ok(match silmezga::judge(table, shape)? {
+    let judgement = silmezga::judge(table, shape)?;
+    let verdict = match judgement.verdict {
         Verdict::Kept => "judge: verdict 0, the links are kept\n".to_string(),
         Verdict::Missing { entry, row } => format!("judge: verdict 1, row {} has no partner for entry {}\n", row, entry),
         Verdict::Apart { first, second } => format!("judge: verdict 2, entries {} and {}\n", first, second),
         Verdict::Unsure { first, second } => format!("judge: verdict 3, entries {} and {}\n", first, second),
-    })
+    };
+    Ok(verdict + none_apart(judgement))
 }
 
 fn reshaped(table: &[u8], shape: &[u8]) -> Result<String, Refusal> {

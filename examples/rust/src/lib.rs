@@ -55,6 +55,16 @@ pub enum Verdict {
     Unsure { first: usize, second: usize },
 }
 
+/// What judging says of a table and a shape.
+#[derive(Clone, Copy, Debug, PartialEq, Eq)]
+pub struct Judgement {
+    pub verdict: Verdict,
+    /// The second answer: would no pair of entries earn a 2? Where this is so, a reshape makes nothing up, whatever the verdict: any two
+    /// lines of different entries that hang under, or are, one line of their fork entry have closest source rows. It holds one way only:
+    /// where it is not so, nothing need be made up.
+    pub none_apart: bool,
+}
+
 /// For each of 16 entries its lines, the source rows of its type, and copies: lines less source rows, or 0 where lines are fewer.
 #[derive(Clone, Copy, Debug, PartialEq, Eq)]
 pub struct Summary {
@@ -90,6 +100,7 @@ mod archive {
         pub verdict: usize,
         pub first: usize,
         pub second: usize,
+        pub none_apart: usize,
     }
 
     #[repr(C)]
@@ -150,8 +161,8 @@ pub fn adorn(table: &[u8], summaries: &mut [TypeSummary]) -> Result<usize, Refus
     accepted(a.number, a.place, a.count)
 }
 
-/// Judges a table and a shape: refusals 1 to 7, or the verdict.
-pub fn judge(table: &[u8], shape: &[u8]) -> Result<Verdict, Refusal> {
+/// Judges a table and a shape: refusals 1 to 7, or the verdict and the second answer.
+pub fn judge(table: &[u8], shape: &[u8]) -> Result<Judgement, Refusal> {
     let a = unsafe { archive::silmezga_judge(table.as_ptr(), table.len(), shape.as_ptr(), shape.len()) };
     let (first, second) = (a.first, a.second);
     let verdict = match a.verdict {
@@ -160,12 +171,13 @@ pub fn judge(table: &[u8], shape: &[u8]) -> Result<Verdict, Refusal> {
         2 => Verdict::Apart { first, second },
         _ => Verdict::Unsure { first, second },
     };
-    accepted(a.number, a.place, verdict)
+    accepted(a.number, a.place, Judgement { verdict, none_apart: a.none_apart == 1 })
 }
 
 /// Reshapes a table: refusals 1 to 8, or the number of lines, which then stand at the front of `new`, and entry x 65,536 + source row of
-/// each at the front of `sources`. What lies past the last line stays as it was. A new table of at most 1,024 lines is a sound source: it
-/// can be reshaped again with no test in between.
+/// each at the front of `sources`. What lies past the last line stays as it was. Where judging says `none_apart`, nothing is made up,
+/// whatever the verdict. Where the verdict is 1, the row that it names stands in no line of the entry that it names. A new table of at most
+/// 1,024 lines is a sound source: it can be reshaped again with no test in between.
 pub fn reshape(table: &[u8], shape: &[u8], new: &mut [u8], sources: &mut [u32]) -> Result<usize, Refusal> {
     let a = unsafe {
         archive::silmezga_reshape(
