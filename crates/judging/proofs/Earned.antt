@@ -18,7 +18,7 @@ use Rattle.paper.specs.Verdict.{meeting, edgeLevel, sureDown, meetsLeast, sure,
 use Rattle.paper.proofs.Lists.{both, and, or-left, has-left, has-right, has-all, any-has, has-any, map-append}
 use Rattle.paper.proofs.Papers.{same-test}
 use Rattle.paper.proofs.Agree.{shared-sym}
-use Rattle.judging.specs.Pairs.{wayOf, lowest, levelsOn, leastOn, sureOn, Found, earnedBy, earned, fault}
+use Rattle.judging.specs.Pairs.{wayOf, lowest, levelsOn, leastOn, sureOn, Found, earnedBy, earned, fault, apartBy}
 use Rattle.judging.specs.declared.pairs.Path.{Path}
 
 -- a pair's verdict by whether its types meet at the least level and whether some edge of that level is sure
@@ -109,12 +109,9 @@ lowest-append b [] ys = refl
 lowest-append b (x ∷ xs) ys = lowest-append (min b x) xs ys
 
 -- ---- by the paper's definition
--- a pair's fault, as the paper writes it, and its 2
+-- a pair's fault, as the paper writes it
 abbrev faultBy : ℕ → ℕ → Bool → Bool → List Verdict.Verdict
 faultBy e f w u = elim w [ false ↦ apart e f ∷ [] | true ↦ elim u [ true ↦ [] | false ↦ unsure e f ∷ [] ] ]
-
-abbrev pub apartBy : ℕ → ℕ → Bool → List Verdict.Verdict
-apartBy e f w = elim w [ true ↦ [] | false ↦ apart e f ∷ [] ]
 
 fault-by : (e f : ℕ) (w u : Bool) → fault (verdictBy e f w u) ≡ faultBy e f w u
 fault-by e f true true = refl
@@ -236,8 +233,8 @@ pub first-more : (xs zs ys ws : List Verdict.Verdict) → FirstIn xs ys → Firs
 first-more xs zs [] ws p q = q
 first-more xs zs (y ∷ ys) ws p q = λ e. let z : _≡_ {A = Bool} false true = ap isEmpty (p e) in absurd (true≢false (sym z))
 
-pub first-fault : (e f : ℕ) (v : Verdict.Verdict) → FirstIn [] (fault v)
-first-fault e f kept q = refl
-first-fault e f (missing c r) q = let z : _≡_ {A = ℕ} 1 0 = ap (λ v. firstOr 0 (verdictNumbers v)) q in absurd (omega arith)
-first-fault e f (apart c d) q = let z : _≡_ {A = ℕ} 2 0 = ap (λ v. firstOr 0 (verdictNumbers v)) q in absurd (omega arith)
-first-fault e f (unsure c d) q = let z : _≡_ {A = ℕ} 3 0 = ap (λ v. firstOr 0 (verdictNumbers v)) q in absurd (omega arith)
+pub first-fault : (v : Verdict.Verdict) → FirstIn [] (fault v)
+first-fault kept q = refl
+first-fault (missing c r) q = let z : _≡_ {A = ℕ} 1 0 = ap (λ v. firstOr 0 (verdictNumbers v)) q in absurd (omega arith)
+first-fault (apart c d) q = let z : _≡_ {A = ℕ} 2 0 = ap (λ v. firstOr 0 (verdictNumbers v)) q in absurd (omega arith)
+first-fault (unsure c d) q = let z : _≡_ {A = ℕ} 3 0 = ap (λ v. firstOr 0 (verdictNumbers v)) q in absurd (omega arith)

@@ -13,7 +13,7 @@ use Rattle.paper.specs.Verdict.{apart, overPairs}
 use types.Run.{OneOf}
 use denote.Enum.Declared.{tagOf}
 use Rattle.shapes.specs.declared.shape.Shape.{Shape}
-use Rattle.judging.specs.Pairs.{Found, earned, fault, apartPair}
+use Rattle.judging.specs.Pairs.{Found, earned, fault, apartBy, apartPair}
 use Rattle.judging.specs.declared.pairs.Path.{Path}
 use Rattle.shapes.specs.Edges.{meetingOf}
 use Rattle.judging.specs.Told.{told}
@@ -96,7 +96,7 @@ module _ (s : Shape) (ways : List ℕ) (full : List Bool) (meetings : List ℕ) 
 -- ---- one pair and a 2
 module _ (s : Shape) (ways meetings : List ℕ) (e f m : ℕ) (qm : m ≡ meetingOf meetings (s .types) e f) {path : Path}
     (w : Found (s .levels) (s .edges) ways e f path) where
-  apart-by : (b : Bool) → eqb (path .least) m ≡ b → apartPair s ways meetings e f ≡ elim b as (λ _. List Verdict.Verdict) [ true ↦ [] | false ↦ apart e f ∷ [] ]
+  apart-by : (b : Bool) → eqb (path .least) m ≡ b → apartPair s ways meetings e f ≡ apartBy e f b
   apart-by b q = rw (← q, qm, w .least-is) refl
 
   pub apart-none : path .least ≡ m → apartPair s ways meetings e f ≡ []

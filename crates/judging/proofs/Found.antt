@@ -1,8 +1,8 @@
 -- What the search for a row without a partner says, by what it found. Assumes nothing.
 use Prim.Native.Nat.{ℕ, _-_}
 use native.Mathlib.Omega.{arith}
-use mathlib.Core.Path.{_≡_, refl, sym, _∙_, ap, subst}
-use mathlib.Core.Logic.{inl, ⊎-elim}
+use mathlib.Core.Path.{_≡_, refl, ap, subst}
+use mathlib.Core.Logic.{⊎-elim}
 use mathlib.Core.Bool.{Bool, true, false}
 use mathlib.Core.List.{List, [], _∷_, _++_, map}
 use lib.Dec.{leb}
@@ -10,7 +10,7 @@ use borrow.Author.Tests.{leb-true, leb-false}
 use Rattle.paper.specs.Lists.{Has, firstOr, count}
 use Rattle.paper.specs.Verdict
 use Rattle.paper.specs.Verdict.{kept, missing, verdictNumbers}
-use Rattle.paper.proofs.Lists.{join-has, has-join, map-has, has-map, some-in, has-count}
+use Rattle.paper.proofs.Lists.{has-join, has-map, some-in, has-count}
 use types.Run.{OneOf}
 use denote.Enum.Declared.{tagOf}
 use Rattle.shapes.specs.declared.shape.Shape.{Shape}
@@ -21,6 +21,7 @@ use Rattle.judging.specs.declared.edges.Edges.{Edges}
 use Rattle.judging.specs.declared.verdict.Verdict.{Verdict}
 use Rattle.judging.specs.declared.verdict.Verdict.the-variants.{Kept, Missing, Apart, Unsure}
 use Rattle.judging.proofs.verdict.Verdict.{the-type}
+use Rattle.judging.proofs.Earned.{join-related, FirstIn, first-more, first-fault}
 
 -- a verdict of another variant is not kept
 pub not-kept : (v : Verdict) → OneOf (1 ∷ 2 ∷ 3 ∷ []) (tagOf the-type v) → told v ≡ kept → ⊥
@@ -34,21 +35,17 @@ pub first-found : (xs ys : List Verdict.Verdict) → (firstOr kept xs ≡ kept �
 first-found [] ys h = absurd (h refl)
 first-found (x ∷ xs) ys h = refl
 
-module _ (levels types : List ℕ) (rows : ℕ) (s : Shape) (c n : ℕ) where
-  lone-missing : (v : Verdict.Verdict) → Has v (loneFrom levels types rows s c n) → v ≡ kept → ⊥
-  unfolding loneFrom
-  lone-missing v h q =
-      let (e, he, hv) = join-has (λ c. map (missing c) (aloneRows levels types rows s c)) v (count c n) h in
-      let (r, hr, z) = map-has (missing e) v (aloneRows levels types rows s e) hv in
-      omega (arith, ap (λ v. firstOr 0 (verdictNumbers v)) (sym z ∙ q))
-
-  -- where the first is kept, there is none
-  pub none-lone : firstOr kept (loneFrom levels types rows s c n) ≡ kept → loneFrom levels types rows s c n ≡ []
-  none-lone q = go (loneFrom levels types rows s c n) lone-missing q
-    where
-      go : (xs : List Verdict.Verdict) → ((v : Verdict.Verdict) → Has v xs → v ≡ kept → ⊥) → firstOr kept xs ≡ kept → xs ≡ []
-      go [] h q = refl
-      go (x ∷ xs) h q = absurd (h x (inl refl) q)
+-- where the first row without a partner is kept, there is none
+pub none-lone : (levels types : List ℕ) (rows : ℕ) (s : Shape) (c n : ℕ) → firstOr kept (loneFrom levels types rows s c n) ≡ kept
+    → loneFrom levels types rows s c n ≡ []
+unfolding loneFrom
+none-lone levels types rows s c n =
+    join-related FirstIn (λ q. refl) first-more (λ e. []) (λ c. map (missing c) (aloneRows levels types rows s c)) c n
+    (λ e ge lt. first-lone e (aloneRows levels types rows s e))
+  where
+    first-lone : (e : ℕ) (rs : List ℕ) → FirstIn [] (map (missing e) rs)
+    first-lone e [] q = refl
+    first-lone e (r ∷ rs) q = first-more [] [] (missing e r ∷ []) (map (missing e) rs) (first-fault (missing e r)) (first-lone e rs) q
 
 module _ (levels types : List ℕ) (rows : ℕ) (s : Shape) (edges : Edges) (walked : WalkedTo levels types rows s edges) where
   -- where no row is without a partner all edges are walked

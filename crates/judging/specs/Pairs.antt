@@ -71,13 +71,13 @@ firstFault s ways full meetings =
 abbrev pub FirstFault : Shape → List ℕ → List ℕ → Judged.Verdict → Type 0
 FirstFault s ways meetings v = (full : List Bool) × (told v ≡ firstFault s ways full meetings)
 
--- the 2 that the pair earns, where its types do not meet at the least level on the path
+-- the 2 that a pair earns, by whether its types meet at the least level on the path
+abbrev pub apartBy : ℕ → ℕ → Bool → List Verdict
+apartBy e f least = elim least [ true ↦ [] | false ↦ apart e f ∷ [] ]
+
 abbrev pub apartPair : Shape → List ℕ → List ℕ → ℕ → ℕ → List Verdict
 apartPair s ways meetings e f =
-    elim (eqb (leastOn (s .edges) (wayOf (s .levels) ways e) (wayOf (s .levels) ways f)) (meetingOf meetings (s .types) e f)) [
-      | true ↦ []
-      | false ↦ apart e f ∷ []
-    ]
+    apartBy e f (eqb (leastOn (s .edges) (wayOf (s .levels) ways e) (wayOf (s .levels) ways f)) (meetingOf meetings (s .types) e f))
 
 -- no pair earns a 2
 unfoldable pub noPairApart : Shape → List ℕ → List ℕ → Bool
