@@ -64,6 +64,11 @@ pub reply-given : {A : Type 0} (zeros : A) (a : Answer A) → Past 0 a → reply
 reply-given zeros (refused k p) n e = let w : ⊥ = omega (arith, e, n) in absurd w
 reply-given zeros (given v) n e = (v, refl, refl)
 
+-- what holds of the zeros, and of all that is given, holds of what a reply adds
+pub reply-rest : {A : Type 0} (P : A → Type 0) (zeros : A) (a : Answer A) → P zeros → ((v : A) → a ≡ given v → P v) → P (reply zeros a .rest)
+reply-rest P zeros (refused k p) z h = z
+reply-rest P zeros (given v) z h = h v refl
+
 -- ---- 1 to 3
 pub passed1-3 : (f : Format) (b : List ℕ) (rs : List Row) → tests1-3 f b ≡ given rs
     → (rows f b ≡ rs) × (badRow f rs ≡ none) × (length b ≤ mostRows * rowBytes f)

@@ -1,4 +1,5 @@
 pub mod Lists
+pub mod Kept
 pub mod Agree
 pub mod Forest
 pub mod Closeness
@@ -23,3 +24,4 @@ pub mod Promises
 pub mod MadeUp
 pub mod Sound
 pub mod Needed
+pub mod Figures

@@ -25,7 +25,7 @@ use Rattle.paper.proofs.Lists.{both, getD-has, map-has}
 use Rattle.paper.proofs.Agree.{Agree, agree-take, take-agree, shared-length}
 use Rattle.paper.proofs.Closeness.{closest-near, near-closest}
 use Rattle.paper.proofs.Forest.{one-place, place-bounds, nodesFrom-length}
-use Rattle.paper.proofs.Tables.{Rules, none-rules, rules-each, rows-laid, length-words, sound-numbered, sound-pos, one-level, one-row}
+use Rattle.paper.proofs.Tables.{Rules, none-rules, rules-each, rows-laid, length-words, nodes-numbered, sound-pos, one-level, one-row}
 use Rattle.paper.proofs.Shapes.{Ways, levelOf, entry-label, shape-ways, way-level, size}
 use Rattle.paper.proofs.Verdict.{In, way-one, missing-alone}
 use Rattle.paper.proofs.Lines.{row-of, line-entry, line-level, line-above, alone-unshown}
@@ -58,7 +58,7 @@ module _ (f : Format) (b sb : List ℕ) (w : Work) (passed : tests1-7 f b sb ≡
   numbered x h =
       omega (
         arith,
-        place-bounds 0 t (sound-numbered f rs (rows-laid f b) sound) x h .1,
+        place-bounds 0 t (nodes-numbered rs) x h .1,
         nodesFrom-length 0 (map (typeNumber (types rs)) (rowTypes rs)) (map dewey rs),
         length-map rs dewey,
       )
@@ -66,7 +66,7 @@ module _ (f : Format) (b sb : List ℕ) (w : Work) (passed : tests1-7 f b sb ≡
   -- the source table
   pub source-table : Source t
   source-table = record {
-    one-place = one-place 0 t (sound-numbered f rs (rows-laid f b) sound);
+    one-place = one-place 0 t (nodes-numbered rs);
     one-number = one-row f rs (rows-laid f b) sound;
     one-level = one-level f rs (rows-laid f b) sound;
     some-level = sound-pos f rs (rows-laid f b) sound;
@@ -83,10 +83,10 @@ module _ (f : Format) (b sb : List ℕ) (w : Work) (passed : tests1-7 f b sb ≡
   entries-size : length (s .ways) ≡ length (entries f sb)
   entries-size = size f (types rs) (entries f sb) kept-entries
 
-  some-entry : 0 < length (s .ways)
+  pub some-entry : 0 < length (s .ways)
   some-entry = omega (arith, entries-size, passed5-6 f sb (entries f sb) (passed1-7 f b sb w passed .1) .2)
 
-  levels : (e : ℕ) → e < length (s .ways) → (length (way s e) ≡ getD (s .levels) e 0) × (length (way s e) ≤ f .levels)
+  pub levels : (e : ℕ) → e < length (s .ways) → (length (way s e) ≡ getD (s .levels) e 0) × (length (way s e) ≤ f .levels)
   levels e le = way-level f (types rs) (entries f sb) kept-entries e (omega (arith, entries-size))
 
   labels : (e : ℕ) → e < length (s .ways) → between 1 (getD (s .labels) e 0) (f .labels) ≡ true

@@ -193,15 +193,16 @@ number-at k (x ∷ ts) h = go (same k x) refl h (number-at k ts)
 pub number-same : (j k : List ℕ) (ts : List (List ℕ)) → Has j ts → Has k ts → typeNumber ts j ≡ typeNumber ts k → j ≡ k
 number-same j k ts hj hk e = sym (number-at j ts hj .1) ∙ ap (λ n. getD ts n []) e ∙ number-at k ts hk .1
 
+-- the rows of a table have the places 0, 1, 2 and so on
+pub nodes-numbered : (rs : List Row) → Numbered 0 (nodes rs)
+unfolding nodes
+nodes-numbered rs = nodesFrom-numbered 0 (map (typeNumber (types rs)) (rowTypes rs)) (map dewey rs)
+
 -- ---- a sound table
 module _ (f : Format) (rs : List Row) (laid : Laid f rs) (sound : badRow f rs ≡ none) where
   rules : Chain [] (map dewey rs) × Levelled rs
   unfolding badRow
   rules = kept-chain f [] rs laid (none-rules (rowKept f) dewey 0 [] rs sound)
-
-  pub sound-numbered : Numbered 0 (nodes rs)
-  unfolding nodes
-  sound-numbered = nodesFrom-numbered 0 (map (typeNumber (types rs)) (rowTypes rs)) (map dewey rs)
 
   -- In a sound table each row follows the one before it.
   pub sound-forest : Forest (nodes rs)
@@ -298,4 +299,4 @@ module _ (f : Format) (rs : List Row) (laid : Laid f rs) (sound : badRow f rs �
   -- Rows that agree to a level are one unbroken run.
   pub sound-run : (k : ℕ) (x y z : Node) → Has x (nodes rs) → Has y (nodes rs) → Has z (nodes rs) → x .place < y .place → y .place < z .place
       → Agree k (x .dewey) (z .dewey) → Agree k (x .dewey) (y .dewey) × Agree k (y .dewey) (z .dewey)
-  sound-run = run (nodes rs) sound-numbered sound-forest
+  sound-run = run (nodes rs) (nodes-numbered rs) sound-forest

@@ -13,10 +13,11 @@ use Rattle.paper.specs.Shapes.{Shape, kind, way, children}
 use Rattle.paper.specs.NewTable.{Line, forest, tree, beneath, tops, lines}
 use Rattle.paper.specs.Faithful.{Chain, Faithful}
 use Rattle.paper.proofs.Lists.{has-map, map-has, has-join, join-has, joined-map, up-last, up-snoc}
-use Rattle.paper.proofs.Closeness.{kind-of, closestOf-near, closestOf-closest}
+use Rattle.paper.proofs.Closeness.{Of, kind-of, closestOf-near, closestOf-closest}
 use Rattle.paper.proofs.Tables.{nodesFrom-deweys}
 use Rattle.paper.proofs.Shapes.{Ways}
-use Rattle.paper.proofs.Verdict.{In, listed-child, way-zero, way-pos}
+use Rattle.paper.proofs.Verdict.{In, NoneAlone, listed-child, way-zero, way-pos}
+use Rattle.paper.proofs.Lines.{every-row}
 use Rattle.paper.proofs.Trees.{Nth, nth-has, has-nth, Hang, Stands, grown-chain, grown-within, grown-stands, stands-grown, stands-same, stands-up, up-stands}
 
 -- ---- the nodes of lines
@@ -47,11 +48,10 @@ line-node g i (m ∷ ls) l (inr h) =
     let (x, hx, (hl, k, d, j, p, q)) = line-node g (suc i) ls l h in
     (x, inr hx, (inr hl, k, d, suc j, p ∙ (omega arith), q))
 
-module _ (t : List Node) (place : (x y : Node) → Has x t → Has y t → x .place ≡ y .place → x ≡ y) (s : Shape) (w : Ways s)
-    (some : 0 < length (s .ways)) (n : ℕ) (deep : (e : ℕ) → e < length (s .ways) → length (way s e) ≤ n) where
-  abbrev Pair : Type 0
-  Pair = ℕ × Node
+abbrev Pair : Type 0
+Pair = ℕ × Node
 
+module _ (t : List Node) (s : Shape) where
   -- ---- what stands beneath a line
   kids-has : (x : Pair) (c : ℕ) (r : Node) → Has (c, r) (joined (beneath t s x)) → Has c (children s (x .0)) × Has r (closestOf t (x .1) (kind s c))
   unfolding beneath
@@ -70,46 +70,61 @@ module _ (t : List Node) (place : (x y : Node) → Has x t → Has y t → x .pl
       subst (λ l. Has (c, r) l) (sym (joined-map group (children s (x .0))))
       (has-join group c (c, r) (children s (x .0)) hc (has-map {B = Pair} (λ (r : Node). (c, r)) r (closestOf t (x .1) (kind s c)) hr))
 
-  -- ---- what stands at a number has an entry, the entry's level, and a row of its type
-  abbrev Fits : Pair → Type 0
-  Fits x = (x .0 < length (s .ways)) × In s w t (x .0) (x .1)
+  line-stands : (n : ℕ) (l : Line) → Has l (lines t s n) → Stands (beneath t s) (pred n) (tops t s) (l .dewey) (l .entry, l .source)
+  unfolding lines
+  line-stands n l h =
+      let all = forest (tree (beneath t s) (pred n)) [] 1 (tops t s) in
+      let (x, hx, e) = map-has (λ (x : Pair × List ℕ). record { entry = x .0 .0; source = x .0 .1; dewey = x .1 }) l all h in
+      subst (λ (l : Line). Stands (beneath t s) (pred n) (tops t s) (l .dewey) (l .entry, l .source)) (sym e)
+      (grown-stands (beneath t s) (pred n) (tops t s) (x .0) (x .1) hx)
 
-  hang-fits : (x y : Pair) (e : List ℕ) → Fits x → Hang (beneath t s) x e y → Fits y × (length (way s (y .0)) ≡ length (way s (x .0)) + length e)
-  hang-fits x y [] fx h = (subst Fits h fx, ap (λ (z : Pair). length (way s (z .0))) (sym h) ∙ (omega arith))
-  hang-fits x y (j ∷ e) fx (z, nth, h) =
+  -- ---- each line's source row is one of its entry's type
+  hang-type : (x y : Pair) (e : List ℕ) → Of t (kind s (x .0)) (x .1) → Hang (beneath t s) x e y → Of t (kind s (y .0)) (y .1)
+  hang-type x y [] o h = subst (λ (z : Pair). Of t (kind s (z .0)) (z .1)) h o
+  hang-type x y (j ∷ e) o (z, nth, h) =
       let (hc, hr) = kids-has x (z .0) (z .1) (nth-has 1 (joined (beneath t s x)) j z nth) in
+      hang-type z y e (closestOf-near t (kind s (x .0)) (kind s (z .0)) (x .1) (z .1) (o .1) hr .0) h
+
+  stands-type : (n : ℕ) (d : List ℕ) (y : Pair) → Stands (beneath t s) n (tops t s) d y → Of t (kind s (y .0)) (y .1)
+  unfolding tops
+  stands-type n [] y h = absurd h
+  stands-type n (j ∷ e) y (x, nth, h) =
+      let (r, hr, q) = map-has {B = Pair} (λ (r : Node). (0, r)) x (ofKind t (kind s 0)) (nth-has 1 (tops t s) j x nth) in
+      hang-type x y e (subst (λ (z : Pair). Of t (kind s (z .0)) (z .1)) (sym q) (kind-of t (kind s 0) r hr)) h
+
+  pub line-type : (n : ℕ) (l : Line) → Has l (lines t s n) → Of t (kind s (l .entry)) (l .source)
+  line-type n l h = stands-type (pred n) (l .dewey) (l .entry, l .source) (line-stands n l h)
+
+module _ (t : List Node) (place : (x y : Node) → Has x t → Has y t → x .place ≡ y .place → x ≡ y) (s : Shape) (w : Ways s)
+    (some : 0 < length (s .ways)) (n : ℕ) (deep : (e : ℕ) → e < length (s .ways) → length (way s e) ≤ n) where
+  -- ---- what stands at a number has an entry and the entry's level
+  hang-fits : (x y : Pair) (e : List ℕ) → x .0 < length (s .ways) → Hang (beneath t s) x e y
+      → (y .0 < length (s .ways)) × (length (way s (y .0)) ≡ length (way s (x .0)) + length e)
+  hang-fits x y [] lx h = (subst (λ (z : Pair). z .0 < length (s .ways)) h lx, ap (λ (z : Pair). length (way s (z .0))) (sym h) ∙ (omega arith))
+  hang-fits x y (j ∷ e) lx (z, nth, h) =
+      let (hc, hr) = kids-has t s x (z .0) (z .1) (nth-has 1 (joined (beneath t s x)) j z nth) in
       let (lc, wc) = listed-child s w (x .0) (z .0) hc in
-      let (o, near) = closestOf-near t (kind s (x .0)) (kind s (z .0)) (x .1) (z .1) (fx .1 .1) hr in
-      let (fy, ly) = hang-fits z y e (lc, o) h in
+      let (fy, ly) = hang-fits z y e lc h in
       (fy, omega (arith, ly, ap length wc, length-append (way s (x .0)) (z .0 ∷ [])))
 
-  stands-fits : (d : List ℕ) (y : Pair) → Stands (beneath t s) (pred n) (tops t s) d y → Fits y × (length d ≡ length (way s (y .0)))
+  stands-fits : (d : List ℕ) (y : Pair) → Stands (beneath t s) (pred n) (tops t s) d y → (y .0 < length (s .ways)) × (length d ≡ length (way s (y .0)))
   unfolding tops
   stands-fits [] y h = absurd h
   stands-fits (j ∷ e) y (x, nth, h) =
       let (r, hr, q) = map-has {B = Pair} (λ (r : Node). (0, r)) x (ofKind t (kind s 0)) (nth-has 1 (tops t s) j x nth) in
-      let fx : Fits x = subst Fits (sym q) (some, kind-of t (kind s 0) r hr) in
-      let (fy, ly) = hang-fits x y e fx h in
+      let (fy, ly) = hang-fits x y e (subst (λ (z : Pair). z .0 < length (s .ways)) (sym q) some) h in
       (fy, omega (arith, ly, ap (λ (z : Pair). length (way s (z .0))) q, ap length (way-zero s w some)))
 
   -- ---- lines
   abbrev ls : List Line
   ls = lines t s n
 
-  line-stands : (l : Line) → Has l ls → Stands (beneath t s) (pred n) (tops t s) (l .dewey) (l .entry, l .source)
-  unfolding lines
-  line-stands l h =
-      let all = forest (tree (beneath t s) (pred n)) [] 1 (tops t s) in
-      let (x, hx, e) = map-has (λ (x : Pair × List ℕ). record { entry = x .0 .0; source = x .0 .1; dewey = x .1 }) l all h in
-      subst (λ (l : Line). Stands (beneath t s) (pred n) (tops t s) (l .dewey) (l .entry, l .source)) (sym e)
-      (grown-stands (beneath t s) (pred n) (tops t s) (x .0) (x .1) hx)
-
   stands-line : (e : ℕ) (r : Node) (d : List ℕ) → Stands (beneath t s) (pred n) (tops t s) d (e, r) → Has (record { entry = e; source = r; dewey = d }) ls
   unfolding lines
   stands-line e r d h =
       let all = forest (tree (beneath t s) (pred n)) [] 1 (tops t s) in
       let (fy, ld) = stands-fits d (e, r) h in
-      let le : length d ≤ suc (pred n) = omega (arith, deep e (fy .0)) in
+      let le : length d ≤ suc (pred n) = omega (arith, deep e fy) in
       has-map (λ (x : Pair × List ℕ). record { entry = x .0 .0; source = x .0 .1; dewey = x .1 }) ((e, r), d) all
       (stands-grown (beneath t s) (pred n) (tops t s) (e, r) d le h)
 
@@ -134,7 +149,7 @@ module _ (t : List Node) (place : (x y : Node) → Has x t → Has y t → x .pl
       omega (arith, le, length-map all toLine)
 
   pub line-fits : (l : Line) → Has l ls → (l .entry < length (s .ways)) × In s w t (l .entry) (l .source) × (length (l .dewey) ≡ length (way s (l .entry)))
-  line-fits l h = let (f, q) = stands-fits (l .dewey) (l .entry, l .source) (line-stands l h) in (f .0, f .1, q)
+  line-fits l h = let (f, q) = stands-fits (l .dewey) (l .entry, l .source) (line-stands t s n l h) in (f, line-type t s n l h, q)
 
   -- a figure for each line tells its source row
   module _ (g : Line → ℕ) (row : ℕ → ℕ) (tells : (l : Line) → Has l ls → row (g l) ≡ l .source .place) where
@@ -180,9 +195,9 @@ module _ (t : List Node) (place : (x y : Node) → Has x t → Has y t → x .pl
         let (fl, il, ll) = line-fits l hl in
         let (fm, im, lm) = line-fits m hm in
         let (j, q) = beneath-number (l .dewey) (m .dewey) (omega (arith, lm, way-pos s w (m .entry) fm)) (ap up (sym dm) ∙ e ∙ dl) in
-        let nth = above-line (l .dewey) j (l .entry, l .source) (m .entry, m .source) (line-stands l hl)
-        (subst (λ d. Stands (beneath t s) (pred n) (tops t s) d (m .entry, m .source)) q (line-stands m hm)) in
-        let (hc, hr) = kids-has (l .entry, l .source) (m .entry) (m .source)
+        let nth = above-line (l .dewey) j (l .entry, l .source) (m .entry, m .source) (line-stands t s n l hl)
+        (subst (λ d. Stands (beneath t s) (pred n) (tops t s) d (m .entry, m .source)) q (line-stands t s n m hm)) in
+        let (hc, hr) = kids-has t s (l .entry, l .source) (m .entry) (m .source)
         (nth-has 1 (joined (beneath t s (l .entry, l .source))) j (m .entry, m .source) nth) in (
           subst₂ (λ a b. Has a (children s b)) (sym km) (sym kl) hc,
           λ r p hr₁ hp er ep. subst₂ (λ a b. closest t a b ≡ true)
@@ -196,10 +211,10 @@ module _ (t : List Node) (place : (x y : Node) → Has x t → Has y t → x .pl
         let (l, hl, kl, dl, sl) = line-of x hx in
         let (fl, il, ll) = line-fits l hl in
         let e : r ≡ l .source = place r (l .source) hr (il .0) (er ∙ sl) in
-        let kid = has-kids (l .entry, l .source) c q (subst (λ z. Has c (children s z)) kl hc) (subst (λ z. Has q (closestOf t z (kind s c))) e hq) in
+        let kid = has-kids t s (l .entry, l .source) c q (subst (λ z. Has c (children s z)) kl hc) (subst (λ z. Has q (closestOf t z (kind s c))) e hq) in
         let (j, nth) = has-nth 1 (joined (beneath t s (l .entry, l .source))) (c, q) kid in
         let (y, hy, ky, dy, sy) = node-of c q (l .dewey ++ (j ∷ []))
-        (up-stands (beneath t s) (pred n) (tops t s) (l .dewey) j (l .entry, l .source) (c, q) (line-stands l hl) nth) in
+        (up-stands (beneath t s) (pred n) (tops t s) (l .dewey) j (l .entry, l .source) (c, q) (line-stands t s n l hl) nth) in
         (y, hy, ap up dy ∙ up-snoc (l .dewey) j ∙ sym dl, ky, sy)
 
     root-line : (r : Node) → Has r (ofKind t (kind s 0)) → (x : Node) × Has x new × (x .kind ≡ 0) × (source x ≡ r .place)
@@ -222,3 +237,14 @@ module _ (t : List Node) (place : (x y : Node) → Has x t → Has y t → x .pl
       only = only-kids;
       every = every-kid;
     }
+
+  -- Where no row lacks a partner, every row of an entry's type stands in a line of that entry.
+  pub row-stands : NoneAlone s w t → (e : ℕ) → e < length (s .ways) → (r : Node) → In s w t e r
+      → (l : Line) × Has l ls × (l .entry ≡ e) × (l .source .place ≡ r .place)
+  row-stands no-alone e le r ir =
+      let own : Line → ℕ = λ l. l .source .place in
+      let same : ℕ → ℕ = λ i. i in
+      let tells : (l : Line) → Has l ls → same (own l) ≡ l .source .place = λ l h. refl in
+      let (x, hx, kx, sx) = every-row t place s w (new own same tells) (source own same tells) (lines-faithful own same tells) no-alone e le r ir in
+      let (l, hl, kl, dl, sl) = line-of own same tells x hx in
+      (l, hl, sym kl ∙ kx, sym sl ∙ sx)

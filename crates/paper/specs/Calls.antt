@@ -1,17 +1,18 @@
 -- The six calls: the refusals in the order they are tested, and the whole answer of each call for every input. Assumes nothing.
-use Prim.Native.Nat.{ℕ, suc, _+_, _*_, _%_, _-_, min}
+use Prim.Native.Nat.{ℕ, suc, _*_, _%_, min}
 use mathlib.Core.Bool.{Bool, true, false, not, _||_}
-use mathlib.Core.List.{List, [], _++_, map}
+use mathlib.Core.List.{List, [], _++_}
 use mathlib.Core.Option.{Option, none, some}
 use lib.Dec.{eqb, ltb}
-use lib.ListN.{length, getD, drop, replicate}
-use Rattle.paper.specs.Lists.{keep, any, place, same, padded}
+use lib.ListN.{length, getD, drop}
+use Rattle.paper.specs.Lists.{any, place, same}
 use Rattle.paper.specs.Format.{Format, mostRows, mostTypes, mostEntries, mostLines, rowBytes, entryBytes, whole}
 use Rattle.paper.specs.Tables.{Row, rows, rowPart, badRow, rowTypes, types}
-use Rattle.paper.specs.Closeness.{Node, nodes, ofKind}
-use Rattle.paper.specs.Shapes.{Entry, Shape, entries, named, badEntry, shapeOver, kind, numbers}
+use Rattle.paper.specs.Closeness.{Node, nodes}
+use Rattle.paper.specs.Shapes.{Entry, Shape, entries, named, badEntry, shapeOver}
 use Rattle.paper.specs.Adorned.{Summary, adorned}
 use Rattle.paper.specs.NewTable.{Line, lines, newTable, sourceList}
+use Rattle.paper.specs.Figures.{Figures, figures, noFigures}
 use Rattle.paper.specs.Verdict.{Judgement, kept, judgement}
 
 -- ---- answers
@@ -184,28 +185,9 @@ reshape f b sb table sources =
       sources = after sources (do x ← a; given (x .1));
     }
 
--- A summary holds, for each of 16 entries: lines, source rows of its type, and copies. Unused entries hold zeros.
-pub record Figures : Type 0 where
-  pub lines : List ℕ
-  pub rows : List ℕ
-  pub copies : List ℕ  -- lines less source rows, or 0 where lines are fewer
-
-unfoldable pub figures : Work → List Line → Figures
-figures w ls =
-    let es = numbers (w .shape) in
-    let shown : ℕ → ℕ = λ e. length (keep (λ (l : Line). eqb (l .entry) e) ls) in
-    let held : ℕ → ℕ = λ e. length (ofKind (w .nodes) (kind (w .shape) e)) in
-    record {
-      lines = padded mostEntries (map shown es);
-      rows = padded mostEntries (map held es);
-      copies = padded mostEntries (map (λ e. shown e - held e) es);
-    }
-
-abbrev pub noFigures : Figures
-noFigures = record { lines = replicate mostEntries 0; rows = replicate mostEntries 0; copies = replicate mostEntries 0 }
-
+-- Summarising adds the figures of each entry.
 unfoldable pub summarise : Format → List ℕ → List ℕ → Reply Figures
 summarise f b sb = reply noFigures do
   w ← tests1-7 f b sb
   ls ← test8 f w mostLines
-  given (figures w ls)
+  given (figures (w .nodes) (w .shape) ls)

@@ -93,9 +93,9 @@ sourced b sb = let r = reshaped b sb in take (r .reply .rest) (r .sources) ∷ [
 abbrev written : List ℕ → List ℕ → List ℕ
 written b sb = let r = reshaped b sb in take (r .reply .rest * rowBytes base) (r .table)
 
--- number and place; lines, source rows and copies of 16 entries
+-- number and place; lines, source rows, copies and different source rows of 16 entries
 abbrev summed : List ℕ → List ℕ → List (List ℕ)
-summed b sb = let r = summarise base b sb in (r .number ∷ r .place ∷ []) ∷ r .rest .lines ∷ r .rest .rows ∷ r .rest .copies ∷ []
+summed b sb = let r = summarise base b sb in (r .number ∷ r .place ∷ []) ∷ r .rest .lines ∷ r .rest .rows ∷ r .rest .copies ∷ r .rest .different ∷ []
 
 -- ---- the list: what the definitions say, beside what document 01 says
 pub further : List (List (List ℕ) × List (List ℕ))
@@ -108,16 +108,28 @@ further =
     ∷ (linedInto 216 9 (written A shape4) (entry 1 (3 ∷ 2 ∷ []) ++ entry 2 (3 ∷ []) ++ entry 3 (3 ∷ 4 ∷ [])), (0 ∷ 0 ∷ 9 ∷ []) ∷ [])
     -- two entries of one type beneath one entry are one type of the new table: portfolio[lease lease] has 2
     ∷ (adornedInto 2 (written A (entry 1 portfolio ++ entry 2 lease ++ entry 2 lease)), (0 ∷ 0 ∷ 2 ∷ []) ∷ [])
-    -- the summaries of P4 and P5: the lessee of two leases is copied once; of P10: a row that is not shown is no copy
+    -- the summary of P4: the lessee of two leases is copied once
     ∷ (
       summed A shape4,
-      (0 ∷ 0 ∷ []) ∷ padded 16 (3 ∷ 3 ∷ 3 ∷ []) ∷ padded 16 (3 ∷ 2 ∷ 3 ∷ []) ∷ padded 16 (0 ∷ 1 ∷ 0 ∷ []) ∷ [],
+      (0 ∷ 0 ∷ []) ∷ padded 16 (3 ∷ 3 ∷ 3 ∷ []) ∷ padded 16 (3 ∷ 2 ∷ 3 ∷ []) ∷ padded 16 (0 ∷ 1 ∷ 0 ∷ []) ∷ padded 16 (3 ∷ 2 ∷ 3 ∷ []) ∷ [],
     )
+    -- of P5: lease row 2 stands twice and row 8 not at all, so that of 3 rows 2 are shown, in 3 lines, and 1 line is a copy
     ∷ (
       summed A shape5,
-      (0 ∷ 0 ∷ []) ∷ padded 16 (3 ∷ 3 ∷ 3 ∷ []) ∷ padded 16 (3 ∷ 3 ∷ 2 ∷ []) ∷ padded 16 (0 ∷ 0 ∷ 1 ∷ []) ∷ [],
+      (0 ∷ 0 ∷ []) ∷ padded 16 (3 ∷ 3 ∷ 3 ∷ []) ∷ padded 16 (3 ∷ 3 ∷ 2 ∷ []) ∷ padded 16 (0 ∷ 1 ∷ 2 ∷ []) ∷ padded 16 (3 ∷ 2 ∷ 1 ∷ []) ∷ [],
     )
-    ∷ (summed table10 (entry 1 (2 ∷ []) ++ entry 2 (3 ∷ [])), (0 ∷ 0 ∷ []) ∷ padded 16 (1 ∷ 0 ∷ []) ∷ padded 16 (1 ∷ 1 ∷ []) ∷ zeros 16 ∷ [])
+    -- of P10: a row that is not shown is no copy
+    ∷ (
+      summed table10 (entry 1 (2 ∷ []) ++ entry 2 (3 ∷ [])),
+      (0 ∷ 0 ∷ []) ∷ padded 16 (1 ∷ 0 ∷ []) ∷ padded 16 (1 ∷ 1 ∷ []) ∷ zeros 16 ∷ padded 16 (1 ∷ 0 ∷ []) ∷ [],
+    )
+    -- two entries of one type, lease[asset[lease]]: each counts the rows of its own lines; entry 0 shows three leases, entry 2 two
+    ∷ (
+      summed A (entry 1 lease ++ entry 2 asset ++ entry 3 lease),
+      (0 ∷ 0 ∷ []) ∷ padded 16 (3 ∷ 3 ∷ 3 ∷ []) ∷ padded 16 (3 ∷ 3 ∷ 3 ∷ []) ∷ padded 16 (0 ∷ 0 ∷ 1 ∷ []) ∷ padded 16 (3 ∷ 3 ∷ 2 ∷ []) ∷ [],
+    )
+    -- refused, a summary holds zeros
+    ∷ (summed A (entry 1 lease ++ stranger 2), (7 ∷ 1 ∷ []) ∷ zeros 16 ∷ zeros 16 ∷ zeros 16 ∷ zeros 16 ∷ [])
     -- verdict 1 names the first entry, whatever the rows: entry 1 has row 1 alone, and entry 2 row 0
     ∷ (judged table10 (entry 1 (2 ∷ []) ++ entry 2 (3 ∷ []) ++ entry 3 (2 ∷ [])), (0 ∷ 0 ∷ []) ∷ (1 ∷ 1 ∷ 1 ∷ []) ∷ [])
     -- pairs are taken by e, then f: entries 0 and 3 earn a 2, and so do 1 and 2

@@ -5,11 +5,13 @@ pub mod Closeness
 pub mod Shapes
 pub mod Adorned
 pub mod NewTable
+pub mod Figures
 pub mod Verdict
 pub mod Calls
 pub mod Links
 pub mod MadeUp
 pub mod Sound
+pub mod Shown
 pub mod Faithful
 pub mod Opened
 pub mod Samples
