@@ -16,7 +16,7 @@ use Rattle.paper.specs.Closeness.{Node, nodes, ofKind}
 use Rattle.paper.specs.Adorned.{Summary, childrenOf, summary}
 use Rattle.paper.proofs.Lists.{getD-has}
 use Rattle.paper.proofs.Closeness.{Of}
-use Rattle.paper.proofs.Tables.{rows-laid, sound-numbered, sound-forest, sound-pos, one-level, type-of, type-listed, listed-type, type-length, ancestor, number-at, number-same, distinct-has, length-ways, step}
+use Rattle.paper.proofs.Tables.{rows-laid, nodes-numbered, sound-forest, sound-pos, one-level, type-of, type-listed, listed-type, type-length, ancestor, number-at, number-same, distinct-has, length-ways, step}
 use Rattle.paper.proofs.Adorned.{distinct-once, figures, root-figures}
 use Rattle.paper.proofs.Calls.{count-rows}
 use Rattle.tables.proofs.Rows.{rec}
@@ -147,7 +147,7 @@ module _ (f : Format) (n : ℕ) (t ks : List ℕ) (ty : Typed f n t ks) (k paren
       let la = rows-laid f t in
       let p = typeNumber ts (up v) in
       ap₂ (λ a b. runs a k b) (deep-parent deep .0) (ty .listed ∙ sym (kinds-of f t))
-      ∙ runs-counts (nodes rs) (sound-numbered f rs la s) (sound-forest f rs la s) (sound-pos f rs la s) p k apart
+      ∙ runs-counts (nodes rs) (nodes-numbered rs) (sound-forest f rs la s) (sound-pos f rs la s) p k apart
       (λ x y ox oy. one-level f rs la s x y (ox .0) (oy .0) (ox .1 ∙ sym (oy .1))) parent-of
     where
       apart : k ≡ typeNumber ts (up v) → ⊥

@@ -1,19 +1,19 @@
 -- The rows of a typed table, as nodes. Assumes nothing.
-use Prim.Native.Nat.{ℕ, _≤_, _<_}
+use Prim.Native.Nat.{ℕ, zero, suc, _+_, _≤_, _<_}
 use native.Mathlib.Omega.{arith}
 use mathlib.Core.Path.{_≡_, sym, _∙_, ap}
-use mathlib.Core.List.{List}
-use lib.ListN.{length, getD, length-take}
+use mathlib.Core.List.{List, _∷_, map}
+use lib.ListN.{length, getD, drop, length-take, drop-of-length-le}
 use lib.Seq.{getD-take}
-use Rattle.paper.specs.Lists.{Has}
+use Rattle.paper.specs.Lists.{Has, count}
 use Rattle.paper.specs.Format.{Format}
 use Rattle.paper.specs.Tables.{rows, types}
 use Rattle.paper.specs.Closeness.{Node, nodes, meet}
 use Rattle.paper.proofs.Agree.{agree→shared, shared-agree}
 use Rattle.paper.proofs.Forest.{Forest, Numbered, place-bounds, run}
-use Rattle.paper.proofs.Tables.{type-of, type-listed, number-at, rows-laid, sound-numbered, sound-forest}
+use Rattle.paper.proofs.Tables.{type-of, type-listed, number-at, rows-laid, nodes-numbered, sound-forest}
 use Rattle.closest.specs.Node.{node, Typed}
-use Rattle.closest.proofs.Nodes.{node-in, in-node, length-nodes, length-kinds}
+use Rattle.closest.proofs.Nodes.{nodes-from, node-in, in-node, length-nodes, length-kinds}
 
 -- what stands between two nodes is at least as close to either
 module _ (t : List Node) (num : Numbered 0 t) (forest : Forest t) (x y z : Node) (hx : Has x t) (hy : Has y t) (hz : Has z t)
@@ -29,7 +29,7 @@ module _ (f : Format) (n : ℕ) (t ks : List ℕ) (ty : Typed f n t ks) where
   ns = nodes (rows f t)
 
   pub numbered : Numbered 0 (nodes (rows f t))
-  numbered = sound-numbered f (rows f t) (rows-laid f t) (ty .sound .kept)
+  numbered = nodes-numbered (rows f t)
 
   pub forest : Forest (nodes (rows f t))
   forest = sound-forest f (rows f t) (rows-laid f t) (ty .sound .kept)
@@ -50,6 +50,15 @@ module _ (f : Format) (n : ℕ) (t ks : List ℕ) (ty : Typed f n t ks) where
   -- every node is some row's
   pub is-node : (x : Node) → Has x (nodes (rows f t)) → x ≡ node f t (x .place)
   is-node x h = in-node f t numbered x h (omega (arith, place-in x h, ty .rows-n))
+
+  -- the nodes are those of the rows, in order
+  nodes-on : (m i : ℕ) → i + m ≡ n → drop i (nodes (rows f t)) ≡ map (node f t) (count i m)
+  nodes-on zero i e = drop-of-length-le (nodes (rows f t)) {i = i} (omega (arith, length-nodes f t, ty .rows-n))
+  nodes-on (suc m) i e =
+      nodes-from f t i (omega (arith, ty .rows-n)) ∙ ap {B = List Node} (λ l. node f t i ∷ l) (nodes-on m (suc i) (omega arith))
+
+  pub nodes-are : nodes (rows f t) ≡ map (node f t) (count 0 n)
+  nodes-are = nodes-on n 0 (omega arith)
 
   -- a row's type number is that of a type
   pub kind-few : (i : ℕ) → i < n → getD ks i 0 < length (types (rows f t))

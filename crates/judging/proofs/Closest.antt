@@ -1,12 +1,11 @@
 -- Closest rows told by the rows' levels and types are the paper's. Assumes nothing.
-use Prim.Native.Nat.{ℕ, zero, suc, _+_, _<_}
+use Prim.Native.Nat.{ℕ, _<_}
 use native.Mathlib.Omega.{arith}
 use mathlib.Core.Path.{_≡_, refl, sym, _∙_, ap, ap₂}
-use mathlib.Core.Logic.{inl, inr}
 use mathlib.Core.Bool.{Bool, true, false, _&&_}
 use mathlib.Core.List.{List, [], _∷_, map}
 use lib.Dec.{eqb}
-use lib.ListN.{getD, drop, drop-of-length-le}
+use lib.ListN.{getD}
 use borrow.Author.Tests.{eqb-true}
 use Rattle.paper.specs.Lists.{Has, keep, count}
 use Rattle.paper.specs.Format.{Format}
@@ -14,24 +13,15 @@ use Rattle.paper.specs.Tables as Tables
 use Rattle.paper.specs.Closeness.{Node, nodes, ofKind, kindsMeet, meetAt, closestOf}
 use Rattle.paper.specs.Verdict.{Verdict, missing, isEmpty}
 use Rattle.paper.proofs.Lists.{count-has}
+use Rattle.paper.proofs.Kept.{keep-same, keep-map}
 use Rattle.closest.specs.Node.{node, Typed}
 use Rattle.closest.specs.Runs.{Levelled, startOf}
-use Rattle.closest.proofs.Nodes.{nodes-from, length-nodes}
-use Rattle.closest.proofs.Meets.{kind-at}
+use Rattle.closest.proofs.Meets.{kind-at, nodes-are}
 use Rattle.closest.proofs.Starts.{same-run}
 use Rattle.judging.specs.Lone.{aloneOf, closestRows, loneRows}
 
 -- ---- what is kept
 module _ {A B : Type 0} where
-  keep-map : (p : B → Bool) (g : A → B) (xs : List A) → keep p (map g xs) ≡ map g (keep (λ x. p (g x)) xs)
-  keep-map p g [] = refl
-  keep-map p g (x ∷ xs) = go (p (g x)) refl (keep-map p g xs)
-    where
-      go : (b : Bool) → p (g x) ≡ b → keep p (map g xs) ≡ map g (keep (λ x. p (g x)) xs)
-          → keep p (g x ∷ map g xs) ≡ map g (keep (λ x. p (g x)) (x ∷ xs))
-      go true e ih = rw (e, keep) (ap {B = List B} (λ l. g x ∷ l) ih)
-      go false e ih = rw (e, keep) ih
-
   empty-map : (g : A → B) (xs : List A) → isEmpty (map g xs) ≡ isEmpty xs
   empty-map g [] = refl
   empty-map g (x ∷ xs) = refl
@@ -45,14 +35,6 @@ module _ {A : Type 0} where
       go true true e d ih = rw (e, d, keep) (ap {B = List A} (λ l. x ∷ l) ih)
       go true false e d ih = rw (e, d, keep) ih
       go false c e d ih = rw (e, keep) ih
-
-  keep-same : (p q : A → Bool) (xs : List A) → ((x : A) → Has x xs → p x ≡ q x) → keep p xs ≡ keep q xs
-  keep-same p q [] h = refl
-  keep-same p q (x ∷ xs) h = go (q x) refl (h x (inl refl)) (keep-same p q xs (λ y i. h y (inr i)))
-    where
-      go : (b : Bool) → q x ≡ b → p x ≡ q x → keep p xs ≡ keep q xs → keep p (x ∷ xs) ≡ keep q (x ∷ xs)
-      go true e d ih = rw (d ∙ e, e, keep) (ap {B = List A} (λ l. x ∷ l) ih)
-      go false e d ih = rw (d ∙ e, e, keep) ih
 
 -- a test that is only asked where the former holds
 and-same : (a b : Bool) {c d : Bool} → a ≡ b → (b ≡ true → c ≡ d) → (a && c) ≡ (b && d)
@@ -69,20 +51,12 @@ module _ (f : Format) (rows : ℕ) (t levels types : List ℕ) (lv : Levelled f 
   abbrev ty : Typed f rows t types
   ty = lv .typed
 
-  nodes-on : (n i : ℕ) → i + n ≡ rows → drop i ns ≡ map at (count i n)
-  nodes-on zero i e = drop-of-length-le ns {i = i} (omega (arith, length-nodes f t, ty .rows-n))
-  nodes-on (suc n) i e =
-      nodes-from f t i (omega (arith, ty .rows-n)) ∙ ap {B = List Node} (λ l. at i ∷ l) (nodes-on n (suc i) (omega arith))
-
-  nodes-are : ns ≡ map at (count 0 rows)
-  nodes-are = nodes-on rows 0 (omega arith)
-
   -- the rows of a type that pass a test
   of-type : (p : Node → Bool) (k : ℕ) (q : ℕ → Bool) → ((i : ℕ) → i < rows → getD types i 0 ≡ k → p (at i) ≡ q i)
       → keep p (ofKind ns k) ≡ map at (keep (λ i. eqb (getD types i 0) k && q i) (count 0 rows))
   unfolding ofKind
   of-type p k q same =
-      keep-keep p (λ (r : Node). eqb (r .kind) k) ns ∙ ap (keep (λ (r : Node). eqb (r .kind) k && p r)) nodes-are
+      keep-keep p (λ (r : Node). eqb (r .kind) k) ns ∙ ap (keep (λ (r : Node). eqb (r .kind) k && p r)) (nodes-are f rows t types ty)
       ∙ keep-map (λ (r : Node). eqb (r .kind) k && p r) at (count 0 rows)
       ∙ ap (map at) (keep-same (λ i. eqb (at i .kind) k && p (at i)) (λ i. eqb (getD types i 0) k && q i) (count 0 rows) each)
     where
