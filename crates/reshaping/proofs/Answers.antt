@@ -9,7 +9,8 @@ use Rattle.paper.specs.Tables.{rows}
 use Rattle.paper.specs.Closeness.{Node, nodes}
 use Rattle.paper.specs.Shapes.{Shape}
 use Rattle.paper.specs.NewTable.{Line, lines, newTable, sourceList, entryUnit}
-use Rattle.paper.specs.Calls.{Answer, Work, given, _>>=_, refuse, reply, after, test8, roomIn, reshaping, Reshaping, reshape, Figures, figures, noFigures, summarise}
+use Rattle.paper.specs.Figures.{Figures, figures, noFigures}
+use Rattle.paper.specs.Calls.{Answer, Work, given, _>>=_, refuse, reply, after, test8, roomIn, reshaping, Reshaping, reshape, summarise}
 use Rattle.shapes.specs.Tests.{shapeIn}
 use Rattle.shapes.specs.Work.{Prepared}
 use Rattle.shapes.specs.Work
@@ -28,7 +29,7 @@ module _ {t s : List ℕ} {w : Work.Work} (p : Prepared t s w) where
   work = record { rows = rows base t; nodes = ns; shape = sh }
 
   abbrev counted : Work → Answer Figures
-  counted x = test8 base x mostLines >>= (λ l. given (figures x l))
+  counted x = test8 base x mostLines >>= (λ l. given (figures (x .nodes) (x .shape) l))
 
   module _ (table sources : List ℕ) where
     -- what a reshape leaves, once it is known what it gives
@@ -86,11 +87,15 @@ module _ {t s : List ℕ} {w : Work.Work} (p : Prepared t s w) where
     unfolding summarise test8 base
     summary-full lt =
         ap (λ a. reply noFigures (a >>= counted)) (p .ready z .given-is)
-        ∙ ap (λ b. reply noFigures (refuse 8 b >>= (λ _. given ls) >>= (λ l. given (figures work l)))) (lt-ltb mostLines (length ls) lt)
+        ∙ ap (λ b. reply noFigures (refuse 8 b >>= (λ _. given ls) >>= (λ l. given (figures ns sh l)))) (lt-ltb mostLines (length ls) lt)
 
     pub summary-given : length (lines (nodes (rows base t)) (shapeIn base t s) 6) ≤ mostLines
-        → summarise base t s ≡ record { number = 0; place = 0; rest = figures (record { rows = rows base t; nodes = nodes (rows base t); shape = shapeIn base t s }) (lines (nodes (rows base t)) (shapeIn base t s) 6) }
+        → summarise base t s ≡ record {
+          number = 0;
+          place = 0;
+          rest = figures (nodes (rows base t)) (shapeIn base t s) (lines (nodes (rows base t)) (shapeIn base t s) 6);
+        }
     unfolding summarise test8 base
     summary-given le =
         ap (λ a. reply noFigures (a >>= counted)) (p .ready z .given-is)
-        ∙ ap (λ b. reply noFigures (refuse 8 b >>= (λ _. given ls) >>= (λ l. given (figures work l)))) (le-ltb mostLines (length ls) le)
+        ∙ ap (λ b. reply noFigures (refuse 8 b >>= (λ _. given ls) >>= (λ l. given (figures ns sh l)))) (le-ltb mostLines (length ls) le)

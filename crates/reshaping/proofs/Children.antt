@@ -2,19 +2,19 @@
 use Prim.Native.Nat.{ℕ, zero, suc, _+_, _-_, _≤_, _<_}
 use native.Mathlib.Omega.{arith}
 use mathlib.Core.Path.{_≡_, refl, sym, _∙_, ap, ap₂}
-use mathlib.Core.Logic.{inl, inr}
 use mathlib.Core.Bool.{Bool, true, false, true≢false}
 use mathlib.Core.List.{List, [], _∷_, _++_}
 use lib.Dec.{eqb}
 use lib.ListN.{length, getD, take, length-append}
 use lib.Seq.{take-at}
 use borrow.Author.Tests.{eqb-true, eq-eqb}
-use Rattle.paper.specs.Lists.{Has, keep, count, same, up, lastOr}
+use Rattle.paper.specs.Lists.{keep, count, same, up, lastOr}
 use Rattle.paper.specs.Format.{base}
-use Rattle.paper.specs.Tables.{rows, types}
+use Rattle.paper.specs.Tables.{rows}
 use Rattle.paper.specs.Closeness.{nodes}
 use Rattle.paper.specs.Shapes.{Shape, entries, way, parent, children}
 use Rattle.paper.proofs.Lists.{same-eq, eq-same, up-snoc, count-has}
+use Rattle.paper.proofs.Kept.{keep-same}
 use Rattle.paper.proofs.Papers.{same-test}
 use Rattle.paper.proofs.Verdict.{last-way, child-parent, child-pos}
 use Rattle.shapes.specs.Tests.{shapeIn}
@@ -24,11 +24,6 @@ use Rattle.shapes.proofs.Given.{ways-are, over}
 use Rattle.lines.specs.Lines.{childrenOf}
 
 -- ---- numbers kept
-keep-same : (p q : ℕ → Bool) (xs : List ℕ) → ((x : ℕ) → Has x xs → p x ≡ q x) → keep p xs ≡ keep q xs
-keep-same p q [] h = refl
-keep-same p q (x ∷ xs) h =
-    ap₂ (λ (b : Bool) (l : List ℕ). elim b as (λ _. List ℕ) [ true ↦ x ∷ l | false ↦ l ]) (h x (inl refl)) (keep-same p q xs (λ y k. h y (inr k)))
-
 keep-skip : (p : ℕ → Bool) (k i n : ℕ) → ((x : ℕ) → i ≤ x → x < i + k → p x ≡ false) → keep p (count i (k + n)) ≡ keep p (count (i + k) n)
 keep-skip p zero i n h = let e : i ≡ i + 0 = omega arith in let q : 0 + n ≡ n = omega arith in ap₂ (λ j m. keep p (count j m)) e q
 keep-skip p (suc k) i n h =

@@ -1,25 +1,37 @@
--- Arrays of 16 that hold figures and zeros past them. Assumes nothing.
-use Prim.Native.Nat.{ℕ, zero, suc, _+_, _-_, _≤_, _<_}
+-- Arrays of 16 that hold figures and zeros past them, and sums over the rows of a type. Assumes nothing.
+use Prim.Native.Nat.{ℕ, zero, suc, _+_, _≤_, _<_}
 use native.Mathlib.Omega.{arith}
-use mathlib.Core.Path.{_≡_, refl, sym, _∙_, ap}
-use mathlib.Core.Logic.{⊎-elim}
+use mathlib.Core.Path.{_≡_, refl, sym, _∙_, ap, ap₂}
+use mathlib.Core.Bool.{true, false}
 use mathlib.Core.List.{List}
 use lib.Dec.{eqb}
-use lib.ListN.{length, getD, take, set, replicate}
+use lib.ListN.{getD, set, replicate}
 use lib.Seq.{getD-set-other}
-use Rattle.paper.specs.Lists.{keep}
-use Rattle.types.proofs.Step.{below}
+use borrow.Author.Tests.{eq-eqb, ne-eqb}
 use Rattle.closest.proofs.Filled.{Filled, filled-none, filled-more}
+use Rattle.lines.proofs.Sums.{sum-more}
+use Rattle.reshaping.specs.Figures.{sumOfType, Holds}
 
--- how many rows have the type of entry e; `types` are the rows' and `wanted` the entries'
-abbrev pub rowsOf : List ℕ → ℕ → List ℕ → ℕ → ℕ
-rowsOf types rows wanted e = length (keep (λ x. eqb x (getD wanted e 0)) (take rows types))
+-- ---- one more row
+module _ (types : List ℕ) (k i x : ℕ) (number : ℕ → ℕ) (so-far : x ≡ sumOfType types i k number) where
+  -- what row i adds
+  abbrev adds : ℕ
+  adds = elim (eqb (getD types i 0) k) [ true ↦ number i | false ↦ 0 ]
 
-abbrev pub less : List ℕ → List ℕ → ℕ → ℕ
-less lines rows e = getD lines e 0 - getD rows e 0
+  sum-with : (y : ℕ) → y ≡ adds → x + y ≡ sumOfType types (i + 1) k number
+  sum-with y e = ap₂ (λ a b. a + b) so-far e ∙ sym (sum-more (λ j. elim (eqb (getD types j 0) k) [ true ↦ number j | false ↦ 0 ]) i)
 
+  pub sum-row : (y : ℕ) → getD types i 0 ≡ k → y ≡ number i → x + y ≡ sumOfType types (i + 1) k number
+  sum-row y own e = sum-with y (e ∙ sym (ap (λ b. elim b [ true ↦ number i | false ↦ 0 ]) (eq-eqb (getD types i 0) k own)))
+
+  pub sum-other : (getD types i 0 ≡ k → ⊥) → x ≡ sumOfType types (i + 1) k number
+  sum-other ne =
+      let none : 0 ≡ adds = sym (ap (λ b. elim b [ true ↦ number i | false ↦ 0 ]) (ne-eqb (getD types i 0) k ne)) in
+      omega (arith, sum-with 0 none)
+
+-- ---- arrays
 -- the first i places hold what g says, and those past them hold zeros
-pub record Figured (g : ℕ → ℕ) (i : ℕ) (xs : List ℕ) : Type 0 where
+pub record Filling (g : ℕ → ℕ) (i : ℕ) (xs : List ℕ) : Type 0 where
   pub filled : Filled g 0 16 i xs
   pub rest : (e : ℕ) → i ≤ e → getD xs e 0 ≡ 0
 
@@ -28,23 +40,15 @@ zeros zero e = refl
 zeros (suc n) zero = refl
 zeros (suc n) (suc e) = zeros n e
 
-module _ (g : ℕ → ℕ) where
-  pub figured-none : Figured g 0 (replicate 16 0)
-  figured-none = record { filled = filled-none g 0 16 (replicate 16 0) refl; rest = λ e le. zeros 16 e }
+module _ {g : ℕ → ℕ} where
+  pub filling-none : Filling g 0 (replicate 16 0)
+  filling-none = record { filled = filled-none g 0 16 (replicate 16 0) refl; rest = λ e le. zeros 16 e }
 
-  module _ (i : ℕ) (xs : List ℕ) (f : Figured g i xs) where
-    pub figured-more : (x : ℕ) → i < 16 → x ≡ g i → Figured g (i + 1) (set xs i x)
-    figured-more x lt q = record {
-      filled = filled-more g 0 16 i xs x lt (f .filled) q;
-      rest = λ e le. getD-set-other xs i e x 0 (λ z. omega arith) ∙ f .rest e (omega arith);
-    }
+  pub filling-more : {i : ℕ} {xs : List ℕ} → Filling g i xs → {x : ℕ} → i < 16 → x ≡ g i → Filling g (i + 1) (set xs i x)
+  filling-more {i} {xs} f {x} lt q = record {
+    filled = filled-more g 0 16 i xs x lt (f .filled) q;
+    rest = λ e le. getD-set-other xs i e x 0 (λ z. omega arith) ∙ f .rest e (omega arith);
+  }
 
-    -- a figure of 0 is there already
-    pub figured-same : g i ≡ 0 → Figured g (i + 1) xs
-    figured-same q = record {
-      filled = record {
-        long = f .filled .long;
-        at = λ e lt. ⊎-elim (λ c. f .filled .at e c) (λ z. f .rest e (omega arith) ∙ sym (ap g z ∙ q)) (below e i lt);
-      };
-      rest = λ e le. f .rest e (omega arith);
-    }
+  pub filling-end : {i m : ℕ} {xs : List ℕ} → Filling g i xs → i ≡ m → Holds g m xs
+  filling-end f is = record { long = f .filled .long; each = λ e lt. f .filled .at e (omega arith); rest = λ e le. f .rest e (omega arith) }

@@ -19,11 +19,10 @@ use Rattle.paper.proofs.Verdict.{listed-child}
 use Rattle.shapes.specs.Tests.{shapeIn}
 use Rattle.shapes.specs.Shape.{mostLevels, levelOf, labelOf, typeOf, parentOf}
 use Rattle.shapes.specs.Work.{Work, Ready}
-use Rattle.shapes.specs.declared.shape.Shape as Drawn
 use Rattle.shapes.proofs.Given.{ways-are}
 use Rattle.lines.specs.Put.{lineOf, lineBytes}
-use Rattle.lines.specs.Lines.{Item, Numbered, childrenOf, under, roots, treeOf, entriesOf, linesOf, allEntries, bytesOf, sourcesOf}
-use Rattle.lines.proofs.Trees.{forest-good, all-good, map-forest}
+use Rattle.lines.specs.Lines.{Numbered, childrenOf, under, roots, linesOf, bytesOf, sourcesOf}
+use Rattle.lines.proofs.Trees.{forest-good, all-good}
 use Rattle.reshaping.proofs.Children.{children-are}
 
 -- ---- lists
@@ -45,19 +44,6 @@ zeros-cut (suc m) n k (x ∷ d) a b = ap {B = List ℕ} (λ l. x ∷ l) (zeros-c
 
 padded-cut : (m n : ℕ) (d : List ℕ) → m ≤ n → take m (padded n d) ≡ padded m d
 padded-cut m n d le = take-take m n (d ++ replicate n 0) le ∙ zeros-cut m n m d le (omega arith)
-
--- the entries of the lines, whatever their numbers
-entries-of : (t : List Node) (s : Drawn.Shape) (left : ℕ) (x : ℕ × Node) (d : List ℕ)
-    → map (λ (l : Numbered). l .0 .0) (treeOf t s left x d) ≡ entriesOf t s left x
-entries-of t s zero x d = refl
-entries-of t s (suc left) x d =
-    ap {B = List ℕ} (λ l. x .0 ∷ l)
-    (map-forest (λ (l : Numbered). l .0 .0) (treeOf t s left) (entriesOf t s left) d 1 (joined (under t s x)) (entries-of t s left))
-
-pub all-entries : (t : List Node) (s : Drawn.Shape) (left : ℕ)
-    → map (λ (l : Numbered). l .0 .0) (linesOf t s left) ≡ allEntries t s left
-all-entries t s left =
-    map-forest (λ (l : Numbered). l .0 .0) (treeOf t s left) (entriesOf t s left) [] 1 (roots t s) (entries-of t s left)
 
 module _ {t sb : List ℕ} {w : Work} (y : Ready t sb w) where
   abbrev ns : List Node
@@ -111,7 +97,7 @@ module _ {t sb : List ℕ} {w : Work} (y : Ready t sb w) where
   sources-are = sym (map-map (λ (l : Line). l .entry * entryUnit + l .source .place) toLine found) ∙ ap sourceList lines-are
 
   -- each line is of an entry of the shape
-  pub entry-small : (x : Numbered) → Has x (linesOf (nodes (rows base t)) (w .shape) 5) → x .0 .0 < w .shape .entries
+  entry-small : (x : Numbered) → Has x (linesOf (nodes (rows base t)) (w .shape) 5) → x .0 .0 < w .shape .entries
   entry-small = all-good Good (under ns (w .shape)) (beneath ns sh) under-is stay 5 [] 1 (roots ns (w .shape)) good-roots
 
   -- the record of a line

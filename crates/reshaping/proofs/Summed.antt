@@ -1,69 +1,69 @@
 -- From a prepared table and shape to what the walks ask for, and to the figures of a summary. Assumes nothing.
-use Prim.Native.Nat.{ℕ, suc, _+_, _-_, _≤_, _<_}
+use Prim.Native.Nat.{ℕ, _-_, _≤_, _<_, min}
 use native.Mathlib.Omega.{arith}
-use mathlib.Core.Path.{_≡_, refl, sym, _∙_, ap, ap₂, subst}
-use mathlib.Core.Logic.{inl, inr}
-use mathlib.Core.Bool.{Bool, true, false}
-use mathlib.Core.List.{List, [], _∷_, map, map-map}
+use mathlib.Core.Path.{_≡_, refl, sym, _∙_, ap, ap₂}
+use mathlib.Core.Bool.{Bool, true, false, _||_}
+use mathlib.Core.List.{List, [], _∷_, map}
 use lib.Dec.{eqb, leb}
 use lib.ListN.{length, getD, length-map}
-use borrow.Author.Tests.{ne-eqb, leb-true, leb-false}
-use Rattle.paper.specs.Lists.{Has, keep, count, padded}
+use borrow.Author.Tests.{eqb-false, leb-true, leb-false}
+use Rattle.paper.specs.Lists.{keep, any, count, padded}
 use Rattle.paper.specs.Format.{base, mostLines}
 use Rattle.paper.specs.Tables.{rows}
-use Rattle.paper.specs.Closeness.{Node, nodes, ofKind, kindsMeet}
+use Rattle.paper.specs.Closeness.{Node, nodes, ofKind}
 use Rattle.paper.specs.Shapes.{Shape, kind, numbers}
 use Rattle.paper.specs.NewTable.{Line, lines}
-use Rattle.paper.specs.Calls.{Figures, figures}
-use Rattle.paper.proofs.Lists.{map-has}
-use Rattle.closest.proofs.Counts.{kinds-count}
+use Rattle.paper.specs.Figures.{entryLines, appears, differentRows, Figures, figures}
+use Rattle.paper.specs.Calls.{Reply}
+use Rattle.paper.proofs.Kept.{keep-map, any-map}
+use Rattle.paper.proofs.Figures.{different-few}
+use Rattle.closest.specs.Node.{node}
+use Rattle.closest.proofs.Meets.{kind-at}
 use Rattle.shapes.specs.Tests.{shapeIn}
 use Rattle.shapes.specs.Shape.{typeOf}
 use Rattle.shapes.specs.Work.{Work, Ready}
-use Rattle.lines.specs.Lines.{Numbered, linesOf, allEntries}
-use Rattle.lines.specs.Count.{ofEntry, Counted}
+use Rattle.shapes.specs.declared.shape.Shape as Drawn
+use Rattle.lines.specs.Lines.{Numbered, linesOf}
+use Rattle.lines.specs.Count.{shown, ofEntry, Counted}
 use Rattle.lines.specs.Counting.{Shallow, CountedOf}
-use Rattle.reshaping.specs.Figures.{RowsOf, Less}
 use Rattle.lines.specs.declared.count.Tally.{Tally}
-use Rattle.reshaping.proofs.Paper.{lines-are, all-entries, entry-small}
+use Rattle.lines.proofs.SumOver.{only}
+use Rattle.lines.proofs.Sums.{sum-same}
+use Rattle.lines.proofs.Items.{rows-kept}
+use Rattle.lines.proofs.Counted.{of-none}
+use Rattle.reshaping.specs.Figures.{heldBy, differentIn, Figured}
+use Rattle.reshaping.specs.Reshaped.{summarised}
+use Rattle.reshaping.specs.declared.summarise.Summary.{Summary}
+use Rattle.reshaping.proofs.Paper.{lines-are}
 use Rattle.reshaping.proofs.Padded.{padded-by}
 
 -- ---- lists
--- what is kept of a list, read through a function
-keep-map : {A : Type 0} (p : ℕ → Bool) (f : A → ℕ) (xs : List A) → length (keep (λ x. p (f x)) xs) ≡ length (keep p (map f xs))
-keep-map p f [] = refl
-keep-map {A = A} p f (x ∷ xs) = go (p (f x)) (keep-map p f xs)
+-- whether one passes the test, as 1 or 0
+any-one : {A : Type 0} (p : A → Bool) (xs : List A) → min (length (keep p xs)) 1 ≡ only (any p xs) 1
+any-one p [] = refl
+any-one {A = A} p (x ∷ xs) = go (p x) (any-one p xs)
   where
-    go : (b : Bool) → length (keep (λ x. p (f x)) xs) ≡ length (keep p (map f xs))
-        → length {A = A} (elim b as (λ _. List A) [ true ↦ x ∷ keep (λ x. p (f x)) xs | false ↦ keep (λ x. p (f x)) xs ])
-        ≡ length {A = ℕ} (elim b as (λ _. List ℕ) [ true ↦ f x ∷ keep p (map f xs) | false ↦ keep p (map f xs) ])
-    go true h = ap suc h
+    go : (b : Bool) → min (length (keep p xs)) 1 ≡ only (any p xs) 1
+        → min (length {A = A} (elim b as (λ _. List A) [ true ↦ x ∷ keep p xs | false ↦ keep p xs ])) 1 ≡ only (b || any p xs) 1
+    go true h = omega arith
     go false h = h
 
--- a number that is above all is none of them
-above-none : (e n : ℕ) (xs : List ℕ) → n ≤ e → ((x : ℕ) → Has x xs → x < n) → ofEntry e xs ≡ 0
-above-none e n [] le h = refl
-above-none e n (x ∷ xs) le h =
-    let rest = keep (λ c. eqb c e) xs in
-    ap (λ b. length {A = ℕ} (elim b as (λ _. List ℕ) [ true ↦ x ∷ rest | false ↦ rest ])) (ne-eqb x e (λ q. omega (arith, h x (inl refl))))
-    ∙ above-none e n xs le (λ y q. h y (inr q))
-
 -- ---- a count
-module _ (es : List ℕ) (b : Tally) (c : Counted es b) where
+module _ {n : ℕ} {types : List ℕ} {s : Drawn.Shape} {ls : List Numbered} {shows : List ℕ} {b : Tally} (c : Counted n types s ls shows b) where
   -- The count exceeds a room exactly where the lines do.
-  pub count-fits : (room : ℕ) → room ≤ mostLines → b .total ≤ room → length es ≤ room
-  count-fits room le few = go (leb (length es) mostLines) refl
+  pub count-fits : (room : ℕ) → room ≤ mostLines → b .total ≤ room → length ls ≤ room
+  count-fits room le few = go (leb (length ls) mostLines) refl
     where
-      go : (d : Bool) → leb (length es) mostLines ≡ d → length es ≤ room
-      go true q = omega (arith, c .total-is (leb-true (length es) mostLines q))
-      go false q = let z : ⊥ = omega (arith, c .over (leb-false (length es) mostLines q)) in absurd z
+      go : (d : Bool) → leb (length ls) mostLines ≡ d → length ls ≤ room
+      go true q = omega (arith, c .total-is (leb-true (length ls) mostLines q))
+      go false q = let z : ⊥ = omega (arith, c .over (leb-false (length ls) mostLines q)) in absurd z
 
-  pub count-exceeds : (room : ℕ) → room ≤ mostLines → room < b .total → room < length es
-  count-exceeds room le many = go (leb (length es) mostLines) refl
+  pub count-exceeds : (room : ℕ) → room ≤ mostLines → room < b .total → room < length ls
+  count-exceeds room le many = go (leb (length ls) mostLines) refl
     where
-      go : (d : Bool) → leb (length es) mostLines ≡ d → room < length es
-      go true q = omega (arith, c .total-is (leb-true (length es) mostLines q))
-      go false q = omega (arith, leb-false (length es) mostLines q)
+      go : (d : Bool) → leb (length ls) mostLines ≡ d → room < length ls
+      go true q = omega (arith, c .total-is (leb-true (length ls) mostLines q))
+      go false q = omega (arith, leb-false (length ls) mostLines q)
 
 module _ {t sb : List ℕ} {w : Work} (y : Ready t sb w) where
   abbrev ns : List Node
@@ -78,83 +78,118 @@ module _ {t sb : List ℕ} {w : Work} (y : Ready t sb w) where
   unfolding base
   shallow e lt = omega (arith, y .shallow e lt)
 
-  pub counted-here : {b : Tally} → CountedOf (w .rows) (w .levels) (w .types) (w .shape) b → Counted (allEntries (nodes (rows base t)) (w .shape) 5) b
+  pub counted-here : {shows : List ℕ} {b : Tally} → CountedOf (w .rows) (w .levels) (w .types) (w .shape) shows b
+      → Counted (w .rows) (w .types) (w .shape) (linesOf (nodes (rows base t)) (w .shape) 5) shows b
   counted-here c = c base t 5 (y .levelled) (y .shaped) shallow
 
   -- ---- the figures
   abbrev ls : List Line
   ls = lines ns sh 6
 
-  abbrev found : List ℕ
-  found = allEntries ns (w .shape) 5
+  abbrev found : List Numbered
+  found = linesOf ns (w .shape) 5
 
-  found-is : map (λ (l : Line). l .entry) ls ≡ found
-  found-is =
-      ap (map (λ (l : Line). l .entry)) (sym (lines-are y))
-      ∙ map-map (λ (l : Line). l .entry) (λ (x : Numbered). record { entry = x .0 .0; source = x .0 .1; dewey = x .1 }) (linesOf ns (w .shape) 5)
-      ∙ all-entries ns (w .shape) 5
+  abbrev toLine : Numbered → Line
+  toLine x = record { entry = x .0 .0; source = x .0 .1; dewey = x .1 }
 
-  pub found-length : length (allEntries (nodes (rows base t)) (w .shape) 5) ≡ length (lines (nodes (rows base t)) (shapeIn base t sb) 6)
-  found-length = sym (ap length found-is) ∙ length-map ls (λ (l : Line). l .entry)
+  -- the lines of an entry
+  entry-lines : (e : ℕ) → entryLines ls e ≡ map toLine (ofEntry e found)
+  unfolding entryLines
+  entry-lines e = ap (keep (λ (l : Line). eqb (l .entry) e)) (sym (lines-are y)) ∙ keep-map (λ (l : Line). eqb (l .entry) e) toLine found
 
-  found-small : (c : ℕ) → Has c found → c < w .shape .entries
-  found-small c h =
-      let (x, hx, e) = map-has (λ (l : Numbered). l .0 .0) c (linesOf ns (w .shape) 5)
-      (subst (λ l. Has c l) (sym (all-entries ns (w .shape) 5)) h) in
-      omega (arith, e, entry-small y x hx)
+  shown-of : (e : ℕ) → length (ofEntry e found) ≡ length (entryLines ls e)
+  shown-of e = sym (ap length (entry-lines e) ∙ length-map (ofEntry e found) toLine)
 
-  shown : (e : ℕ) → ofEntry e found ≡ length (keep (λ (l : Line). eqb (l .entry) e) ls)
-  shown e = ap (ofEntry e) (sym found-is) ∙ sym (keep-map (λ c. eqb c e) (λ (l : Line). l .entry) ls)
+  -- a row's place is that of a line of the entry
+  appears-at : (e i : ℕ) → appears (entryLines ls e) (node base t i) ≡ any (λ (x : Numbered). eqb (x .0 .1 .place) i) (ofEntry e found)
+  unfolding appears
+  appears-at e i =
+      ap (any (λ (l : Line). eqb (l .source .place) i)) (entry-lines e) ∙ any-map (λ (l : Line). eqb (l .source .place) i) toLine (ofEntry e found)
 
-  abbrev shownOf : ℕ → ℕ
-  shownOf e = length (keep (λ (l : Line). eqb (l .entry) e) ls)
+  module _ (e : ℕ) (lt : e < w .shape .entries) where
+    kind-is : (i : ℕ) → i < w .rows → eqb (getD (w .types) i 0) (typeOf (w .shape) e) ≡ eqb (node base t i .kind) (kind sh e)
+    kind-is i li = ap₂ eqb (kind-at base (w .rows) t (w .types) (y .levelled .typed) i li) (y .holds .type-is e lt)
 
-  abbrev heldOf : ℕ → ℕ
-  heldOf e = length (ofKind ns (kind sh e))
+    held-is : heldBy (w .types) (w .rows) (typeOf (w .shape) e) ≡ length (ofKind ns (kind sh e))
+    unfolding ofKind
+    held-is =
+        sum-same _ _ (w .rows) (λ i li. ap (λ b. only b 1) (kind-is i li))
+        ∙ sym (rows-kept base (w .rows) t (w .types) (y .levelled .typed) (λ (r : Node). eqb (r .kind) (kind sh e)))
 
-  abbrev placesOf : (ℕ → ℕ) → List ℕ
-  placesOf g = padded 16 (map g (numbers sh))
+    -- a row of another type is not shown
+    different-is : {shows : List ℕ} {b : Tally} → Counted (w .rows) (w .types) (w .shape) found shows b → length found ≤ mostLines
+        → differentIn (w .types) (w .rows) (typeOf (w .shape) e) shows e ≡ length (differentRows ns (entryLines ls e))
+    unfolding differentRows
+    different-is {shows} c few =
+        sum-same _ _ (w .rows) each ∙ sym (rows-kept base (w .rows) t (w .types) (y .levelled .typed) (appears (entryLines ls e)))
+      where
+        k : ℕ
+        k = typeOf (w .shape) e
 
-  pub summed : (b : Tally) (rs cs : List ℕ) → length (b .lines) ≡ 16 → length rs ≡ 16 → length cs ≡ 16
-      → length (allEntries (nodes (rows base t)) (w .shape) 5) ≤ mostLines
-      → Counted (allEntries (nodes (rows base t)) (w .shape) 5) b
-      → RowsOf (w .types) (w .rows) (w .shape .types) (w .shape .entries) rs → Less (b .lines) rs cs
-      → record { lines = b .lines; rows = rs; copies = cs }
-      ≡ figures
-      (record { rows = rows base t; nodes = nodes (rows base t); shape = shapeIn base t sb })
-      (lines (nodes (rows base t)) (shapeIn base t sb) 6)
-  unfolding figures base
-  summed b rs cs lb lr lc fits counted held-rows less =
-      ap₂ {C = Figures} (λ x y. record { lines = x; rows = y; copies = cs }) lines-is rows-is
-      ∙ ap {B = Figures} (λ c. record { lines = placesOf shownOf; rows = placesOf heldOf; copies = c }) copies-is
-    where
-      at : (e : ℕ) → e < 16 → getD (b .lines) e 0 ≡ ofEntry e found
-      at e lt = counted .lines-are fits e lt
+        own : (i : ℕ) → i < w .rows → (d : Bool) → eqb (getD (w .types) i 0) k ≡ d → only d (min (shown shows e i) 1) ≡ min (shown shows e i) 1
+        own i li true q = refl
+        own i li false q = ap (λ n. min n 1) (sym (c .typed few e i lt li (eqb-false (getD (w .types) i 0) k q)))
 
-      past : (e : ℕ) → w .shape .entries ≤ e → ofEntry e found ≡ 0
-      past e le = above-none e (w .shape .entries) found le found-small
+        each : (i : ℕ) → i < w .rows → only (eqb (getD (w .types) i 0) k) (min (shown shows e i) 1) ≡ only (appears (entryLines ls e) (node base t i)) 1
+        each i li =
+            own i li (eqb (getD (w .types) i 0) k) refl ∙ ap (λ n. min n 1) (c .shows-are few e i lt li)
+            ∙ any-one (λ (x : Numbered). eqb (x .0 .1 .place) i) (ofEntry e found) ∙ sym (ap (λ d. only d 1) (appears-at e i))
 
-      few : w .shape .entries ≤ 16
-      few = y .shaped .sized .few
+  module _ {shows : List ℕ} {b : Tally} (c : Counted (w .rows) (w .types) (w .shape) (linesOf (nodes (rows base t)) (w .shape) 5) shows b)
+      (fits : length (linesOf (nodes (rows base t)) (w .shape) 5) ≤ mostLines) where
+    few : w .shape .entries ≤ 16
+    few = y .shaped .sized .few
 
-      row-count : (e : ℕ) → e < w .shape .entries → getD rs e 0 ≡ length (ofKind ns (kind sh e))
-      row-count e lt =
-          held-rows .held e lt ∙ kinds-count base (w .rows) t (w .types) (y .levelled .typed) (typeOf (w .shape) e)
-          ∙ ap (λ k. length (ofKind ns k)) (y .holds .type-is e lt)
+    line-count : (e : ℕ) → e < 16 → getD (b .lines) e 0 ≡ length (entryLines ls e)
+    line-count e lt = c .lines-are fits e lt ∙ shown-of e
 
-      over : (g : ℕ → ℕ) → padded 16 (map g (count 0 (w .shape .entries))) ≡ placesOf g
-      over g = ap (λ n. padded 16 (map g (count 0 n))) (y .holds .counted)
+    -- different rows are never more than lines
+    pub different-fits : (e : ℕ) → e < w .shape .entries → differentIn (w .types) (w .rows) (typeOf (w .shape) e) shows e ≤ getD (b .lines) e 0
+    different-fits e lt = omega (arith, different-is e lt c fits, line-count e (omega (arith, few)), different-few (rows base t) (entryLines ls e))
 
-      lines-is : b .lines ≡ placesOf shownOf
-      lines-is =
-          padded-by (b .lines) shownOf (w .shape .entries) lb few (λ e lt. at e (omega (arith, few)) ∙ shown e) (λ e le lt. at e lt ∙ past e le)
-          ∙ over shownOf
+    -- the answer is the paper's
+    pub summed : (x : Summary) → length (b .lines) ≡ 16
+        → Figured (w .types) (w .rows) (w .shape .types) (w .shape .entries) shows (b .lines) x → summarised x ≡ record {
+          number = 0;
+          place = 0;
+          rest = figures (nodes (rows base t)) (shapeIn base t sb) (lines (nodes (rows base t)) (shapeIn base t sb) 6);
+        }
+    unfolding figures base
+    summed x long q =
+        ap₂ {C = Reply Figures} (λ n p. record { number = n; place = p; rest = summarised x .rest }) (q .accepted .0) (q .accepted .1)
+        ∙ ap {B = Reply Figures} (λ f. record { number = 0; place = 0; rest = f })
+        (ap₂ {C = Figures} (λ l r. record { lines = l; rows = r; copies = x .copies; different = x .different }) (q .lines-are ∙ lines-is) rows-is
+        ∙ ap₂ {C = Figures} (λ c d. record { lines = placesOf shownOf; rows = placesOf heldOf; copies = c; different = d }) copies-is all-is)
+      where
+        shownOf : ℕ → ℕ
+        shownOf e = length (entryLines ls e)
 
-      rows-is : rs ≡ placesOf heldOf
-      rows-is = padded-by rs heldOf (w .shape .entries) lr few row-count (λ e le lt. held-rows .rest e le) ∙ over heldOf
+        heldOf : ℕ → ℕ
+        heldOf e = length (ofKind ns (kind sh e))
 
-      copies-is : cs ≡ placesOf (λ e. shownOf e - heldOf e)
-      copies-is =
-          padded-by cs (λ e. shownOf e - heldOf e) (w .shape .entries) lc few
-          (λ e lt. less e (omega (arith, few)) ∙ ap₂ (λ a c. a - c) (at e (omega (arith, few)) ∙ shown e) (row-count e lt))
-          (λ e le lt. less e lt ∙ ap₂ (λ a c. a - c) (at e lt ∙ past e le) (held-rows .rest e le)) ∙ over (λ e. shownOf e - heldOf e)
+        differentOf : ℕ → ℕ
+        differentOf e = length (differentRows ns (entryLines ls e))
+
+        placesOf : (ℕ → ℕ) → List ℕ
+        placesOf g = padded 16 (map g (numbers sh))
+
+        filled : (xs : List ℕ) (g : ℕ → ℕ) → length xs ≡ 16 → ((e : ℕ) → e < w .shape .entries → getD xs e 0 ≡ g e)
+            → ((e : ℕ) → w .shape .entries ≤ e → e < 16 → getD xs e 0 ≡ 0) → xs ≡ placesOf g
+        filled xs g long each rest =
+            padded-by xs g (w .shape .entries) long few each rest ∙ ap (λ n. padded 16 (map g (count 0 n))) (y .holds .counted)
+
+        lines-is : b .lines ≡ placesOf shownOf
+        lines-is = filled (b .lines) shownOf long (λ e lt. line-count e (omega (arith, few)))
+            (λ e le lt. c .lines-are fits e lt ∙ of-none ns (w .shape) (y .shaped .sized) 5 e le)
+
+        rows-is : x .rows ≡ placesOf heldOf
+        rows-is = filled (x .rows) heldOf (q .rows-are .long) (λ e lt. q .rows-are .each e lt ∙ held-is e lt) (λ e le _. q .rows-are .rest e le)
+
+        copies-is : x .copies ≡ placesOf (λ e. shownOf e - differentOf e)
+        copies-is = filled (x .copies) (λ e. shownOf e - differentOf e) (q .copies-are .long)
+            (λ e lt. q .copies-are .each e lt ∙ ap₂ (λ a d. a - d) (line-count e (omega (arith, few))) (different-is e lt c fits))
+            (λ e le _. q .copies-are .rest e le)
+
+        all-is : x .different ≡ placesOf differentOf
+        all-is = filled (x .different) differentOf (q .different-are .long) (λ e lt. q .different-are .each e lt ∙ different-is e lt c fits)
+            (λ e le _. q .different-are .rest e le)

@@ -1,6 +1,6 @@
 -- Any two answers that a contract allows are equal. Assumes nothing.
 use Prim.Native.Nat.{ℕ, _*_, _≤_}
-use mathlib.Core.Path.{_≡_, sym, _∙_, ap}
+use mathlib.Core.Path.{_≡_, sym, _∙_, ap, subst}
 use mathlib.Core.Bool.{true}
 use mathlib.Core.List.{List}
 use lib.ListN.{take}
@@ -9,7 +9,10 @@ use Rattle.paper.specs.Verdict.{kept, missing}
 use Rattle.paper.specs.Links.{LinksKept}
 use Rattle.paper.specs.MadeUp.{NothingMadeUp, unshown}
 use Rattle.paper.specs.Sound.{SoundSource}
-use Rattle.paper.specs.Calls.{Reply, Figures, judge, summarise}
+use Rattle.paper.specs.Figures.{Figures}
+use Rattle.paper.specs.Shown.{FiguresAgree}
+use Rattle.paper.specs.Calls.{Reply, judge, summarise}
+use Rattle.paper.proofs.Figures.{summary-agrees, summary-shows-all}
 use Rattle.reshaping.specs.Reshaped.{summarised, Reshapes}
 use Rattle.reshaping.specs.declared.reshape.Reshaped.{Reshaped}
 use Rattle.reshaping.specs.declared.summarise.Summary.{Summary}
@@ -41,6 +44,24 @@ module _ {t s new sources new₁ sources₁ : List ℕ} {a : Reshaped} (p : Resh
   pub sound-promised : a .number ≡ 0 → a .lines ≤ mostRows → SoundSource base s (take (a .lines * rowBytes base) new₁) (a .lines)
   sound-promised = p .sound
 
+-- ---- summarising
 pub summarise-unique : (t s : List ℕ) (a b : Summary) → summarised a ≡ summarise base t s → summarised b ≡ summarise base t s → a ≡ b
 summarise-unique t s a b ea eb =
-    ap {B = Summary} (λ (r : Reply Figures). record { number = r .number; place = r .place; lines = r .rest .lines; rows = r .rest .rows; copies = r .rest .copies }) (ea ∙ sym eb)
+    let from : Reply Figures → Summary = λ r. record {
+      number = r .number;
+      place = r .place;
+      lines = r .rest .lines;
+      rows = r .rest .rows;
+      copies = r .rest .copies;
+      different = r .rest .different;
+    } in
+    ap from (ea ∙ sym eb)
+
+module _ (t s : List ℕ) (a : Summary) (q : summarised a ≡ summarise base t s) where
+  -- An entry's different rows are no more than its lines, nor than the rows of its type, and its other lines are copies.
+  pub figures-agree : (e : ℕ) → FiguresAgree (summarised a .rest) e
+  figures-agree e = subst (λ (r : Reply Figures). FiguresAgree (r .rest) e) (sym q) (summary-agrees base t s e)
+
+  -- Where the verdict is 0, every row of an entry's type is shown.
+  pub all-shown : judge base t s .rest .verdict ≡ kept → a .different ≡ a .rows
+  all-shown ok = subst (λ (r : Reply Figures). r .rest .different ≡ r .rest .rows) (sym q) (summary-shows-all base t s ok)

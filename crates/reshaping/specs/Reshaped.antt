@@ -9,7 +9,8 @@ use Rattle.paper.specs.Verdict.{kept, missing}
 use Rattle.paper.specs.Links.{LinksKept}
 use Rattle.paper.specs.MadeUp.{NothingMadeUp, unshown}
 use Rattle.paper.specs.Sound.{SoundSource}
-use Rattle.paper.specs.Calls.{Reply, Figures, reshape, judge}
+use Rattle.paper.specs.Figures.{Figures}
+use Rattle.paper.specs.Calls.{Reply, reshape, judge}
 use Rattle.reshaping.specs.declared.reshape.Reshaped.{Reshaped}
 use Rattle.reshaping.specs.declared.summarise.Summary.{Summary}
 
@@ -19,7 +20,7 @@ reshaped r = record { number = r .number; place = r .place; rest = r .lines }
 
 -- number, place, and the figures of 16 entries
 abbrev pub summarised : Summary → Reply Figures
-summarised r = record { number = r .number; place = r .place; rest = record { lines = r .lines; rows = r .rows; copies = r .copies } }
+summarised r = record { number = r .number; place = r .place; rest = record { lines = r .lines; rows = r .rows; copies = r .copies; different = r .different } }
 
 -- The whole promise of a reshape of the table t to the shape s: r is the answer, and new′ and sources′ are what the lent bytes and places
 -- hold afterwards.

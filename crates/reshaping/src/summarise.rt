@@ -1,15 +1,15 @@
 // Summarising a reshape: what each entry would show, with nothing written.
-use crate::figures::copies_of;
-use crate::figures::entry_rows;
+use crate::figures::figures_of;
 use lines::count::count_lines;
 use shapes::work::prepare;
 ghost use mathlib.Core.Path.{_≡_};
 ghost use Rattle.paper.specs.Format.{base};
-ghost use Rattle.paper.specs.Calls.{summarise, noFigures};
+ghost use Rattle.paper.specs.Figures.{noFigures};
+ghost use Rattle.paper.specs.Calls.{summarise};
 ghost use Rattle.reshaping.specs.Reshaped.{summarised};
 
-// For each of 16 entries its lines, the source rows of its type, and copies: lines less source rows, or 0 where lines are fewer. Unused
-// entries hold zeros, and so does a refusal.
+// For each of 16 entries its lines, the source rows of its type, copies, and the different source rows that appear in its lines. Copies are
+// lines less different rows. Unused entries hold zeros, and so does a refusal.
 #[repr(C)]
 pub struct Summary {
     pub number: usize,
@@ -17,6 +17,7 @@ pub struct Summary {
     pub lines: [usize; 16],
     pub rows: [usize; 16],
     pub copies: [usize; 16],
+    pub different: [usize; 16],
 }
 
 fn refused(number: usize, place: usize) -> Summary
@@ -28,6 +29,7 @@ fn refused(number: usize, place: usize) -> Summary
         lines: [0; 16],
         rows: [0; 16],
         copies: [0; 16],
+        different: [0; 16],
     }
 }
 
@@ -64,13 +66,5 @@ pub fn summarise(table: &[u8], shape: &[u8]) -> Summary
     let lines = tally.lines;
     let entry_types = wanted.types;
     let entries = wanted.entries;
-    let held = entry_rows(&types, rows, entry_types, entries);
-    let copies = copies_of(lines, held);
-    Summary {
-        number: 0,
-        place: 0,
-        lines: lines,
-        rows: held,
-        copies: copies,
-    }
+    figures_of(&types, rows, entry_types, entries, &shows, lines)
 }

@@ -11,6 +11,7 @@ use Rattle.paper.specs.Verdict.{kept, missing}
 use Rattle.paper.specs.Calls.{Reply, adorn, judge}
 use Rattle.paper.specs.Links.{LinksKept}
 use Rattle.paper.specs.MadeUp.{NothingMadeUp, unshown}
+use Rattle.paper.specs.Shown.{FiguresAgree}
 use Rattle.paper.specs.Sound.{SoundSource}
 use Rattle.adorned.specs.Told.{told}
 use Rattle.adorned.specs.Lent.{adornedTypes}
@@ -20,7 +21,9 @@ use Rattle.adorned.proofs.Unique.{told-same}
 use Rattle.tables.proofs.Unique as tables
 use Rattle.judging.proofs.Unique as judging
 use Rattle.reshaping.proofs.Unique as reshaping
+use Rattle.reshaping.specs.Reshaped.{summarised}
 use Rattle.reshaping.specs.declared.reshape.Reshaped.{Reshaped}
+use Rattle.reshaping.specs.declared.summarise.Summary.{Summary}
 use Rattle.silmezga.proofs.Settles.{part, Asks-nothing, Settles, Walk-asks-nothing, Walk-settles, nothing, two-clauses}
 use Rattle.silmezga.proofs.examine.Reads as examine
 use Rattle.silmezga.proofs.look_up.Reads as look-up
@@ -94,6 +97,15 @@ summarise-asks κs a = tt
 
 pub summarise-settled : Settles summarise.Learnt (λ κs r e. r)
 summarise-settled κs a r s e f = reshaping.summarise-unique (now (a .0)) (now (a .1 .0)) r s
+
+-- the figures of each entry agree: its different rows are no more than its lines, nor than the rows of its type, and its other lines are copies
+pub summarise-agrees : (κs : _) (a : _) (r : Summary) (e : _) → summarise.Learnt κs a r e → (n : ℕ) → FiguresAgree (summarised r .rest) n
+summarise-agrees κs a r e x = reshaping.figures-agree (now (a .0)) (now (a .1 .0)) r x
+
+-- where the verdict on the same table and shape is 0, every row of an entry's type is shown
+pub summarise-shows-all : (κs : _) (a : _) (r : Summary) (e : _) → summarise.Learnt κs a r e
+    → judge base (now (a .0)) (now (a .1 .0)) .rest .verdict ≡ kept → r .different ≡ r .rows
+summarise-shows-all κs a r e x = reshaping.all-shown (now (a .0)) (now (a .1 .0)) r x
 
 -- ---- adorning: the answer, and every lent summary after it
 pub adorn-unique : (t : List ℕ) (before after₁ after₂ : List TypeSummary) (a b : AdornedTypes)

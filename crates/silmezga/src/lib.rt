@@ -77,7 +77,8 @@ pub fn reshape(table: &[u8], shape: &[u8], new: &mut [u8], sources: &mut [u32]) 
     reshaping::reshape::reshape(table, shape, new, sources)
 }
 
-// Summarises a reshape: refusals 1 to 8, with room for 4,096 lines, or for each of 16 entries its lines, source rows and copies.
+// Summarises a reshape: refusals 1 to 8, with room for 4,096 lines, or for each of 16 entries its lines, source rows, copies and different
+// source rows.
 pub fn summarise(table: &[u8], shape: &[u8]) -> Summary
     ensures { λ r. ⌜ summarised r ≡ summarise base (now (table .entry)) (now (shape .entry)) ⌝ }
 {

@@ -11,12 +11,15 @@ use Rattle.paper.specs.Verdict.{kept, missing}
 use Rattle.paper.specs.Calls.{Reply, judge}
 use Rattle.paper.specs.Links.{LinksKept}
 use Rattle.paper.specs.MadeUp.{NothingMadeUp, unshown}
+use Rattle.paper.specs.Shown.{FiguresAgree}
 use Rattle.paper.specs.Sound.{SoundSource}
 use Rattle.adorned.specs.declared.TypeSummary.{TypeSummary}
 use Rattle.adorned.specs.declared.lent.AdornedTypes.{AdornedTypes}
 use Rattle.tables.proofs.Unique as tables
 use Rattle.reshaping.proofs.Unique as reshaping
+use Rattle.reshaping.specs.Reshaped.{summarised}
 use Rattle.reshaping.specs.declared.reshape.Reshaped.{Reshaped}
+use Rattle.reshaping.specs.declared.summarise.Summary.{Summary}
 use Rattle.silmezga.proofs.Settles.{Asks-nothing, Settles, Walk-asks-nothing, Walk-settles, nothing, two-clauses}
 use Rattle.silmezga.proofs.Unique.{adorn-unique}
 use Rattle.silmezga_c.specs.Told.{LooksUp, inFour, fourNumbers}
@@ -117,3 +120,12 @@ summarise-asks κs a = tt
 
 pub summarise-settled : Settles summarise.Learnt (λ κs r e. r)
 summarise-settled κs a r s e f = reshaping.summarise-unique (now (a .0)) (now (a .1 .0)) r s
+
+-- the figures of each entry agree: its different rows are no more than its lines, nor than the rows of its type, and its other lines are copies
+pub summarise-agrees : (κs : _) (a : _) (r : Summary) (e : _) → summarise.Learnt κs a r e → (n : ℕ) → FiguresAgree (summarised r .rest) n
+summarise-agrees κs a r e x = reshaping.figures-agree (now (a .0)) (now (a .1 .0)) r x
+
+-- where the verdict on the same table and shape is 0, every row of an entry's type is shown
+pub summarise-shows-all : (κs : _) (a : _) (r : Summary) (e : _) → summarise.Learnt κs a r e
+    → judge base (now (a .0)) (now (a .1 .0)) .rest .verdict ≡ kept → r .different ≡ r .rows
+summarise-shows-all κs a r e x = reshaping.all-shown (now (a .0)) (now (a .1 .0)) r x

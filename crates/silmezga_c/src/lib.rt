@@ -154,7 +154,7 @@ pub extern "C" fn silmezga_reshape(
     silmezga::reshape(table, shape, new, sources)
 }
 
-// Refusals 1 to 8, with room for 4,096 lines, or for each of 16 entries its lines, source rows and copies.
+// Refusals 1 to 8, with room for 4,096 lines, or for each of 16 entries its lines, source rows, copies and different source rows.
 #[no_mangle]
 pub extern "C" fn silmezga_summarise(table: &[u8], shape: &[u8]) -> Summary
     ensures { λ r. ⌜ summarised r ≡ summarise base (now (table .entry)) (now (shape .entry)) ⌝ }

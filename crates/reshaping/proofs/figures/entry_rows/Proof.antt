@@ -1,62 +1,113 @@
--- `reshaping::figures::entry_rows` meets its contract. Assumes nothing.
-use Prim.Native.Nat.{_≤_, _-_}
+-- `reshaping::figures::entry_rows` meets its contract: of the rows passed those of the type are counted. Assumes nothing.
+use Prim.Native.Nat.{_-_, _≤_, zero-le, min}
 use native.Mathlib.Omega.{arith}
-use mathlib.Core.Path.{_≡_, _∙_, ap}
-use lib.Dec.{eqb}
-use lib.ListN.{length, take}
+use mathlib.Core.Path.{_≡_, refl, _∙_, ap}
 use borrow.Author.Needs.{needs}
-use Rattle.paper.specs.Lists.{keep}
-use Rattle.reshaping.proofs.Figured.{Figured, rowsOf, figured-none, figured-more}
+use Rattle.lines.specs.Count.{shown}
+use Rattle.reshaping.specs.Figures.{heldBy, differentIn}
+use Rattle.reshaping.proofs.Figured.{sum-row, sum-other}
 use Rattle.reshaping.proofs.figures.entry_rows.Statement.{statement}
 use Rattle.reshaping.proofs.figures.entry_rows.Tie as tie
 
 abbrev Inv-loop : tie.InvT-loop
-Inv-loop types rows entries wanted held₀ e₀ held e = (e ≤ entries) × Figured (rowsOf types rows wanted) e held
+Inv-loop types rows k shows e entry-at held₀ different₀ i₀ held different i =
+    (i ≤ rows) × (held ≤ i) × (different ≤ i) × (held ≡ heldBy types i k) × (different ≡ differentIn types i k shows e)
 
 abbrev μ-loop : tie.MeasureT-loop
-μ-loop types rows entries wanted held₀ e₀ held e = entries - e
+μ-loop types rows k shows e entry-at held₀ different₀ i₀ held different i = rows - i
+
+-- where the function begins
+abbrev begun : tie.At-loop Inv-loop μ-loop → tie.Start Inv-loop μ-loop
+begun c = c .before .before .before
+
+-- the turn in which a row of the type is counted
+abbrev turn : tie.After-smaller Inv-loop μ-loop → tie.In-loop Inv-loop μ-loop
+turn c = c .before .before .before .before .before
+
+mul-entry-at : tie.Need-mul-entry-at Inv-loop μ-loop
+mul-entry-at c = search needs
 
 loop-holds : tie.Need-loop-holds Inv-loop μ-loop
-loop-holds c = let a = c .before .args in (omega arith, figured-none (rowsOf (a .types .now) (a .rows) (a .t3)))
+loop-holds c = (zero-le, zero-le, zero-le, refl, refl)
 
-array-read-wide : tie.Need-array-read-wide Inv-loop μ-loop
-array-read-wide c = search needs
+shared-slice-read-if1 : tie.Need-shared-slice-read-if1 Inv-loop μ-loop
+shared-slice-read-if1 c = search needs
 
-wide-requires : tie.Need-wide-requires Inv-loop μ-loop
-wide-requires c κs = search needs
+add-held : tie.Need-add-held Inv-loop μ-loop
+add-held c = search needs
 
-count-rows-requires : tie.Need-count-rows-requires Inv-loop μ-loop
-count-rows-requires c κs = search needs
+add-wide16 : tie.Need-add-wide16 Inv-loop μ-loop
+add-wide16 c = search needs
 
-mul-held : tie.Need-mul-held Inv-loop μ-loop
-mul-held c = search needs
+mul-wide16 : tie.Need-mul-wide16 Inv-loop μ-loop
+mul-wide16 c = search needs
 
-array-write-held : tie.Need-array-write-held Inv-loop μ-loop
-array-write-held c = search needs
+shared-slice-read-wide16 : tie.Need-shared-slice-read-wide16 Inv-loop μ-loop
+shared-slice-read-wide16 c = search needs
 
-add-e : tie.Need-add-e Inv-loop μ-loop
-add-e c = search needs
+wide16-requires : tie.Need-wide16-requires Inv-loop μ-loop
+wide16-requires c κs = search needs
+
+smaller-requires : tie.Need-smaller-requires Inv-loop μ-loop
+smaller-requires c κs = search needs
+
+-- a row counts once at the most
+once : (c : tie.After-smaller Inv-loop μ-loop) →
+    let l = turn c .before in
+    let a = begun l .args in
+    (c .smaller .result ≡ min (shown (a .shows .now) (a .e) (l .loop .i)) 1) × (c .smaller .result ≤ 1)
+once c = (c .smaller .ensures ∙ ap (λ n. min n 1) (c .before .wide16 .ensures .0), omega (arith, c .smaller .ensures))
+
+add-different : tie.Need-add-different Inv-loop μ-loop
+add-different c = omega (arith, once c .1, turn c .before .loop .inv .2, turn c .loop-test .taken)
+
+add-i : tie.Need-add-i Inv-loop μ-loop
+add-i c = search needs
 
 loop-less : tie.Need-loop-less Inv-loop μ-loop
 loop-less c = search needs
 
 loop-again : tie.Need-loop-again Inv-loop μ-loop
 loop-again c =
-    let w = c .before in
-    let i = w .before in
-    let l = i .before in
-    let s = l .before .before in
-    let a = s .args in
-    let g = rowsOf (a .types .now) (a .rows) (a .t3) in
-    let q : c .count-rows .result ≡ g (l .loop .e) =
-    c .count-rows .ensures .0 ∙ ap (λ k. length (keep (λ x. eqb x k) (take (a .rows) (a .types .now)))) (w .wide .ensures .0) in
-    (omega arith, figured-more g (l .loop .e) (l .loop .held) (l .loop .inv .1) (c .count-rows .result) (omega (arith, s .pre .1, i .loop-test .taken)) q)
+    let l = turn c .before in
+    let a = begun l .args in
+    let v = l .loop in
+    let own = c .before .before .before .if1 .taken in
+    let (_, few, fewer, held, different) = v .inv in (
+      omega arith,
+      omega arith,
+      omega (arith, once c .1),
+      sum-row (a .types .now) (a .k) (v .i) (v .held) (λ _. 1) held 1 own refl,
+      sum-row (a .types .now) (a .k) (v .i) (v .different) _ different (c .smaller .result) own (once c .0),
+    )
+
+add-i-2 : tie.Need-add-i-2 Inv-loop μ-loop
+add-i-2 c = search needs
+
+loop-less-2 : tie.Need-loop-less-2 Inv-loop μ-loop
+loop-less-2 c = search needs
+
+loop-again-2 : tie.Need-loop-again-2 Inv-loop μ-loop
+loop-again-2 c =
+    let l = c .before .before .before in
+    let a = begun l .args in
+    let v = l .loop in
+    let other = c .if1 .left in
+    let (_, few, fewer, held, different) = v .inv in (
+      omega arith,
+      omega arith,
+      omega arith,
+      sum-other (a .types .now) (a .k) (v .i) (v .held) (λ _. 1) held other,
+      sum-other (a .types .now) (a .k) (v .i) (v .different) _ different other,
+    )
 
 returns : tie.Need-returns Inv-loop μ-loop
 returns c =
-    let l = c .before .loop in
-    let f = l .inv .1 in
-    record { held = λ e lt. f .filled .at e (omega (arith, c .loop-test .left)); rest = λ e le. f .rest e (omega (arith, l .inv .0)) }
+    let l = c .before in
+    let a = begun l .args in
+    let (le, _, _, held, different) = l .loop .inv in
+    let all : l .loop .i ≡ a .rows = omega (arith, c .loop-test .left) in
+    (held ∙ ap (λ n. heldBy (a .types .now) n (a .k)) all, different ∙ ap (λ n. differentIn (a .types .now) n (a .k) (a .shows .now) (a .e)) all)
 
 pub entry-rows-spec : {M : Type 1} → statement M
 entry-rows-spec =
@@ -64,13 +115,20 @@ entry-rows-spec =
     (tie.spec
     Inv-loop
     μ-loop
+    mul-entry-at
     loop-holds
-    array-read-wide
-    wide-requires
-    count-rows-requires
-    mul-held
-    array-write-held
-    add-e
+    shared-slice-read-if1
+    add-held
+    add-wide16
+    mul-wide16
+    shared-slice-read-wide16
+    wide16-requires
+    smaller-requires
+    add-different
+    add-i
     loop-less
     loop-again
+    add-i-2
+    loop-less-2
+    loop-again-2
     returns)

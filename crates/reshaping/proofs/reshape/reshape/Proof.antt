@@ -10,7 +10,8 @@ use Rattle.paper.specs.NewTable.{lines}
 use Rattle.paper.specs.Calls.{Reshaping, roomIn}
 use Rattle.shapes.specs.Tests.{shapeIn}
 use Rattle.reshaping.proofs.Answers.{reshape-refused, reshape-full}
-use Rattle.reshaping.proofs.Summed.{counted-here, found-length, count-fits, count-exceeds}
+use Rattle.reshaping.proofs.Paper.{length-is}
+use Rattle.reshaping.proofs.Summed.{counted-here, count-fits, count-exceeds}
 use Rattle.reshaping.proofs.Lent.{reshapes, runs-named, asked-as, left-as, fits, lines-left, table-left, sources-left}
 use borrow.Author.Needs.{needs}
 use Rattle.reshaping.proofs.reshape.reshape.Statement.{statement}
@@ -38,8 +39,8 @@ room-enough d =
     let n = counts (d .before) in
     let p = passed (n .before) in
     let y = prepared p .prepare .ensures .ready (p .if1 .left) in
-    let few = count-fits _ (n .count-lines .result) (counted-here y (n .count-lines .ensures .1)) (r .result) (omega (arith, r .ensures)) (d .if2 .left) in
-    omega (arith, r .ensures, found-length y, few)
+    let few = count-fits (counted-here y (n .count-lines .ensures .1)) (r .result) (omega (arith, r .ensures)) (d .if2 .left) in
+    omega (arith, r .ensures, length-is y, few)
 
 slice-aggregate-prepare : tie.Need-slice-aggregate-prepare
 slice-aggregate-prepare c = search needs
@@ -104,10 +105,10 @@ returns-2 c =
     let p = passed (n .before) in
     let a = begun (prepared p) .args in
     let y = prepared p .prepare .ensures .ready (p .if1 .left) in
-    let over = count-exceeds _ (n .count-lines .result) (counted-here y (n .count-lines .ensures .1)) (t .before .room-in .result)
+    let over = count-exceeds (counted-here y (n .count-lines .ensures .1)) (t .before .room-in .result)
     (omega (arith, t .before .room-in .ensures)) (t .if2 .taken) in
     let e = reshape-full (prepared p .prepare .ensures) (a .new .now) (a .sources .now) (p .if1 .left)
-    (omega (arith, over, found-length y, t .before .room-in .ensures)) in
+    (omega (arith, over, length-is y, t .before .room-in .ensures)) in
     let er = c .refused2 .ensures ∙ sym (ap (λ (x : Reshaping). x .reply) e) in
     let en = sym (ap (λ (x : Reshaping). x .table) e) in
     let es = sym (ap (λ (x : Reshaping). x .sources) e) in

@@ -1,12 +1,16 @@
 -- `reshaping::summarise::summarise` meets its contract. Assumes nothing.
+use Prim.Native.Nat.{_≤_}
 use native.Mathlib.Omega.{arith}
-use mathlib.Core.Path.{_≡_, refl, sym, _∙_, ap}
+use mathlib.Core.Path.{_≡_, refl, sym, _∙_}
 use lib.ListN.{length}
-use Rattle.paper.specs.Format.{mostLines}
-use Rattle.paper.specs.Calls.{Figures, Reply}
+use Rattle.paper.specs.Format.{base, mostLines}
+use Rattle.paper.specs.Tables.{rows}
+use Rattle.paper.specs.Closeness.{nodes}
 use Rattle.shapes.specs.Work.{Work, Ready, workOf}
+use Rattle.lines.specs.Lines.{linesOf}
 use Rattle.reshaping.proofs.Answers.{summary-refused, summary-full, summary-given}
-use Rattle.reshaping.proofs.Summed.{counted-here, found-length, summed, count-fits, count-exceeds}
+use Rattle.reshaping.proofs.Paper.{length-is}
+use Rattle.reshaping.proofs.Summed.{counted-here, different-fits, summed, count-fits, count-exceeds}
 use borrow.Author.Needs.{needs}
 use Rattle.reshaping.proofs.summarise.summarise.Statement.{statement}
 use Rattle.reshaping.proofs.summarise.summarise.Tie as tie
@@ -28,15 +32,18 @@ work p = let left = p .prepare .last .1 .1 in workOf (p .prepare .result) (left 
 ready : (c : tie.After-shows) → let p = prepared (passed c) in Ready (begun p .args .table .now) (begun p .args .shape .now) (work p)
 ready c = prepared (passed c) .prepare .ensures .ready (passed c .if1 .left)
 
--- ---- the arrays of the figures
 lines-long : (n : tie.After-count-lines) → length (n .count-lines .result .lines) ≡ 16
 lines-long n = search needs
 
-rows-long : (r : tie.After-entry-rows) → length (r .entry-rows .result) ≡ 16
-rows-long r = search needs
+-- there is room for all lines, which are counted
+abbrev counts : tie.Else2 → tie.After-count-lines
+counts e = e .before .before .before
 
-copies-long : (c : tie.After-copies-of) → length (c .copies-of .result) ≡ 16
-copies-long c = search needs
+fits : (e : tie.Else2) → let p = prepared (passed (counts e .before)) in
+    length (linesOf (nodes (rows base (begun p .args .table .now))) (work p .shape) 5) ≤ mostLines
+fits e =
+    let n = counts e in
+    count-fits (counted-here (ready (n .before)) (n .count-lines .ensures .1)) mostLines (omega arith) (e .if2 .left)
 
 slice-aggregate-prepare : tie.Need-slice-aggregate-prepare
 slice-aggregate-prepare c = search needs
@@ -90,33 +97,32 @@ returns-2 c =
     let n = t .before .before .before in
     let p = passed (n .before) in
     let counted = counted-here (ready (n .before)) (n .count-lines .ensures .1) in
-    let over = count-exceeds _ (n .count-lines .result) counted mostLines (omega arith) (t .if2 .taken) in
-    c .refused2 .ensures ∙ sym (summary-full (prepared p .prepare .ensures) (p .if1 .left) (omega (arith, over, found-length (ready (n .before)))))
+    let over = count-exceeds counted mostLines (omega arith) (t .if2 .taken) in
+    c .refused2 .ensures ∙ sym (summary-full (prepared p .prepare .ensures) (p .if1 .left) (omega (arith, over, length-is (ready (n .before)))))
 
-slice-aggregate-entry-rows : tie.Need-slice-aggregate-entry-rows
-slice-aggregate-entry-rows c = search needs
+slice-aggregate-figures-of : tie.Need-slice-aggregate-figures-of
+slice-aggregate-figures-of c = search needs
 
-entry-rows-requires : tie.Need-entry-rows-requires
-entry-rows-requires c κs =
-    let y = ready (c .before .before .before .before .before .before .before) in
-    (y .rows-are .types-long, y .shaped .sized .few)
+slice-aggregate-figures-of-2 : tie.Need-slice-aggregate-figures-of-2
+slice-aggregate-figures-of-2 c = search needs
 
-copies-of-requires : tie.Need-copies-of-requires
-copies-of-requires c κs = search needs
+figures-of-requires : tie.Need-figures-of-requires
+figures-of-requires c κs =
+    let e = c .before .before .before .before in
+    let n = counts e in
+    let y = ready (n .before) in (
+      (y .rows-are .types-long, y .rows-are .few, y .shaped .sized .few, omega (arith, slice-aggregate-figures-of-2 c)),
+      different-fits y (counted-here y (n .count-lines .ensures .1)) (fits e),
+    )
 
 returns-3 : tie.Need-returns-3
 returns-3 c =
-    let r = c .before in
-    let e = r .before .before .before .before in
-    let n = e .before .before .before in
+    let e = c .before .before .before .before .before in
+    let n = counts e in
     let p = passed (n .before) in
     let y = ready (n .before) in
-    let counted = counted-here y (n .count-lines .ensures .1) in
-    let fits = count-fits _ (n .count-lines .result) counted mostLines (omega arith) (e .if2 .left) in
-    ap {B = Reply Figures} (λ f. record { number = 0; place = 0; rest = f })
-    (summed y (n .count-lines .result) (r .entry-rows .result) (c .copies-of .result) (lines-long n) (rows-long r) (copies-long c)
-    fits counted (r .entry-rows .ensures) (c .copies-of .ensures))
-    ∙ sym (summary-given (prepared p .prepare .ensures) (p .if1 .left) (omega (arith, fits, found-length y)))
+    summed y (counted-here y (n .count-lines .ensures .1)) (fits e) (c .figures-of .result) (lines-long n) (c .figures-of .ensures)
+    ∙ sym (summary-given (prepared p .prepare .ensures) (p .if1 .left) (omega (arith, fits e, length-is y)))
 
 pub summarise-spec : {M : Type 1} → statement M
 summarise-spec =
@@ -136,7 +142,7 @@ summarise-spec =
     count-lines-requires
     refused-requires-2
     returns-2
-    slice-aggregate-entry-rows
-    entry-rows-requires
-    copies-of-requires
+    slice-aggregate-figures-of
+    slice-aggregate-figures-of-2
+    figures-of-requires
     returns-3)
