@@ -88,20 +88,25 @@ fn judged_alike(t: &[u8], s: &[u8]) -> bool {
         && second_alike(none, c.none_apart)
 }
 
+fn two_alike(one: [usize; 16], one_c: [usize; 16], two: [usize; 16], two_c: [usize; 16]) -> bool {
+    same_figures(&one, &one_c) && same_figures(&two, &two_c)
+}
+
 fn summarised_alike(t: &[u8], s: &[u8]) -> bool {
     let r = silmezga::summarise(t, s);
     let c = silmezga_c::silmezga_summarise(t, s);
     let lines = r.lines;
     let rows = r.rows;
     let copies = r.copies;
+    let different = r.different;
     let lines_c = c.lines;
     let rows_c = c.rows;
     let copies_c = c.copies;
+    let different_c = c.different;
     r.number == c.number
         && r.place == c.place
-        && same_figures(&lines, &lines_c)
-        && same_figures(&rows, &rows_c)
-        && same_figures(&copies, &copies_c)
+        && two_alike(lines, lines_c, rows, rows_c)
+        && two_alike(copies, copies_c, different, different_c)
 }
 
 fn answers_alike(r: Reshaped, c: Reshaped) -> bool {

@@ -135,12 +135,13 @@ pub fn print_judged(t: &[u8], s: &[u8]) {
 }
 
 // An entry's figures, unless all of them are 0.
-fn print_entry(entry: usize, lines: usize, rows: usize, copies: usize) {
-    if lines != 0 || rows != 0 || copies != 0 {
+fn print_entry(entry: usize, lines: usize, rows: usize, copies: usize, different: usize) {
+    if lines != 0 || rows != 0 || copies != 0 || different != 0 {
         number(b"; ", entry);
         number(b" ", lines);
         number(b" ", rows);
         number(b" ", copies);
+        number(b" ", different);
     }
 }
 
@@ -149,11 +150,12 @@ pub fn print_summarised(t: &[u8], s: &[u8]) {
     let lines = r.lines;
     let rows = r.rows;
     let copies = r.copies;
+    let different = r.different;
     number(b": ", r.number);
     number(b" ", r.place);
     let mut e = 0;
     while e < 16 {
-        print_entry(e, lines[e], rows[e], copies[e]);
+        print_entry(e, lines[e], rows[e], copies[e], different[e]);
         e += 1;
     }
 }

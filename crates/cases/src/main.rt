@@ -20,7 +20,8 @@
 // - reshaping's number, place and lines; up to forty lines, each as twelve 16-bit numbers and its place of the source list, or,
 //   where there are more, the sum over every byte and every place of the lines; then each lent byte and each place past the last
 //   line that is not as it was before the call, with its index;
-// - summarising's number and place, and for each entry with a figure other than 0 its lines, source rows and copies;
+// - summarising's number and place, and for each entry with a figure other than 0 its lines, source rows, copies and different source
+//   rows;
 // - with a second shape, what reshaping to it the lines that the case's own reshape leaves gives, in the form of reshaping's part, with
 //   98,400 bytes and 4,100 places lent; or `none`, where the case's own reshape is refused or leaves more than 1,024 lines.
 // A sum is that of `print::folded`.

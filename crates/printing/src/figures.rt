@@ -24,7 +24,13 @@ fn print_entry(entry: &[u8], e: usize, f: Figures) -> bool
     print(&text[..n])
 }
 
-fn print_entries(shape: &[u8], lines: [usize; 16], rows: [usize; 16], copies: [usize; 16]) -> bool {
+fn print_entries(
+    shape: &[u8],
+    lines: [usize; 16],
+    rows: [usize; 16],
+    copies: [usize; 16],
+    different: [usize; 16],
+) -> bool {
     let entries = smaller(shape.len() / 16, 16);
     let mut e = 0;
     while e < entries {
@@ -32,6 +38,7 @@ fn print_entries(shape: &[u8], lines: [usize; 16], rows: [usize; 16], copies: [u
             lines: lines[e],
             rows: rows[e],
             copies: copies[e],
+            different: different[e],
         };
         if !print_entry(bytes::record(shape, 16, e), e, f) {
             return false;
@@ -52,5 +59,6 @@ pub fn print_summary(table: &[u8], shape: &[u8]) -> bool {
     let lines = s.lines;
     let rows = s.rows;
     let copies = s.copies;
-    print_entries(shape, lines, rows, copies)
+    let different = s.different;
+    print_entries(shape, lines, rows, copies, different)
 }

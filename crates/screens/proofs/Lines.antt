@@ -12,7 +12,7 @@ use Rattle.listing.specs.Text.{ascii}
 use Rattle.listing.specs.Listing.{lined}
 use Rattle.listing.specs.Put.{Put}
 use Rattle.listing.proofs.Putting.{as-long, put-then}
-use Rattle.screens.specs.Screens.{counted, countsText, rowsText, underText, typeText}
+use Rattle.screens.specs.Screens.{rowsText, underText, typeText}
 -- A wrong definition is refused first by the sample that it breaks, so the samples stand before the laws.
 use Rattle.screens.specs.Samples
 
@@ -21,21 +21,9 @@ pub fits : {l : List ℕ} {at : ℕ} {line l' : List ℕ} {r : ℕ} → Put l at
 fits {l' = l'} {r = r} p le = (p, counts r l' (omega (arith, as-long p)))
 
 -- ---- counts
--- the first two counts
-abbrev twoCounts : ℕ → ℕ → List ℕ
-twoCounts lines rows = counted lines (ascii "line") (ascii "lines") ++ ascii ", " ++ counted rows (ascii "row") (ascii "rows")
-
-module _ {l a b c : List ℕ} {at i j k : ℕ} (lines rows : ℕ) where
-  -- They are put, and what stands between them.
-  pub two-counts : Put l at (counted lines (ascii "line") (ascii "lines")) a i → Put a i (ascii ", ") b j
-      → Put b j (counted rows (ascii "row") (ascii "rows")) c k → Put l at (twoCounts lines rows) c k
-  two-counts p q r = put-then (put-then p q) r
-
-  -- The third is put after them.
-  pub three-counts : (copies : ℕ) → Put l at (twoCounts lines rows) a i → Put a i (ascii ", ") b j
-      → Put b j (counted copies (ascii "copy") (ascii "copies")) c k → Put l at (countsText lines rows copies) c k
-  unfolding countsText
-  three-counts copies p q r = put-then (put-then p q) r
+-- A text, a comma and a space, and another text, put one after the other.
+pub put-comma : {l x a b y c : List ℕ} {at i j k : ℕ} → Put l at x a i → Put a i (ascii ", ") b j → Put b j y c k → Put l at (x ++ ascii ", " ++ y) c k
+put-comma p q r = put-then (put-then p q) r
 
 -- ---- a type
 module _ (s : Summary) (above : ℕ) where

@@ -1,7 +1,7 @@
 -- Lines of the two screens, proved by computation. Assumes nothing.
 use Prim.Native.Nat.{ℕ, _-_, _^_}
 use mathlib.Core.Path.{_≡_, refl}
-use mathlib.Core.List.{List, [], _∷_, map}
+use mathlib.Core.List.{List, [], _∷_, _++_, map}
 use Rattle.listing.specs.Text.{ascii, digitsIn, decimal}
 use Rattle.listing.specs.Names.{names, nameOf, nameText}
 use Rattle.screens.specs.Screens.{counted, indent, vowel, article, withArticle, countsText, figuresText, rowsText, underText, typeText}
@@ -19,15 +19,18 @@ typeOf label level rows least greatest above =
 pub samples : List (List ℕ × List ℕ)
 samples =
     -- one of each, none of each, more of each
-    (figuresText 1 0 3 1 1 1, ascii "0 lease: 1 line, 1 row, 1 copy\n")
-    ∷ (figuresText 1 0 3 0 0 0, ascii "0 lease: 0 lines, 0 rows, 0 copies\n")
-    ∷ (figuresText 2 1 2 3 2 1, ascii "  1 lessee: 3 lines, 2 rows, 1 copy\n")
-    ∷ (figuresText 2 10 4 11 11 21, ascii "  10 asset: 11 lines, 11 rows, 21 copies\n")
+    (figuresText 1 0 3 1 1 1 1, ascii "0 lease: 1 line, 1 row, 1 copy, 1 different row\n")
+    ∷ (figuresText 1 0 3 0 0 0 0, ascii "0 lease: 0 lines, 0 rows, 0 copies, 0 different rows\n")
+    ∷ (figuresText 2 1 2 3 2 1 2, ascii "  1 lessee: 3 lines, 2 rows, 1 copy, 2 different rows\n")
+    ∷ (figuresText 2 10 4 11 11 21 31, ascii "  10 asset: 11 lines, 11 rows, 21 copies, 31 different rows\n")
+    -- P5: one of its three leases does not appear, and one appears twice
+    ∷ (figuresText 2 1 3 3 3 1 2, ascii "  1 lease: 3 lines, 3 rows, 1 copy, 2 different rows\n")
     -- level 6, a label with no name, the largest numbers
-    ∷ (figuresText 6 15 21 4096 1023 3073, ascii "          15 21: 4096 lines, 1023 rows, 3073 copies\n")
+    ∷ (figuresText 6 15 21 4096 1023 3073 1023, ascii "          15 21: 4096 lines, 1023 rows, 3073 copies, 1023 different rows\n")
     ∷ (
-      figuresText 6 largest largest largest largest largest,
-      ascii "          18446744073709551615 18446744073709551615: 18446744073709551615 lines, 18446744073709551615 rows, 18446744073709551615 copies\n",
+      figuresText 6 largest largest largest largest largest largest,
+      ascii "          18446744073709551615 18446744073709551615: 18446744073709551615 lines, 18446744073709551615 rows"
+          ++ ascii ", 18446744073709551615 copies, 18446744073709551615 different rows\n",
     )
     -- a root type, of one row and of more
     ∷ (typeOf 1 1 1 1 1 0, ascii "portfolio 1 row\n")

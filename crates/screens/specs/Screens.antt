@@ -32,19 +32,21 @@ unfoldable pub withArticle : List ℕ → List ℕ
 withArticle name = article name ++ (space ∷ name)
 
 -- ---- an entry's figures
--- `LINES lines, ROWS rows, COPIES copies`
-unfoldable pub countsText : ℕ → ℕ → ℕ → List ℕ
-countsText lines rows copies =
+-- `LINES lines, ROWS rows, COPIES copies, DIFFERENT different rows`
+unfoldable pub countsText : ℕ → ℕ → ℕ → ℕ → List ℕ
+countsText lines rows copies different =
     counted lines (ascii "line") (ascii "lines")
     ++ ascii ", "
     ++ counted rows (ascii "row") (ascii "rows")
     ++ ascii ", "
     ++ counted copies (ascii "copy") (ascii "copies")
+    ++ ascii ", "
+    ++ counted different (ascii "different row") (ascii "different rows")
 
 -- `ENTRY NAME: ` and the counts, indented by the entry's level
-unfoldable pub figuresText : ℕ → ℕ → ℕ → ℕ → ℕ → ℕ → List ℕ
-figuresText level entry label lines rows copies =
-    lined (indent level ++ decimal entry ++ (space ∷ nameText label) ++ ascii ": " ++ countsText lines rows copies)
+unfoldable pub figuresText : ℕ → ℕ → ℕ → ℕ → ℕ → ℕ → ℕ → List ℕ
+figuresText level entry label lines rows copies different =
+    lined (indent level ++ decimal entry ++ (space ∷ nameText label) ++ ascii ": " ++ countsText lines rows copies different)
 
 -- ---- a type
 -- `NAME ROWS rows`, indented by the type's level

@@ -11,23 +11,33 @@ ghost use Rattle.io.specs.Counts.{Counts};
 ghost use Rattle.listing.specs.Put.{Put};
 ghost use Rattle.screens.specs.Screens.{countsText, figuresText};
 
-// An entry's figures: its lines, the source rows of its type, and copies.
+// An entry's figures: its lines, the source rows of its type, copies, and the different source rows in its lines.
 pub struct Figures {
     pub lines: usize,
     pub rows: usize,
     pub copies: usize,
+    pub different: usize,
 }
 
 // The figures with their words.
 fn put_counts(out: &mut [u8], at: usize, f: Figures) -> usize
-    requires { ⌜ at + 85 ≤ length (now out) ⌝ }
-    ensures { λ r. ⌜ Put (now (out .entry)) at (countsText (f .lines) (f .rows) (f .copies)) (now (out .exit)) r × (r ≤ at + 85) ⌝ }
+    requires { ⌜ at + 122 ≤ length (now out) ⌝ }
+    ensures { λ r. ⌜ Put (now (out .entry)) at (countsText (f .lines) (f .rows) (f .copies) (f .different)) (now (out .exit)) r ⌝ }
+    ensures { λ r. ⌜ r ≤ at + 122 ⌝ }
 {
     let lines = put_counted(out, at, f.lines, b"line", b"lines");
     let comma = put_bytes(out, lines, b", ");
     let rows = put_counted(out, comma, f.rows, b"row", b"rows");
     let comma2 = put_bytes(out, rows, b", ");
-    put_counted(out, comma2, f.copies, b"copy", b"copies")
+    let copies = put_counted(out, comma2, f.copies, b"copy", b"copies");
+    let comma3 = put_bytes(out, copies, b", ");
+    put_counted(
+        out,
+        comma3,
+        f.different,
+        b"different row",
+        b"different rows",
+    )
 }
 
 // The line of an entry's figures, at the front of the buffer.
@@ -39,7 +49,7 @@ pub fn put_figures(
     f: Figures,
 ) -> usize
     requires { ⌜ level ≤ 6 ⌝ }
-    ensures { λ r. ⌜ Put (now (out .entry)) 0 (figuresText level entry label (f .lines) (f .rows) (f .copies)) (now (out .exit)) r ⌝ }
+    ensures { λ r. ⌜ Put (now (out .entry)) 0 (figuresText level entry label (f .lines) (f .rows) (f .copies) (f .different)) (now (out .exit)) r ⌝ }
     ensures { λ r. ⌜ Counts r (now (out .exit)) ⌝ }
 {
     let indent = put_indent(out, 0, level);

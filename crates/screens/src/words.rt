@@ -12,10 +12,11 @@ ghost use Rattle.listing.specs.Names.{nameText};
 ghost use Rattle.listing.specs.Put.{Put};
 ghost use Rattle.screens.specs.Screens.{counted, indent, vowel, article, withArticle};
 
-// A number and the word for what is counted: `one` for 1, `more` for any other.
+// A number and the word for what is counted: `one` for 1, `more`, which is no shorter, for any other.
 pub fn put_counted(out: &mut [u8], at: usize, n: usize, one: &[u8], more: &[u8]) -> usize
-    requires { ⌜ (at + 27 ≤ length (now out)) × (length (now one) ≤ 6) × (length (now more) ≤ 6) ⌝ }
-    ensures { λ r. ⌜ Put (now (out .entry)) at (counted n (now (one .entry)) (now (more .entry))) (now (out .exit)) r × (r ≤ at + 27) ⌝ }
+    requires { ⌜ (at + 21 + length (now more) ≤ length (now out)) × (length (now one) ≤ length (now more)) ⌝ }
+    ensures { λ r. ⌜ Put (now (out .entry)) at (counted n (now (one .entry)) (now (more .entry))) (now (out .exit)) r ⌝ }
+    ensures { λ r. ⌜ r ≤ at + 21 + length (now (more .entry)) ⌝ }
 {
     let number = put_number(out, at, n);
     let gap = put_byte(out, number, b' ');

@@ -7,10 +7,11 @@ use Rattle.cases.proofs.calls.print_summarised.Statement.{statement}
 use Rattle.cases.proofs.calls.print_summarised.Tie as tie
 
 abbrev Inv-loop : tie.InvT-loop
-Inv-loop t s lines rows copies e₀ e = (e ≤ 16) × (length lines ≡ 16) × (length rows ≡ 16) × (length copies ≡ 16)
+Inv-loop t s lines rows copies different e₀ e =
+    (e ≤ 16) × (length lines ≡ 16) × (length rows ≡ 16) × (length copies ≡ 16) × (length different ≡ 16)
 
 abbrev μ-loop : tie.MeasureT-loop
-μ-loop t s lines rows copies e₀ e = 16 - e
+μ-loop t s lines rows copies different e₀ e = 16 - e
 
 summarise-requires : tie.Need-summarise-requires Inv-loop μ-loop
 summarise-requires c κs = search needs
@@ -48,6 +49,12 @@ mul-print-entry-3 c = search needs
 array-read-print-entry-3 : tie.Need-array-read-print-entry-3 Inv-loop μ-loop
 array-read-print-entry-3 c = search needs
 
+mul-print-entry-4 : tie.Need-mul-print-entry-4 Inv-loop μ-loop
+mul-print-entry-4 c = search needs
+
+array-read-print-entry-4 : tie.Need-array-read-print-entry-4 Inv-loop μ-loop
+array-read-print-entry-4 c = search needs
+
 print-entry-requires : tie.Need-print-entry-requires Inv-loop μ-loop
 print-entry-requires c κs = search needs
 
@@ -81,6 +88,8 @@ print-summarised-spec =
     array-read-print-entry-2
     mul-print-entry-3
     array-read-print-entry-3
+    mul-print-entry-4
+    array-read-print-entry-4
     print-entry-requires
     add-e
     loop-less

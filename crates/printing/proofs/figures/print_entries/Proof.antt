@@ -6,10 +6,10 @@ use Rattle.printing.proofs.figures.print_entries.Statement.{statement}
 use Rattle.printing.proofs.figures.print_entries.Tie as tie
 
 abbrev Inv-loop : tie.InvT-loop
-Inv-loop shape lines rows copies entries e₀ e = (e ≤ entries) × (entries ≤ 16) × (16 * entries ≤ length shape)
+Inv-loop shape lines rows copies different entries e₀ e = (e ≤ entries) × (entries ≤ 16) × (16 * entries ≤ length shape)
 
 abbrev μ-loop : tie.MeasureT-loop
-μ-loop shape lines rows copies entries e₀ e = entries - e
+μ-loop shape lines rows copies different entries e₀ e = entries - e
 
 smaller-requires : tie.Need-smaller-requires Inv-loop μ-loop
 smaller-requires c κs = search needs
@@ -17,23 +17,29 @@ smaller-requires c κs = search needs
 loop-holds : tie.Need-loop-holds Inv-loop μ-loop
 loop-holds c = search needs
 
-mul-t14 : tie.Need-mul-t14 Inv-loop μ-loop
-mul-t14 c = search needs
+mul-t16 : tie.Need-mul-t16 Inv-loop μ-loop
+mul-t16 c = search needs
 
-array-read-t17 : tie.Need-array-read-t17 Inv-loop μ-loop
-array-read-t17 c = search needs
+array-read-t19 : tie.Need-array-read-t19 Inv-loop μ-loop
+array-read-t19 c = search needs
 
-mul-t18 : tie.Need-mul-t18 Inv-loop μ-loop
-mul-t18 c = search needs
+mul-t20 : tie.Need-mul-t20 Inv-loop μ-loop
+mul-t20 c = search needs
 
-array-read-t21 : tie.Need-array-read-t21 Inv-loop μ-loop
-array-read-t21 c = search needs
+array-read-t23 : tie.Need-array-read-t23 Inv-loop μ-loop
+array-read-t23 c = search needs
 
-mul-t22 : tie.Need-mul-t22 Inv-loop μ-loop
-mul-t22 c = search needs
+mul-t24 : tie.Need-mul-t24 Inv-loop μ-loop
+mul-t24 c = search needs
 
-array-read-t25 : tie.Need-array-read-t25 Inv-loop μ-loop
-array-read-t25 c = search needs
+array-read-t27 : tie.Need-array-read-t27 Inv-loop μ-loop
+array-read-t27 c = search needs
+
+mul-t28 : tie.Need-mul-t28 Inv-loop μ-loop
+mul-t28 c = search needs
+
+array-read-t31 : tie.Need-array-read-t31 Inv-loop μ-loop
+array-read-t31 c = search needs
 
 record-requires : tie.Need-record-requires Inv-loop μ-loop
 record-requires c κs = search needs
@@ -64,12 +70,14 @@ print-entries-spec =
     μ-loop
     smaller-requires
     loop-holds
-    mul-t14
-    array-read-t17
-    mul-t18
-    array-read-t21
-    mul-t22
-    array-read-t25
+    mul-t16
+    array-read-t19
+    mul-t20
+    array-read-t23
+    mul-t24
+    array-read-t27
+    mul-t28
+    array-read-t31
     record-requires
     print-entry-requires
     returns
