@@ -174,7 +174,7 @@ def judged(case):
 
 def summarised(case):
     number, place, entries = summary(case.table, case.shape)
-    return [(number, place)] + [(e, *three) for e, three in enumerate(zip(*entries)) if any(three)]
+    return [(number, place)] + [(e, *four) for e, four in enumerate(zip(*entries)) if any(four)]
 
 
 def told(case):

@@ -22,7 +22,8 @@ def most_lines():
     one less, and for one more, which no call uses."""
     up_and_down = "1[2[1[2[1[2]] 2]] 2%s]"
     beneath = f"1[{many(2, 15)}]"
-    full = bracketed(beneath, up_and_down % "", "1 15 15 225 225 3375 225 15")
+    figures = "1 15 15 225 225 3375 225 15, copies 0 0 14 210 224 3360 210 0, different 1 15 1 15 1 15 15 15"
+    full = bracketed(beneath, up_and_down % "", figures)
     over = bracketed(beneath, up_and_down % " 1", "refused 8 0")
     product = bracketed(f"1[{many(2, 64)}{many(3, 63)}]", "2[3]", "64 4032")
     past_product = bracketed(f"1[{many(2, 64)}{many(3, 63)}] 1[2]", "2[3]", "refused 8 0")
@@ -42,7 +43,7 @@ def most_rows():
     whole = bracketed(lessees, "3[2 4]", "438 438 438")
     yield lent(whole, -1, 23, 0)
     yield lent(whole, 0, 0, -1)
-    yield lent(bracketed(many(1, 1024), "1", "1024"))
+    yield lent(bracketed(many(1, 1024), "1", "1024, copies 0, different 1024"))
     yield lent(bracketed(f"1[{many(2, 1023)}]", "1[2]", "1 1023"), 0, 0, 0)
     yield lent(bracketed(f"1[{many(2, 1023)}]", "2[1]", "1023 1023"), 0, 23, 1)
     yield far_more(bracketed(many(1, 1025), "1", "refused 1 0"))
@@ -111,7 +112,7 @@ def deep_chains():
     yield from map(lent, each_shape("1[2[3[4[5[6]]]] 2[3[4[5]]] 2[3[4]]]", {
         CHAIN: "verdict 0, 1 3 3 3 2 1", "6[5[4[3[2[1]]]]]": f"verdict 1 1 9, {one}", "6[4]": "verdict 1 1 8",
         "2[3[4[5[1]]]]": "verdict 3 0 4, 3 3 3 2 2", "5[6[5]]": "2 1 1", "4[2[6]]": "3 3 1"}))
-    yield from map(lent, each_shape("1[2 2 2]", {"2[1[2[1[2[1]]]]]": "3 3 9 9 27 27", "1[2[1[2[1[2]]]]]": "1 3 3 9 9 27"}))
+    yield from map(lent, each_shape("1[2 2 2]", {"2[1[2[1[2[1]]]]]": "3 3 9 9 27 27, copies 0 2 6 8 24 26", "1[2[1[2[1[2]]]]]": "1 3 3 9 9 27"}))
 
 
 def most_entries():

@@ -1,8 +1,8 @@
 """What the lists of cases are written with: tables and shapes in brackets, answers by hand, and the room lent.
 
 An answer by hand is document 01's or worked out by hand: what judging says (`verdict 2 1 2`, `refused 7 0`), its second answer (`yes` or
-`no`) or the lines of each entry (`3 3 3`, or the summary's refusal), or some of these with commas between. The tools stop if paper01.py says
-something else.
+`no`), the lines of each entry (`3 3 3`, or the summary's refusal) or another figure of each (`rows 3 3 2`, `copies 0 1 2`, `different 3 2 1`),
+or some of these with commas between. The tools stop if paper01.py says something else.
 """
 import itertools, sys
 
@@ -30,12 +30,14 @@ def many(label, count):
 
 # ---- answers by hand
 def said(case):
-    """What judging says in the words of document 01's program, its second answer, and the lines of each entry."""
+    """What judging says in the words of document 01's program, its second answer, and the lines of each entry, or the summary's refusal.
+    Where it is not refused, the other figures too."""
     number, place, verdict, none_apart = judging(case.table, case.shape)
     judged = f"refused {number} {place}" if number else " ".join(map(str, ("verdict", *verdict)))
-    number, place, (lines, _, _) = summary(case.table, case.shape)
-    shown = f"refused {number} {place}" if number else " ".join(map(str, lines[:len(case.shape) // 16]))
-    return judged, "yes" if none_apart else "no", shown
+    number, place, figures = summary(case.table, case.shape)
+    lines, *others = (" ".join(map(str, x[:len(case.shape) // 16])) for x in figures)
+    shown = [f"refused {number} {place}"] if number else [lines, *map(" ".join, zip(("rows", "copies", "different"), others))]
+    return judged, "yes" if none_apart else "no", *shown
 
 
 def by_hand(case, hand):

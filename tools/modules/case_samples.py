@@ -35,7 +35,7 @@ def expect(what, hand, said):
 
 def leases():
     """P4, for which the listing is document 01's too."""
-    case = bracketed(A, "3[2 4]", "verdict 0, 3 3 3", VALUES)
+    case = bracketed(A, "3[2 4]", "verdict 0, 3 3 3, copies 0 1 0, different 3 2 3", VALUES)
     expect("P4", P4, folders.listing(case.table, case.shape))
     return case
 
@@ -69,10 +69,11 @@ def samples():
     # P2 with a summary for each type, with one too few, and with more than enough
     for summaries in (4, 3, 65):
         yield lent(bracketed(A, "3[2 4]", "verdict 0", VALUES))._replace(summaries=summaries)
-    marked = [leases(), *each_shape(A, {"4[3[2]]": "verdict 1 1 8, 3 3 3", "1[2 4]": "verdict 2 1 2, 1 2 3"}, VALUES),
+    lost = "verdict 1 1 8, 3 3 3, rows 3 3 2, copies 0 1 2, different 3 2 1"
+    marked = [leases(), *each_shape(A, {"4[3[2]]": lost, "1[2 4]": "verdict 2 1 2, 1 2 3"}, VALUES),
               bracketed("1[3[4] 3 5]", "3[4[5]]", "verdict 3 0 2, 2 1 1", VALUES),
               *each_shape(A, {"3[3]": "verdict 0, 3 3", "1[3 3]": "verdict 2 1 2, 1 3 3"}, VALUES),
-              bracketed("2 3", "2[3]", "verdict 1 1 1, 1 0", VALUES)]
+              bracketed("2 3", "2[3]", "verdict 1 1 1, 1 0, rows 1 1, copies 0 0, different 1 0", VALUES)]
     for case in marked:
         yield lent(case, 0, 0, 0)
         yield lent(case)

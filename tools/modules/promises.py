@@ -1,4 +1,5 @@
-"""What is promised of a new table, held to the second reading's own lines: demand 3 of the order, and request 12 of document 02."""
+"""What is promised of a new table and of a summary, held to the second reading's own lines: demand 3 of the order, and requests 3 and 12
+of document 02."""
 import sys
 
 import paper01
@@ -14,8 +15,22 @@ def is_made_up(work, lines):
     return next(work.made_up(lines), None) is not None
 
 
+def broken_figures(work, lines):
+    """The promises that an entry's figures do not keep, in words."""
+    verdict = work.verdict()
+    for e, (shown, rows, copies, different) in enumerate(zip(*work.figures(lines))):
+        if different > shown:
+            yield f"entry {e} has more different rows than lines"
+        if different > rows:
+            yield f"entry {e} has more different rows than its type has rows"
+        if copies + different != shown:
+            yield f"entry {e} has copies and different rows that do not make its lines"
+        if verdict[0] == 0 and different != rows:
+            yield f"verdict 0, and entry {e} has not as many different rows as rows"
+
+
 def broken(work, lines):
-    """The promises that the lines do not keep, in words."""
+    """The promises that the lines and their figures do not keep, in words."""
     verdict, none = work.verdict(), work.none_apart()
     if verdict[0] == 0 and not links_kept(work, lines):
         yield "verdict 0, and a link is missing or made up"
@@ -27,6 +42,7 @@ def broken(work, lines):
         yield "verdict 0, and the second answer is no"
     if verdict[0] == 2 and none:
         yield "verdict 2, and the second answer is yes"
+    yield from broken_figures(work, lines)
 
 
 def hold(table, shape, **width):

@@ -6,6 +6,8 @@ import paper01, table_text
 FOLDER = pathlib.Path(__file__).resolve().parents[2] / "samples"
 # what the program reads of each file at most, and its room for lines
 MOST_TABLE, MOST_SHAPE, ROOM = 24577, 257, 1024
+# the words of a summary's figures, for one and for several
+FIGURES = ("line", "lines"), ("row", "rows"), ("copy", "copies"), ("different row", "different rows")
 
 
 def folders():
@@ -37,13 +39,13 @@ def counted(number, one, several):
 
 
 def summary(table, shape):
-    """A line for each entry, indented by its level: its number and label, lines, source rows and copies."""
+    """A line for each entry, indented by its level: its number and label, lines, source rows, copies and different rows."""
     number, place, figures = paper01.summarise(table, shape)
     if number:
         return f"refused {number} {place}\n"
     text = ""
-    for at, (entry, lines, rows, copies) in enumerate(zip(paper01.read_shape(shape), *figures)):
-        said = counted(lines, "line", "lines"), counted(rows, "row", "rows"), counted(copies, "copy", "copies")
+    for at, (entry, *four) in enumerate(zip(paper01.read_shape(shape), *figures)):
+        said = (counted(figure, *words) for figure, words in zip(four, FIGURES))
         text += f"{'  ' * (entry.level - 1)}{at} {table_text.name(entry.type[-1])}: {', '.join(said)}\n"
     return text
 

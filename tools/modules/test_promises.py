@@ -1,4 +1,5 @@
-"""Tests of the second answer in paper01.py, and of what is promised of a new table, on the second reading's own lines."""
+"""Tests of the second answer and of the figures in paper01.py, and of what is promised of a new table and of a summary, on the second
+reading's own lines."""
 import collections, itertools, random, unittest, unittest.mock
 
 import brackets, cases, paper01, promises
@@ -40,12 +41,77 @@ class Promises(unittest.TestCase):
         with unittest.mock.patch.object(work, "none_apart", lambda: True):
             self.assertEqual(list(promises.broken(work, lines)), ["the second answer is yes, and a link is made up"])
         with unittest.mock.patch.object(work, "verdict", lambda: (0,)):
-            self.assertEqual(list(promises.broken(work, lines)), ["verdict 0, and a link is missing or made up", "verdict 0, and the second answer is no"])
+            self.assertEqual(list(promises.broken(work, lines)), [
+                "verdict 0, and a link is missing or made up", "verdict 0, and the second answer is no",
+                "verdict 0, and entry 3 has not as many different rows as rows"])
         with unittest.mock.patch.object(work, "verdict", lambda: (1, 3, 2)):
             self.assertEqual(list(promises.broken(work, lines)), ["verdict 1 names a row that stands in a line of its entry"])
         case = bracketed(brackets.A, "1[2 4]")
         with unittest.mock.patch.object(paper01.Work, "none_apart", lambda self: True), self.assertRaises(SystemExit):
             promises.hold(case.table, case.shape)
+
+
+class Figures(unittest.TestCase):
+    def broken_with(self, table_text, shape_text, e, *four):
+        """What is found broken where an entry has these figures."""
+        work, lines = work_of(table_text, shape_text)
+        self.assertEqual(list(promises.broken(work, lines)), [])
+        figures = work.figures(lines)
+        for of_all, figure in zip(figures, four):
+            of_all[e] = figure
+        with unittest.mock.patch.object(work, "figures", lambda lines: figures):
+            return list(promises.broken(work, lines))
+
+    def test_broken_ones_are_found(self):
+        """Each law by itself, in table A: in asset[lease[lessee]], whose entry 1 has 3, 3, 1, 2, and in lease[lessee asset], whose entry 1 has
+        3, 2, 1, 2."""
+        not_lines = "entry 1 has copies and different rows that do not make its lines"
+        too_many = "entry 1 has more different rows than its type has rows"
+        self.assertEqual(self.broken_with(brackets.A, "4[3[2]]", 1, 3, 3, 0, 2), [not_lines])
+        self.assertEqual(self.broken_with(brackets.A, "4[3[2]]", 1, 3, 3, 1, 3), [not_lines])
+        self.assertEqual(self.broken_with(brackets.A, "4[3[2]]", 1, 3, 1, 1, 2), [too_many])
+        self.assertEqual(self.broken_with(brackets.A, "4[3[2]]", 1, 1, 3, -1, 2), ["entry 1 has more different rows than lines"])
+        self.assertEqual(self.broken_with(brackets.A, "4[3[2]]", 1, 3, 3, 2, 1), [])
+        not_all = "verdict 0, and entry 1 has not as many different rows as rows"
+        self.assertEqual(self.broken_with(brackets.A, "3[2 4]", 1, 3, 2, 2, 1), [not_all])
+        self.assertEqual(self.broken_with(brackets.A, "3[2 4]", 1, 3, 2, 0, 3), [too_many, not_all])
+        # of an entry that the shape does not have too
+        self.assertEqual(self.broken_with(brackets.A, "4[3[2]]", 15, 0, 1, 1, 0), [not_lines.replace("entry 1", "entry 15")])
+
+    def test_hold(self):
+        """The rule of document 01, which lets a missing row hide a copy, does not pass."""
+        by_document_01 = [3, 3, 3] + [0] * 13, [3, 3, 2] + [0] * 13, [0, 0, 1] + [0] * 13, [3, 2, 1] + [0] * 13
+        case = bracketed(brackets.A, "4[3[2]]")
+        promises.hold(case.table, case.shape)
+        with unittest.mock.patch.object(paper01.Work, "figures", lambda self, lines: by_document_01), self.assertRaises(SystemExit):
+            promises.hold(case.table, case.shape)
+
+    def test_by_hand(self):
+        """Request 3's example; two entries of one type, of which one lacks a row; rows of two trees that do not meet; and a refusal."""
+        wanted = {
+            (brackets.A, "4[3[2]]"): ([3, 3, 3], [3, 3, 2], [0, 1, 2], [3, 2, 1]),
+            (brackets.A, "3[4[3]]"): ([3, 3, 3], [3, 3, 3], [0, 0, 1], [3, 3, 2]), ("2 3", "2[3]"): ([1, 0], [1, 1], [0, 0], [1, 0])}
+        for texts, four in wanted.items():
+            case = bracketed(*texts)
+            self.assertEqual(paper01.summarise(case.table, case.shape), (0, 0, [x + [0] * (16 - len(x)) for x in four]), texts)
+        self.assertEqual(paper01.summarise(b"", b""), (5, 0, [[0] * 16] * 4))
+
+    def test_line_by_line(self):
+        """A copy is a line whose row an earlier line of its entry shows, and a missing row is one that no line of the entry shows; there is
+        one exactly where the verdict is 1."""
+        seen = set()
+        for work, lines in drawn(300, 5):
+            shown, rows, copies, different = work.figures(lines)
+            self.assertEqual(sum(shown), len(lines))
+            lacking = False
+            for e, entry in enumerate(work.entries):
+                again = sum(1 for i, line in enumerate(lines) if line[0] == e and any(line[:2] == other[:2] for other in lines[:i]))
+                missing = sum(1 for r, kind in enumerate(work.kinds) if kind == entry.type and not work.shows(lines, e, r))
+                self.assertEqual((copies[e], rows[e] - different[e]), (again, missing))
+                seen.add((again > 0, missing > 0))
+                lacking = lacking or missing > 0
+            self.assertEqual(lacking, work.verdict()[0] == 1)
+        self.assertEqual(len(seen), 4)
 
 
 class MadeUp(unittest.TestCase):

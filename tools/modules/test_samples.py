@@ -177,53 +177,59 @@ portfolio 1 row
              "p10": "lessee 1 row\nlease 1 row\n", "rows_1025": "refused 1 0\n", "level_7": "refused 3 6\n", "types_65": "refused 4 64\n"}
     SUMMARIES = {
         "p2": """\
-0 portfolio: 1 line, 1 row, 0 copies
-  1 lessee: 2 lines, 2 rows, 0 copies
-    2 lease: 3 lines, 3 rows, 0 copies
-      3 asset: 3 lines, 3 rows, 0 copies
+0 portfolio: 1 line, 1 row, 0 copies, 1 different row
+  1 lessee: 2 lines, 2 rows, 0 copies, 2 different rows
+    2 lease: 3 lines, 3 rows, 0 copies, 3 different rows
+      3 asset: 3 lines, 3 rows, 0 copies, 3 different rows
 """,
         "p4": """\
-0 lease: 3 lines, 3 rows, 0 copies
-  1 lessee: 3 lines, 2 rows, 1 copy
-  2 asset: 3 lines, 3 rows, 0 copies
+0 lease: 3 lines, 3 rows, 0 copies, 3 different rows
+  1 lessee: 3 lines, 2 rows, 1 copy, 2 different rows
+  2 asset: 3 lines, 3 rows, 0 copies, 3 different rows
+""",
+        # request 3's example: lease row 2 stands twice, and row 8 not at all
+        "p5": """\
+0 asset: 3 lines, 3 rows, 0 copies, 3 different rows
+  1 lease: 3 lines, 3 rows, 1 copy, 2 different rows
+    2 lessee: 3 lines, 2 rows, 2 copies, 1 different row
 """,
         "labels_22a": """\
-0 lease: 2 lines, 2 rows, 0 copies
-  1 lessee: 2 lines, 1 row, 1 copy
-    2 guarantor: 2 lines, 1 row, 1 copy
-    3 portfolio: 2 lines, 1 row, 1 copy
-      4 vendor: 2 lines, 1 row, 1 copy
-        5 contact: 2 lines, 1 row, 1 copy
-  6 deposit: 1 line, 1 row, 0 copies
-  7 schedule: 1 line, 1 row, 0 copies
-    8 payment: 2 lines, 2 rows, 0 copies
-  9 invoice: 1 line, 1 row, 0 copies
-    10 tax: 1 line, 1 row, 0 copies
-    11 currency: 1 line, 1 row, 0 copies
-  12 document: 2 lines, 2 rows, 0 copies
-  13 21: 1 line, 1 row, 0 copies
-    14 999: 1 line, 1 row, 0 copies
+0 lease: 2 lines, 2 rows, 0 copies, 2 different rows
+  1 lessee: 2 lines, 1 row, 1 copy, 1 different row
+    2 guarantor: 2 lines, 1 row, 1 copy, 1 different row
+    3 portfolio: 2 lines, 1 row, 1 copy, 1 different row
+      4 vendor: 2 lines, 1 row, 1 copy, 1 different row
+        5 contact: 2 lines, 1 row, 1 copy, 1 different row
+  6 deposit: 1 line, 1 row, 0 copies, 1 different row
+  7 schedule: 1 line, 1 row, 0 copies, 1 different row
+    8 payment: 2 lines, 2 rows, 0 copies, 2 different rows
+  9 invoice: 1 line, 1 row, 0 copies, 1 different row
+    10 tax: 1 line, 1 row, 0 copies, 1 different row
+    11 currency: 1 line, 1 row, 0 copies, 1 different row
+  12 document: 2 lines, 2 rows, 0 copies, 2 different rows
+  13 21: 1 line, 1 row, 0 copies, 1 different row
+    14 999: 1 line, 1 row, 0 copies, 1 different row
 """,
         "labels_22b": """\
-0 asset: 3 lines, 3 rows, 0 copies
-  1 meter: 2 lines, 2 rows, 0 copies
-    2 reading: 3 lines, 3 rows, 0 copies
-  3 insurance: 1 line, 1 row, 0 copies
-  4 service: 1 line, 1 row, 0 copies
-  5 residual: 1 line, 1 row, 0 copies
-  6 site: 2 lines, 2 rows, 0 copies
-  7 lease: 3 lines, 2 rows, 1 copy
-    8 lessee: 3 lines, 1 row, 2 copies
+0 asset: 3 lines, 3 rows, 0 copies, 3 different rows
+  1 meter: 2 lines, 2 rows, 0 copies, 2 different rows
+    2 reading: 3 lines, 3 rows, 0 copies, 3 different rows
+  3 insurance: 1 line, 1 row, 0 copies, 1 different row
+  4 service: 1 line, 1 row, 0 copies, 1 different row
+  5 residual: 1 line, 1 row, 0 copies, 1 different row
+  6 site: 2 lines, 2 rows, 0 copies, 2 different rows
+  7 lease: 3 lines, 2 rows, 1 copy, 2 different rows
+    8 lessee: 3 lines, 1 row, 2 copies, 1 different row
 """,
         # more lines than the program's room, and fewer than a summary's
         "lines_1025": """\
-0 portfolio: 1 line, 1 row, 0 copies
-  1 lessee: 31 lines, 31 rows, 0 copies
-    2 portfolio: 31 lines, 1 row, 30 copies
-      3 lessee: 961 lines, 31 rows, 930 copies
-  4 portfolio: 1 line, 1 row, 0 copies
+0 portfolio: 1 line, 1 row, 0 copies, 1 different row
+  1 lessee: 31 lines, 31 rows, 0 copies, 31 different rows
+    2 portfolio: 31 lines, 1 row, 30 copies, 1 different row
+      3 lessee: 961 lines, 31 rows, 930 copies, 31 different rows
+  4 portfolio: 1 line, 1 row, 0 copies, 1 different row
 """,
-        "p10": "0 lessee: 1 line, 1 row, 0 copies\n  1 lease: 0 lines, 1 row, 0 copies\n",
+        "p10": "0 lessee: 1 line, 1 row, 0 copies, 1 different row\n  1 lease: 0 lines, 1 row, 0 copies, 0 different rows\n",
         "p1": "refused 7 0\n", "rows_1025": "refused 1 0\n", "types_65": "refused 4 64\n", "entries_17": "refused 5 0\n",
     }
 
@@ -233,6 +239,11 @@ portfolio 1 row
             self.assertEqual(samples.summary(*both[name]), text, name)
         for name, text in self.TYPES.items():
             self.assertEqual(samples.types(both[name][0]), text, name)
+
+    def test_summary_of_the_help_screen(self):
+        """docs/HELP.md shows the summary of P5."""
+        shown = "".join(f"    {line}\n" for line in self.SUMMARIES["p5"].splitlines())
+        self.assertIn(f"\n    $ ./intake --summary samples/p5\n{shown}\n", explained.PAGE.read_text())
 
     def test_types_stand_beneath_theirs(self):
         """A type whose first row comes after other roots stands beneath its own."""
