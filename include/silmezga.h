@@ -53,7 +53,7 @@ extern "C" {
 #endif
 
 /* The version of the project; CHANGELOG.md says what each brought. */
-#define SILMEZGA_VERSION "1.3.0"
+#define SILMEZGA_VERSION "1.4.0"
 
 /* The archive's numbers have 64 bits: this line refuses a target whose size_t has not. */
 typedef char silmezga_size_t_has_64_bits[sizeof(size_t) == 8 ? 1 : -1];
@@ -166,9 +166,10 @@ typedef struct {
 typedef struct {
     size_t number;
     size_t place;
-    size_t lines[SILMEZGA_MOST_ENTRIES];    /* for each entry its lines; zeros past the last entry */
-    size_t rows[SILMEZGA_MOST_ENTRIES];     /* the source rows of its type */
-    size_t copies[SILMEZGA_MOST_ENTRIES];   /* lines less source rows, or 0 where lines are fewer */
+    size_t lines[SILMEZGA_MOST_ENTRIES];      /* for each entry its lines; zeros past the last entry */
+    size_t rows[SILMEZGA_MOST_ENTRIES];       /* the source rows of its type; rows less different: those that no line shows */
+    size_t copies[SILMEZGA_MOST_ENTRIES];     /* lines less different */
+    size_t different[SILMEZGA_MOST_ENTRIES];  /* the different source rows that appear in its lines, each counted once */
 } silmezga_summary;
 
 /* ---- The six calls */
@@ -203,7 +204,7 @@ silmezga_judged silmezga_judge(const uint8_t *table, size_t table_len, const uin
 silmezga_reshaped silmezga_reshape(const uint8_t *table, size_t table_len, const uint8_t *shape, size_t shape_len, uint8_t *new_table,
                                    size_t new_len, uint32_t *sources, size_t source_places);
 
-/* Summarises a reshape with room for 4,096 lines, with nothing written: refusals 1 to 8, or the figures of each entry. */
+/* Summarises a reshape with room for 4,096 lines, with nothing written: refusals 1 to 8, or four figures of each entry. */
 silmezga_summary silmezga_summarise(const uint8_t *table, size_t table_len, const uint8_t *shape, size_t shape_len);
 
 #ifdef __cplusplus

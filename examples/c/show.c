@@ -145,7 +145,8 @@ static void show_summary(size_t table_len, size_t shape_len)
     }
     printf("summarise:\n");
     for (entry = 0; entry < shape_len / SILMEZGA_ENTRY_BYTES; entry++) {
-        printf("  entry %zu: lines %zu rows %zu copies %zu\n", entry, answer.lines[entry], answer.rows[entry], answer.copies[entry]);
+        printf("  entry %zu: lines %zu rows %zu copies %zu different %zu\n", entry, answer.lines[entry], answer.rows[entry],
+               answer.copies[entry], answer.different[entry]);
     }
 }
 

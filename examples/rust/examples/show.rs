@@ -78,7 +78,10 @@ fn summarised(table: &[u8], shape: &[u8]) -> Result<String, Refusal> {
     let s = silmezga::summarise(table, shape)?;
     let mut text = "summarise:\n".to_string();
     for e in 0..shape.len() / silmezga::ENTRY_BYTES {
-        text += &format!("  entry {}: lines {} rows {} copies {}\n", e, s.lines[e], s.rows[e], s.copies[e]);
+        text += &format!(
+            "  entry {}: lines {} rows {} copies {} different {}\n",
+            e, s.lines[e], s.rows[e], s.copies[e], s.different[e]
+        );
     }
     Ok(text)
 }

@@ -65,12 +65,14 @@ pub struct Judgement {
     pub none_apart: bool,
 }
 
-/// For each of 16 entries its lines, the source rows of its type, and copies: lines less source rows, or 0 where lines are fewer.
+/// For each of 16 entries its lines, the source rows of its type, copies, and the different source rows that appear in its lines. Copies
+/// are lines less different; rows less different are those that no line of the entry shows.
 #[derive(Clone, Copy, Debug, PartialEq, Eq)]
 pub struct Summary {
     pub lines: [usize; MOST_ENTRIES],
     pub rows: [usize; MOST_ENTRIES],
     pub copies: [usize; MOST_ENTRIES],
+    pub different: [usize; MOST_ENTRIES],
 }
 
 /// What the archive exports, as `include/silmezga.h` declares it.
@@ -110,6 +112,7 @@ mod archive {
         pub lines: [usize; MOST_ENTRIES],
         pub rows: [usize; MOST_ENTRIES],
         pub copies: [usize; MOST_ENTRIES],
+        pub different: [usize; MOST_ENTRIES],
     }
 
     extern "C" {
@@ -194,9 +197,9 @@ pub fn reshape(table: &[u8], shape: &[u8], new: &mut [u8], sources: &mut [u32]) 
     accepted(a.number, a.place, a.count)
 }
 
-/// Summarises a reshape with room for 4,096 lines: refusals 1 to 8, or the figures of each entry.
+/// Summarises a reshape with room for 4,096 lines: refusals 1 to 8, or four figures of each entry.
 pub fn summarise(table: &[u8], shape: &[u8]) -> Result<Summary, Refusal> {
     let a = unsafe { archive::silmezga_summarise(table.as_ptr(), table.len(), shape.as_ptr(), shape.len()) };
-    let summary = Summary { lines: a.lines, rows: a.rows, copies: a.copies };
+    let summary = Summary { lines: a.lines, rows: a.rows, copies: a.copies, different: a.different };
     accepted(a.number, a.place, summary)
 }
