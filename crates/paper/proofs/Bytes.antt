@@ -1,6 +1,6 @@
 -- Records that are written are read back as they were. Assumes nothing.
 use Prim.Native.Nat.{ℕ, suc, _+_, _*_, _/_, _%_, _<_}
-use native.Mathlib.Nat.{zero-div, add-div-left}
+use native.Mathlib.Nat.{zero-div, add-div-left, zero-mul, suc-mul}
 use native.Mathlib.Omega.{arith}
 use mathlib.Core.Path.{_≡_, refl, sym, _∙_, ap, ap₂}
 use mathlib.Core.Logic.{inl, inr}
@@ -109,6 +109,12 @@ module _ {A : Type 0} (w : ℕ) (pos : 0 < w) (g : A → List ℕ) where
   whole-back (x ∷ xs) e =
       ap (λ n. n / w) (length-append (g x) (joinMap g xs) ∙ ap (λ n. n + length (joinMap g xs)) (e x (inl refl)))
       ∙ add-div-left (length (joinMap g xs)) pos ∙ (omega (arith, whole-back xs (λ y h. e y (inr h))))
+
+  pub length-back : (xs : List A) → ((x : A) → Has x xs → length (g x) ≡ w) → length (joinMap g xs) ≡ length xs * w
+  length-back [] e = sym (zero-mul w)
+  length-back (x ∷ xs) e =
+      length-append (g x) (joinMap g xs) ∙ ap₂ (λ m n. m + n) (e x (inl refl)) (length-back xs (λ y h. e y (inr h)))
+      ∙ (omega (arith, suc-mul (length xs) w))
 
   pub records-back : (xs : List A) → ((x : A) → Has x xs → length (g x) ≡ w) → records w (length xs) (joinMap g xs) ≡ map g xs
   records-back [] e = refl

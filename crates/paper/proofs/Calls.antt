@@ -9,7 +9,7 @@ use mathlib.Core.List.{List, []}
 use mathlib.Core.Option.{Option, none, some}
 use lib.Dec.{eqb, ltb}
 use lib.ListN.{length, getD, length-map}
-use borrow.Author.Tests.{ltb-false, le-ltb, eqb-false, eqb-true, eq-eqb}
+use borrow.Author.Tests.{ltb-false, le-ltb, eqb-false, eqb-true, eq-eqb, not-false}
 use Rattle.paper.specs.Lists.{place, same}
 use Rattle.paper.specs.Format.{Format, mostRows, mostTypes, mostEntries, rowBytes, entryBytes, whole, records}
 use Rattle.paper.specs.Tables.{Row, rows, rowOf, badRow, rowTypes, types}
@@ -38,22 +38,30 @@ refuseAt-given k (some p) u h = refused-given k p u h
 pub given-same : {A : Type 0} (x y : A) → given x ≡ given y → x ≡ y
 given-same x y h = cc
 
--- a refusal's number is past m
+-- what holds of a refusal's number
+abbrev pub Told : {A : Type 0} → (ℕ → Type 0) → Answer A → Type 0
+Told P (refused k p) = P k
+Told P (given v) = Unit
+
+-- it is past m
 abbrev pub Past : {A : Type 0} → ℕ → Answer A → Type 0
-Past m (refused k p) = m < k
-Past m (given v) = Unit
+Past m a = Told (λ k. m < k) a
+
+module _ (P : ℕ → Type 0) where
+  pub bind-told : {A B : Type 0} (a : Answer A) (next : A → Answer B) → Told P a → ((x : A) → a ≡ given x → Told P (next x)) → Told P (a >>= next)
+  bind-told (refused k p) next n after = n
+  bind-told (given x) next n after = after x refl
+
+  pub refuse-told : (k : ℕ) (b : Bool) → P k → Told P (refuse k b)
+  refuse-told k true h = h
+  refuse-told k false h = tt
+
+  pub refuseAt-told : (k : ℕ) (o : Option ℕ) → P k → Told P (refuseAt k o)
+  refuseAt-told k none h = tt
+  refuseAt-told k (some p) h = h
 
 pub bind-past : {A B : Type 0} (m : ℕ) (a : Answer A) (next : A → Answer B) → Past m a → ((x : A) → Past m (next x)) → Past m (a >>= next)
-bind-past m (refused k p) next n after = n
-bind-past m (given x) next n after = after x
-
-refuse-past : (m k : ℕ) (b : Bool) → m < k → Past m (refuse k b)
-refuse-past m k true lt = lt
-refuse-past m k false lt = tt
-
-refuseAt-past : (m k : ℕ) (o : Option ℕ) → m < k → Past m (refuseAt k o)
-refuseAt-past m k none lt = tt
-refuseAt-past m k (some p) lt = lt
+bind-past m a next n after = bind-told (λ k. m < k) a next n (λ x _. after x)
 
 reply-past : {A : Type 0} (m : ℕ) (zeros : A) (a : Answer A) → Past m a → (reply zeros a .number ≡ 0) ⊎ (m < reply zeros a .number)
 reply-past m zeros (refused k p) n = inr n
@@ -82,6 +90,15 @@ passed1-3 f b rs h =
       subst (λ r. badRow f r ≡ none) e (refuseAt-given 3 (badRow f (rows f b)) x h₃),
       ltb-false (mostRows * rowBytes f) (length b) (refuse-given 1 (ltb (mostRows * rowBytes f) (length b)) u h₁),
     )
+
+-- a table past 1 to 3 is one of whole records
+pub whole1-3 : (f : Format) (b : List ℕ) (rs : List Row) → tests1-3 f b ≡ given rs → length b % rowBytes f ≡ 0
+unfolding tests1-3
+whole1-3 f b rs h =
+    let even = eqb (length b % rowBytes f) 0 in
+    let (u, h₁, k₁) = bind-given (refuse 1 (ltb (mostRows * rowBytes f) (length b))) _ rs h in
+    let (v, h₂, k₂) = bind-given (refuse 2 (not even)) _ rs k₁ in
+    eqb-true (length b % rowBytes f) 0 (not-false even (refuse-given 2 (not even) v h₂))
 
 -- what passes each of 1 to 3
 pub pass1-3 : (f : Format) (b : List ℕ) → length b ≤ mostRows * rowBytes f → length b % rowBytes f ≡ 0 → badRow f (rows f b) ≡ none
@@ -116,7 +133,7 @@ passed1-4 f b rs h =
     h₁ ∙ k₂
 
 -- ---- 5 and 6
-length-records : (w n : ℕ) (b : List ℕ) → length (records w n b) ≡ n
+pub length-records : (w n : ℕ) (b : List ℕ) → length (records w n b) ≡ n
 length-records w zero b = refl
 length-records w (suc n) b = ap suc (length-records w n (lib.ListN.drop w b))
 
@@ -139,6 +156,23 @@ few-records w n b pos le =
 pub few-rows : (f : Format) (b : List ℕ) → length b ≤ mostRows * rowBytes f → length (rows f b) ≤ mostRows
 few-rows f b le = omega (arith, count-rows f b, few-records (rowBytes f) mostRows b (omega arith) le)
 
+-- a shape past 5 has some whole entries and no more than 16
+pub passed5 : (f : Format) (b : List ℕ) (es : List Entry) → tests5-6 f b ≡ given es
+    → (length b ≡ 0 → ⊥) × (length b ≤ mostEntries * entryBytes f) × (length b % entryBytes f ≡ 0)
+unfolding tests5-6
+passed5 f b es h =
+    let lengths = eqb (length b) 0 || ltb (mostEntries * entryBytes f) (length b) || not (eqb (length b % entryBytes f) 0) in
+    let (u, h₁, k₁) = bind-given (refuse 5 lengths) _ es h in
+    let passed = refuse-given 5 lengths u h₁ in
+    let (z, over, m) = neither (eqb (length b) 0) (ltb (mostEntries * entryBytes f) (length b)) (eqb (length b % entryBytes f) 0) passed in
+    (eqb-false (length b) 0 z, ltb-false (mostEntries * entryBytes f) (length b) over, eqb-true (length b % entryBytes f) 0 m)
+  where
+    neither : (x y z : Bool) → x || y || not z ≡ false → (x ≡ false) × (y ≡ false) × (z ≡ true)
+    neither false false true e = (refl, refl, refl)
+    neither false false false e = absurd (true≢false e)
+    neither false true z e = absurd (true≢false e)
+    neither true y z e = absurd (true≢false e)
+
 pub passed5-6 : (f : Format) (b : List ℕ) (es : List Entry) → tests5-6 f b ≡ given es
     → (entries f b ≡ es) × (badEntry f es ≡ none) × (0 < length es) × (length es ≤ mostEntries)
 unfolding tests5-6
@@ -147,25 +181,13 @@ passed5-6 f b es h =
     let (u, h₁, k₁) = bind-given (refuse 5 lengths) _ es h in
     let (v, h₂, k₂) = bind-given (refuseAt 6 (badEntry f (entries f b))) _ es k₁ in
     let e = given-same (entries f b) es k₂ in
-    let passed = refuse-given 5 lengths u h₁ in
-    let (z, over, m) = neither (eqb (length b) 0) (ltb (mostEntries * entryBytes f) (length b)) (eqb (length b % entryBytes f) 0) passed in (
+    let (filled, short, even) = passed5 f b es h in (
       e,
       subst (λ r. badEntry f r ≡ none) e (refuseAt-given 6 (badEntry f (entries f b)) v h₂),
-      subst (λ r. 0 < length r) e (some-entry (eqb-false (length b) 0 z) (eqb-true (length b % entryBytes f) 0 m)),
-      omega (
-        arith,
-        count-entries f b,
-        ap length e,
-        few-records (entryBytes f) mostEntries b (omega arith) (ltb-false (mostEntries * entryBytes f) (length b) over),
-      ),
+      subst (λ r. 0 < length r) e (some-entry filled even),
+      omega (arith, count-entries f b, ap length e, few-records (entryBytes f) mostEntries b (omega arith) short),
     )
   where
-    neither : (x y z : Bool) → x || y || not z ≡ false → (x ≡ false) × (y ≡ false) × (z ≡ true)
-    neither false false true e = (refl, refl, refl)
-    neither false false false e = absurd (true≢false e)
-    neither false true z e = absurd (true≢false e)
-    neither true y z e = absurd (true≢false e)
-
     some-entry : (length b ≡ 0 → ⊥) → length b % entryBytes f ≡ 0 → 0 < length (entries f b)
     some-entry ne e = go (length b / entryBytes f) refl
       where
@@ -194,43 +216,46 @@ passed1-7 f b sb w h =
       sym same ∙ ap₂ {C = Work} (λ r x. record { rows = r; nodes = nodes r; shape = shapeOver (types r) x }) er ee,
     )
 
-pub past1-3 : (f : Format) (b : List ℕ) → Past 0 (tests1-3 f b)
+pub told1-3 : (P : ℕ → Type 0) → P 1 → P 2 → P 3 → (f : Format) (b : List ℕ) → Told P (tests1-3 f b)
 unfolding tests1-3
-past1-3 f b =
+told1-3 P one two three f b =
     let long = ltb (mostRows * rowBytes f) (length b) in
     let ragged = not (eqb (length b % rowBytes f) 0) in
-    bind-past 0 (refuse 1 long) _ (refuse-past 0 1 long (omega arith)) (λ _.
-    bind-past 0 (refuse 2 ragged) _ (refuse-past 0 2 ragged (omega arith)) (λ _.
-    bind-past 0 (refuseAt 3 (badRow f (rows f b))) _ (refuseAt-past 0 3 (badRow f (rows f b)) (omega arith)) (λ _. tt)))
+    bind-told P (refuse 1 long) _ (refuse-told P 1 long one) (λ _ _.
+    bind-told P (refuse 2 ragged) _ (refuse-told P 2 ragged two) (λ _ _.
+    bind-told P (refuseAt 3 (badRow f (rows f b))) _ (refuseAt-told P 3 (badRow f (rows f b)) three) (λ _ _. tt)))
+
+pub past1-3 : (f : Format) (b : List ℕ) → Past 0 (tests1-3 f b)
+past1-3 = told1-3 (λ k. 0 < k) (omega arith) (omega arith) (omega arith)
+
+pub told5-6 : (P : ℕ → Type 0) → P 5 → P 6 → (f : Format) (b : List ℕ) → Told P (tests5-6 f b)
+unfolding tests5-6
+told5-6 P five six f b =
+    let lengths = eqb (length b) 0 || ltb (mostEntries * entryBytes f) (length b) || not (eqb (length b % entryBytes f) 0) in
+    bind-told P (refuse 5 lengths) _ (refuse-told P 5 lengths five) (λ _ _.
+    bind-told P (refuseAt 6 (badEntry f (entries f b))) _ (refuseAt-told P 6 (badEntry f (entries f b)) six) (λ _ _. tt))
 
 past1-4 : (f : Format) (b : List ℕ) → Past 0 (tests1-4 f b)
 unfolding tests1-4
 past1-4 f b =
     bind-past 0 (tests1-3 f b) _ (past1-3 f b) (λ rs.
-    bind-past 0 (refuseAt 4 (typeTooMany rs)) _ (refuseAt-past 0 4 (typeTooMany rs) (omega arith)) (λ _. tt))
+    bind-past 0 (refuseAt 4 (typeTooMany rs)) _ (refuseAt-told (λ k. 0 < k) 4 (typeTooMany rs) (omega arith)) (λ _. tt))
 
 -- ---- from 5 on the numbers are past 4, so that they are past m wherever those of 1 to 4 are
 module _ (m : ℕ) (le : m ≤ 4) (f : Format) where
-  past5-6 : (b : List ℕ) → Past m (tests5-6 f b)
-  unfolding tests5-6
-  past5-6 b =
-      let lengths = eqb (length b) 0 || ltb (mostEntries * entryBytes f) (length b) || not (eqb (length b % entryBytes f) 0) in
-      bind-past m (refuse 5 lengths) _ (refuse-past m 5 lengths (omega arith)) (λ _.
-      bind-past m (refuseAt 6 (badEntry f (entries f b))) _ (refuseAt-past m 6 (badEntry f (entries f b)) (omega arith)) (λ _. tt))
-
   past8 : (w : Work) (room : ℕ) → Past m (test8 f w room)
   unfolding test8
   past8 w room =
       let over = ltb room (length (lines (w .nodes) (w .shape) (f .levels))) in
-      bind-past m (refuse 8 over) _ (refuse-past m 8 over (omega arith)) (λ _. tt)
+      bind-past m (refuse 8 over) _ (refuse-told (λ k. m < k) 8 over (omega arith)) (λ _. tt)
 
   module _ (b : List ℕ) (earlier : Past m (tests1-4 f b)) (sb : List ℕ) where
     past1-7 : Past m (tests1-7 f b sb)
     unfolding tests1-7
     past1-7 =
         bind-past m (tests1-4 f b) _ earlier (λ rs.
-        bind-past m (tests5-6 f sb) _ (past5-6 sb) (λ es.
-        bind-past m (refuseAt 7 (typeMissing rs es)) _ (refuseAt-past m 7 (typeMissing rs es) (omega arith)) (λ _. tt)))
+        bind-past m (tests5-6 f sb) _ (told5-6 (λ k. m < k) (omega arith) (omega arith) f sb) (λ es.
+        bind-past m (refuseAt 7 (typeMissing rs es)) _ (refuseAt-told (λ k. m < k) 7 (typeMissing rs es) (omega arith)) (λ _. tt)))
 
     past-reshaping : (room : ℕ) → Past m (reshaping f b sb room)
     unfolding reshaping

@@ -25,3 +25,11 @@ pub mod MadeUp
 pub mod Sound
 pub mod Needed
 pub mod Figures
+pub mod Moved
+pub mod Widened
+pub mod WidenedTables
+pub mod WidenedShapes
+pub mod WidenedCalls
+pub mod WidenedLines
+pub mod Narrowed
+pub mod Moving

@@ -16,6 +16,7 @@ use Rattle.paper.specs.Verdict.{isEmpty}
 use Rattle.paper.specs.Samples
 use Rattle.paper.specs.Tried
 use Rattle.paper.specs.Further
+use Rattle.paper.specs.WidthSamples
 
 -- ---- tests
 pub both : (a b : Bool) → a && b ≡ true → (a ≡ true) × (b ≡ true)
@@ -234,9 +235,17 @@ module _ {A B : Type 0} where
   join-append f [] ys = refl
   join-append f (x ∷ xs) ys = ap {B = List B} (λ l. f x ++ l) (join-append f xs ys) ∙ sym (append-assoc (f x) (joinMap f xs) (joinMap f ys))
 
+  pub join-same : (f g : A → List B) (xs : List A) → ((x : A) → Has x xs → f x ≡ g x) → joinMap f xs ≡ joinMap g xs
+  join-same f g [] e = refl
+  join-same f g (x ∷ xs) e = ap₂ (λ l m. l ++ m) (e x (inl refl)) (join-same f g xs (λ y i. e y (inr i)))
+
   pub joined-map : (f : A → List B) (xs : List A) → joined (map f xs) ≡ joinMap f xs
   joined-map f [] = refl
   joined-map f (x ∷ xs) = ap (λ l. f x ++ l) (joined-map f xs)
+
+pub join-map : {A B C : Type 0} (f : B → List C) (g : A → B) (xs : List A) → joinMap f (map g xs) ≡ joinMap (λ x. f (g x)) xs
+join-map f g [] = refl
+join-map f g (x ∷ xs) = ap (λ l. f (g x) ++ l) (join-map f g xs)
 
 -- ---- ends of lists
 pub last-has : {A : Type 0} (p : A) (x : A) (xs : List A) → Has (lastOr p (x ∷ xs)) (x ∷ xs)

@@ -19,7 +19,7 @@ use Rattle.paper.specs.NewTable.{Line, lines, lineRow, newTable, sourceL
 use Rattle.paper.specs.Faithful.{Chain, Faithful}
 use Rattle.paper.specs.Links.{newNodes, sourceRow}
 use Rattle.paper.proofs.Lists.{and, has-all, take-has, getD-has, has-append, map-has, map-same}
-use Rattle.paper.proofs.Bytes.{Small, Shaped, length-row, dewey-back, row-back, whole-back, records-back}
+use Rattle.paper.proofs.Bytes.{Small, Shaped, length-row, dewey-back, row-back, whole-back, length-back, records-back}
 use Rattle.paper.proofs.Tables.{Rules, rules-none}
 use Rattle.paper.proofs.Shapes.{Ways}
 use Rattle.paper.proofs.Verdict.{In, way-pos}
@@ -108,7 +108,7 @@ module _ (f : Format) (b : List ℕ) (s : Shape) (w : Ways s) (some : 0 < length
   line-level : (l : Line) → Has l ls → getD (s .levels) (l .entry) 0 ≡ length (l .dewey)
   line-level l h = let (e, i, q) = fits l h in sym (q ∙ level (l .entry) e .0)
 
-  line-levels : (l : Line) → Has l ls → length (l .dewey) ≤ f .levels
+  pub line-levels : (l : Line) → Has l ls → length (l .dewey) ≤ f .levels
   line-levels l h = let (e, i, q) = fits l h in omega (arith, q, deep (l .entry) e)
 
   -- ---- the written table keeps the row rules
@@ -142,7 +142,7 @@ module _ (f : Format) (b : List ℕ) (s : Shape) (w : Ways s) (some : 0 < length
       let (x, hx, ex) = map-has (rowOf f) r (records (rowBytes f) (whole (rowBytes f) b) b) hr in
       ap length (er ∙ ap (λ (r : Row). r .value) ex) ∙ length-span valueBytes x (headBytes + listBytes f)
 
-  shaped : (l : Line) → Has l ls → Shaped f (lineRow f s (rows f b) l)
+  pub shaped : (l : Line) → Has l ls → Shaped f (lineRow f s (rows f b) l)
   shaped l h = line-shaped f (rows f b) s l (line-level l h) (line-levels l h) (value-length l h)
 
   module _ (room : length ls < entryUnit) where
@@ -161,14 +161,8 @@ module _ (f : Format) (b : List ℕ) (s : Shape) (w : Ways s) (some : 0 < length
 
     pub length-new : length (newTable f s (rows f b) ls) ≡ length ls * rowBytes f
     unfolding newTable
-    length-new = go ls (λ l h. length-row f (lineRow f s (rows f b) l) (shaped l h))
-      where
-        go : (xs : List Line) → ((l : Line) → Has l xs → length (rowBack (lineRow f s (rows f b) l)) ≡ rowBytes f)
-            → length (joinMap (λ l. rowBack (lineRow f s (rows f b) l)) xs) ≡ length xs * rowBytes f
-        go [] e = sym (native.Mathlib.Nat.zero-mul (rowBytes f))
-        go (x ∷ xs) e =
-            length-append (rowBack (lineRow f s (rows f b) x)) (joinMap (λ l. rowBack (lineRow f s (rows f b) l)) xs)
-            ∙ ap₂ (λ m n. m + n) (e x (inl refl)) (go xs (λ y h. e y (inr h))) ∙ (omega (arith, native.Mathlib.Nat.suc-mul (length xs) (rowBytes f)))
+    length-new =
+        length-back (rowBytes f) (omega arith) (λ l. rowBack (lineRow f s (rows f b) l)) ls (λ l h. length-row f (lineRow f s (rows f b) l) (shaped l h))
 
     deweys-new : map dewey (rows f (newTable f s (rows f b) ls)) ≡ map (λ (l : Line). l .dewey) ls
     deweys-new =

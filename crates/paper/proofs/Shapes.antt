@@ -49,22 +49,36 @@ ends-own w i (e ∷ es) (suc j) lt =
     (u, q ∙ ap (λ n. u ++ (n ∷ [])) (omega arith))
 
 -- ---- what the rules add: levels
+-- what the rules say of an entry, one by one
+pub record Parts (f : Format) (before : ℕ) (e : Entry) : Type 0 where
+  pub level : (1 ≤ e .level) × (e .level ≤ f .levels)
+  pub size : (1 ≤ e .size) × (e .size ≤ f .levels)
+  pub labels : all (λ x. between 1 x (f .labels)) (named e) ≡ true
+  pub zeros : all (eqb 0) (drop (e .size) (e .labels)) ≡ true
+  pub next : levelKept before (e .level) ≡ true
+
+pub entry-parts : (f : Format) (before : ℕ) (e : Entry) → entryKept f before e ≡ true → Parts f before e
+unfolding entryKept
+entry-parts f before e h =
+    let l = between 1 (e .level) (f .levels) in
+    let z = between 1 (e .size) (f .levels) in
+    let a = both (l && z && eqb (e .spare) 0 && all (λ x. between 1 x (f .labels)) (named e) && all (eqb 0) (drop (e .size) (e .labels)))
+    (levelKept before (e .level)) h in
+    let b = both (l && z && eqb (e .spare) 0 && all (λ x. between 1 x (f .labels)) (named e)) (all (eqb 0) (drop (e .size) (e .labels))) (a .0) in
+    let c = both (l && z && eqb (e .spare) 0) (all (λ x. between 1 x (f .labels)) (named e)) (b .0) in
+    let d = both l z (both (l && z) (eqb (e .spare) 0) (c .0) .0) in
+    record { level = within (e .level) (d .0); size = within (e .size) (d .1); labels = c .1; zeros = b .1; next = a .1 }
+  where
+    within : (x : ℕ) → between 1 x (f .levels) ≡ true → (1 ≤ x) × (x ≤ f .levels)
+    within x q = let k = both (leb 1 x) (leb x (f .levels)) q in (leb-true 1 x (k .0), leb-true x (f .levels) (k .1))
+
 -- level 1 to the format's, and one more than the level before at the most; after the first at least 2
 entry-level : (f : Format) (before : ℕ) (e : Entry) → entryKept f before e ≡ true
     → (1 ≤ e .level) × (e .level ≤ f .levels) × (e .level ≤ suc before) × ((before ≡ 0) ⊎ (2 ≤ e .level))
-unfolding entryKept
 entry-level f before e h =
-    let l = between 1 (e .level) (f .levels) in
-    let a = both (l && between 1 (e .size) (f .levels) && eqb (e .spare) 0 && all (λ x. between 1 x (f .labels)) (named e)
-    && all (eqb 0) (drop (e .size) (e .labels))) (levelKept before (e .level)) h in
-    let b = both (l && between 1 (e .size) (f .levels) && eqb (e .spare) 0 && all (λ x. between 1 x (f .labels)) (named e))
-    (all (eqb 0) (drop (e .size) (e .labels))) (a .0) in
-    let c = both (l && between 1 (e .size) (f .levels) && eqb (e .spare) 0) (all (λ x. between 1 x (f .labels)) (named e)) (b .0) in
-    let d = both (l && between 1 (e .size) (f .levels)) (eqb (e .spare) 0) (c .0) in
-    let g = both l (between 1 (e .size) (f .levels)) (d .0) in
-    let k = both (leb 1 (e .level)) (leb (e .level) (f .levels)) (g .0) in
-    let r = kept before (a .1) in
-    (leb-true 1 (e .level) (k .0), leb-true (e .level) (f .levels) (k .1), r .0, r .1)
+    let p = entry-parts f before e h in
+    let r = kept before (p .next) in
+    (p .level .0, p .level .1, r .0, r .1)
   where
     kept : (b : ℕ) → levelKept b (e .level) ≡ true → (e .level ≤ suc b) × ((b ≡ 0) ⊎ (2 ≤ e .level))
     kept zero q = (omega (arith, eqb-true (e .level) 1 q), inl refl)
@@ -75,19 +89,9 @@ entry-level f before e h =
 -- the last label of the type that an entry names is a label of the format
 pub entry-label : (f : Format) (before : ℕ) (e : Entry) → length (e .labels) ≡ f .levels → entryKept f before e ≡ true
     → between 1 (lastOr 0 (named e)) (f .labels) ≡ true
-unfolding entryKept
 entry-label f before e laid h =
-    let l = between 1 (e .level) (f .levels) in
-    let z = between 1 (e .size) (f .levels) in
-    let a = both (l && z && eqb (e .spare) 0 && all (λ x. between 1 x (f .labels)) (named e) && all (eqb 0) (drop (e .size) (e .labels)))
-    (levelKept before (e .level)) h in
-    let b = both (l && z && eqb (e .spare) 0 && all (λ x. between 1 x (f .labels)) (named e)) (all (eqb 0) (drop (e .size) (e .labels))) (a .0) in
-    let c = both (l && z && eqb (e .spare) 0) (all (λ x. between 1 x (f .labels)) (named e)) (b .0) in
-    let d = both (l && z) (eqb (e .spare) 0) (c .0) in
-    let g = both (leb 1 (e .size)) (leb (e .size) (f .levels)) (both l z (d .0) .1) in
-    let lo = leb-true 1 (e .size) (g .0) in
-    let hi = leb-true (e .size) (f .levels) (g .1) in
-    go (named e) (c .1) (omega (arith, length-take (e .size) (e .labels)))
+    let p = entry-parts f before e h in
+    go (named e) (p .labels) (omega (arith, p .size, length-take (e .size) (e .labels)))
   where
     go : (k : List ℕ) → all (λ x. between 1 x (f .labels)) k ≡ true → 0 < length k → between 1 (lastOr 0 k) (f .labels) ≡ true
     go [] q pos = absurd (not-suc-le-zero pos)

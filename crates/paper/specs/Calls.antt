@@ -5,7 +5,7 @@ use mathlib.Core.List.{List, [], _++_}
 use mathlib.Core.Option.{Option, none, some}
 use lib.Dec.{eqb, ltb}
 use lib.ListN.{length, getD, drop}
-use Rattle.paper.specs.Lists.{any, place, same}
+use Rattle.paper.specs.Lists.{any, place, firstPlace, same}
 use Rattle.paper.specs.Format.{Format, mostRows, mostTypes, mostEntries, mostLines, rowBytes, entryBytes, whole}
 use Rattle.paper.specs.Tables.{Row, rows, rowPart, badRow, rowTypes, types}
 use Rattle.paper.specs.Closeness.{Node, nodes}
@@ -62,9 +62,7 @@ typeTooMany rs =
 
 -- the first entry whose type has no row
 unfoldable pub typeMissing : List Row → List Entry → Option ℕ
-typeMissing rs es =
-    let i = place (λ e. not (any (same (named e)) (types rs))) es in
-    elim (ltb i (length es)) [ true ↦ some i | false ↦ none ]
+typeMissing rs es = firstPlace (λ e. not (any (same (named e)) (types rs))) es
 
 -- 1 to 3, and the rows
 unfoldable pub tests1-3 : Format → List ℕ → Answer (List Row)

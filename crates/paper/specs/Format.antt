@@ -18,6 +18,10 @@ format levels labels = record { levels = levels; labels = labels }
 unfoldable pub base : Format
 base = format 6 999
 
+-- levels 1 to 8, the same labels
+unfoldable pub eight : Format
+eight = format 8 999
+
 -- ---- limits
 abbrev pub mostRows : ℕ
 mostRows = 1024
@@ -43,11 +47,11 @@ listBytes f = 2 * f .levels
 abbrev pub valueBytes : ℕ
 valueBytes = 8
 
--- a record of a table (24 in the base)
+-- a record of a table (24 in the base, 28 on eight levels)
 abbrev pub rowBytes : Format → ℕ
 rowBytes f = headBytes + listBytes f + valueBytes
 
--- a record of a shape (16 in the base)
+-- a record of a shape (16 in the base, 20 on eight levels)
 abbrev pub entryBytes : Format → ℕ
 entryBytes f = headBytes + listBytes f
 

@@ -8,6 +8,7 @@ pub mod NewTable
 pub mod Figures
 pub mod Verdict
 pub mod Calls
+pub mod Widths
 pub mod Links
 pub mod MadeUp
 pub mod Sound
@@ -17,3 +18,4 @@ pub mod Opened
 pub mod Samples
 pub mod Further
 pub mod Tried
+pub mod WidthSamples

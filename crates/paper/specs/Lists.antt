@@ -5,7 +5,7 @@ use mathlib.Core.Logic.{_⊎_}
 use mathlib.Core.Bool.{Bool, true, false, _&&_, _||_, not}
 use mathlib.Core.List.{List, [], _∷_, _++_}
 use mathlib.Core.Option.{Option, none, some}
-use lib.Dec.{eqb, leb}
+use lib.Dec.{eqb, leb, ltb}
 use lib.ListN.{length, take, replicate}
 
 module _ {A : Type 0} where
@@ -46,6 +46,10 @@ module _ {A : Type 0} where
   abbrev pub place : (A → Bool) → List A → ℕ
   place p [] = 0
   place p (x ∷ xs) = elim (p x) [ true ↦ 0 | false ↦ suc (place p xs) ]
+
+  -- that place, none where none does
+  abbrev pub firstPlace : (A → Bool) → List A → Option ℕ
+  firstPlace p xs = let i = place p xs in elim (ltb i (length xs)) [ true ↦ some i | false ↦ none ]
 
   -- the lists one after the other
   abbrev pub joined : List (List A) → List A

@@ -1,8 +1,8 @@
 // Document 01 in definitions (specs/) and what is proved of them (proofs/). The one thing in code is the format, which the definitions and
-// the layers above share.
+// the layers above share, and which of the two a file has.
 
 ghost use mathlib.Core.Path.{_≡_};
-ghost use Rattle.paper.specs.Format.{base};
+ghost use Rattle.paper.specs.Widths.{formatOf};
 
 // What a width of the files may change.
 pub struct Format {
@@ -10,12 +10,24 @@ pub struct Format {
     pub labels: usize, // the largest label
 }
 
-// The format of document 01.
-pub fn base() -> Format
-    ensures { λ r. ⌜ r ≡ base ⌝ }
+// The widths of files: six levels, as in document 01, or eight. There is no third.
+pub enum Width {
+    Six,
+    Eight,
+}
+
+// The format that a width names.
+pub fn format_of(width: Width) -> Format
+    ensures { λ r. ⌜ r ≡ formatOf width ⌝ }
 {
-    Format {
-        levels: 6,
-        labels: 999,
+    match width {
+        Width::Six => Format {
+            levels: 6,
+            labels: 999,
+        },
+        Width::Eight => Format {
+            levels: 8,
+            labels: 999,
+        },
     }
 }
