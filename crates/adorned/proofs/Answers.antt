@@ -7,7 +7,7 @@ use lib.Dec.{ltb}
 use lib.ListN.{length, take, drop, replicate, length-append, length-map}
 use lib.Seq.{take-append-seam}
 use borrow.Author.Tests.{ltb-false}
-use Rattle.paper.specs.Format.{Format, base, mostTypes}
+use Rattle.paper.specs.Format.{Format, mostTypes}
 use Rattle.paper.specs.Adorned.{Summary, adorned}
 use Rattle.paper.specs.Calls.{Answer, refused, given, _>>=_, refuse, reply, tests1-4, after, adorning, adorn}
 use Rattle.paper.proofs.Calls.{bind-given, refuse-given, given-same}
@@ -61,13 +61,13 @@ answered lent before (given xs) r few many s = record {
 }
 
 -- what is to be shown of an answer r and the summaries that were lent, in the terms of the call
-module _ (t : List ℕ) (ys : List TypeSummary) (r : Adorned) (many : length (r .summaries) ≡ mostTypes) (s : Says (adornFigures t (length ys)) r) where
+module _ (f : Format) (t : List ℕ) (ys : List TypeSummary) (r : Adorned) (many : length (r .summaries) ≡ mostTypes) (s : Says (adornFigures f t (length ys)) r) where
   abbrev a : Answer (List Summary)
-  a = adorning base t (length ys)
+  a = adorning f t (length ys)
 
   all : Answered (length ys) (map told ys) a r
   unfolding adornFigures
-  all = answered (length ys) (map told ys) a r (given-few base t (length ys)) many s
+  all = answered (length ys) (map told ys) a r (given-few f t (length ys)) many s
 
   pub fits-lent : r .count ≤ length ys
   fits-lent = all .in-lent
@@ -75,10 +75,10 @@ module _ (t : List ℕ) (ys : List TypeSummary) (r : Adorned) (many : length (r 
   pub fits-placed : r .count ≤ mostTypes
   fits-placed = all .in-placed
 
-  pub answer : adornedTypes record { number = r .number; place = r .place; types = r .count } ≡ adorn base t (map told ys) .reply
+  pub answer : adornedTypes record { number = r .number; place = r .place; types = r .count } ≡ adorn f t (map told ys) .reply
   unfolding adorn
-  answer = all .reply-is ∙ ap (λ (n : ℕ). reply 0 (adorning base t n >>= (λ (xs : List Summary). given (length xs)))) (sym (length-map ys told))
+  answer = all .reply-is ∙ ap (λ (n : ℕ). reply 0 (adorning f t n >>= (λ (xs : List Summary). given (length xs)))) (sym (length-map ys told))
 
-  pub left : map told (front (r .count) (r .summaries) ys) ≡ adorn base t (map told ys) .summaries
+  pub left : map told (front (r .count) (r .summaries) ys) ≡ adorn f t (map told ys) .summaries
   unfolding adorn
-  left = map-front told (r .count) (r .summaries) ys ∙ all .left-is ∙ ap (λ (n : ℕ). after (map told ys) (adorning base t n)) (sym (length-map ys told))
+  left = map-front told (r .count) (r .summaries) ys ∙ all .left-is ∙ ap (λ (n : ℕ). after (map told ys) (adorning f t n)) (sym (length-map ys told))

@@ -4,7 +4,7 @@ use mathlib.Core.Path.{_≡_}
 use mathlib.Core.List.{List, [], _++_, map}
 use lib.ListN.{length, getD, replicate}
 use Rattle.paper.specs.Lists.{place, same, lastOr, up}
-use Rattle.paper.specs.Format.{Format, base, mostRows, mostTypes}
+use Rattle.paper.specs.Format.{Format, mostRows, mostTypes}
 use Rattle.paper.specs.Tables as Tables
 use Rattle.paper.specs.Tables.{Row, rowTypes, types}
 use Rattle.paper.specs.Closeness.{nodes}
@@ -55,5 +55,5 @@ pub record Says (a : Reply (List Summary)) (r : Adorned) : Type 0 where
   pub summaries-are : map told (r .summaries) ≡ placed (a .rest)
 
 -- what adorning finds out where so many places are lent
-unfoldable pub adornFigures : List ℕ → ℕ → Reply (List Summary)
-adornFigures t lent = reply [] (adorning base t lent)
+unfoldable pub adornFigures : Format → List ℕ → ℕ → Reply (List Summary)
+adornFigures f t lent = reply [] (adorning f t lent)

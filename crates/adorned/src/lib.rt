@@ -12,6 +12,7 @@ ghost use Prim.Native.Nat.{_≤_, _<_};
 ghost use lib.ListN.{length, take};
 ghost use Rattle.paper.specs.Tables as Tables;
 ghost use Rattle.paper.specs.Adorned.{adorned};
+ghost use Rattle.bytes.specs.Served.{Served};
 ghost use Rattle.closest.specs.Node.{Typed};
 ghost use Rattle.adorned.specs.Runs.{runs, low, high, CountRange};
 ghost use Rattle.adorned.specs.Told.{Listed, Counted, told, summaryAt, noSummary, placed, Says, adornFigures};
@@ -195,17 +196,17 @@ fn refused(number: usize, place: usize) -> Adorned
 }
 
 // Refusals 1 to 4, then 10 where fewer places are lent than the table has types, or the summaries of its types.
-pub fn adorn_by_value(table: &[u8], lent: usize) -> Adorned
-    ensures { λ r. ⌜ Says (adornFigures (now (table .entry)) lent) r ⌝ }
+pub fn adorn_by_value(table: &[u8], f: Format, lent: usize) -> Adorned
+    requires { ⌜ Served f ⌝ }
+    ensures { λ r. ⌜ Says (adornFigures f (now (table .entry)) lent) r ⌝ }
 {
-    let examined = examine(table);
+    let examined = examine(table, f);
     let number = examined.number;
     let place = examined.place;
     let rows = examined.rows;
     if number != 0 {
         return refused(number, place);
     }
-    let f = paper::base();
     let mut types = [0u8; 1024];
     let listed = list_types(table, f, rows, &mut types);
     let over = listed.over;

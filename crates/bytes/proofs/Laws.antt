@@ -7,7 +7,11 @@ use mathlib.Core.Path.{_≡_, sym, ap, subst}
 use mathlib.Core.List.{List}
 use lib.Dec.{lit≤}
 use lib.ListN.{length, getD, take, drop, length-take, length-drop}
-use Rattle.paper.specs.Format.{Format, base, word, number, span}
+use Rattle.paper.specs.Format.{Format, base, eight, word, number, span}
+use Rattle.paper.specs.Widths.{formatOf}
+use Rattle.paper.specs.declared.Width.{Width}
+use Rattle.paper.specs.declared.Width.the-variants.{Six, Eight}
+use Rattle.bytes.specs.Served.{Served}
 
 -- two bytes, the low one first
 pub word-bytes : (b : List ℕ) (i lo hi : ℕ) → lo ≡ getD b i 0 → hi ≡ getD b (i + 1) 0 → lo + 256 * hi ≡ word b i
@@ -32,7 +36,12 @@ record-length t w i h = simp (length-take, length-drop) (omega arith)
 pub record-in : (w i n l : ℕ) → i < n → w * n ≤ l → w * i + w ≤ l
 record-in w i n l h f = let e : w * (i + 1) ≤ w * n = mul-le-mul-left w (omega arith) in omega (arith, simp (mul-add, mul-one) at e)
 
--- the format of document 01 has no more levels than any width may have
-pub base-levels : (f : Format) → f ≡ base → f .levels ≤ 8
-unfolding base
-base-levels f e = subst (λ (g : Format). g .levels ≤ 8) (sym e) (lit≤ tt)
+-- both widths are served
+width-served : (w : Width) → Served (formatOf w)
+unfolding base eight
+width-served Six = record { deep = lit≤ tt; shallow = lit≤ tt; small = lit≤ tt }
+width-served Eight = record { deep = lit≤ tt; shallow = lit≤ tt; small = lit≤ tt }
+
+-- so is the format that a width names
+pub format-served : (f : Format) (w : Width) → f ≡ formatOf w → Served f
+format-served f w e = subst (λ (g : Format). Served g) (sym e) (width-served w)

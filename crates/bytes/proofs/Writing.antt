@@ -6,7 +6,7 @@ use native.Mathlib.Omega.{arith}
 use mathlib.Core.Path.{_≡_, refl, sym, _∙_, ap}
 use mathlib.Core.List.{List, [], _∷_, _++_}
 use lib.ListN.{length, getD, drop, set, drop-of-length-le}
-use lib.Seq.{sets, length-sets, drop-cons, set-set, set-comm}
+use lib.Seq.{sets, sets-eq, length-sets, drop-cons, set-set, set-comm}
 use Rattle.paper.specs.Lists.{joinMap}
 use Rattle.paper.specs.Format.{bytes}
 
@@ -14,6 +14,10 @@ use Rattle.paper.specs.Format.{bytes}
 sets-append : (a b l : List ℕ) (i : ℕ) → sets l i (a ++ b) ≡ sets (sets l i a) (i + length a) b
 sets-append [] b l i = rw add-zero
 sets-append (x ∷ a) b l i = sets-append a b (set l i x) (suc i) ∙ ap (λ n. sets (sets (set l i x) (suc i) a) n b) (omega arith)
+
+-- What is written from the first place on stands at the front, and the rest stays.
+pub front-written : (l vs : List ℕ) → length vs ≤ length l → sets l 0 vs ≡ vs ++ drop (length vs) l
+front-written l vs le = let e : 0 + length vs ≡ length vs = omega arith in sets-eq vs l 0 (omega arith) ∙ ap (λ n. [] ++ vs ++ drop n l) e
 
 -- What is still to be written (`rest` from place i on) brings the list to what is asked (`vs` from place `at` on).
 pub record Writing (l₀ : List ℕ) (at : ℕ) (vs l : List ℕ) (i : ℕ) (rest : List ℕ) : Type 0 where

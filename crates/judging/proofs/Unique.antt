@@ -3,7 +3,7 @@ use Prim.Native.Nat.{ℕ, zero, suc}
 use mathlib.Core.Path.{_≡_, refl, sym, _∙_, ap}
 use mathlib.Core.List.{List}
 use lib.ListN.{getD}
-use Rattle.paper.specs.Format.{base}
+use Rattle.paper.specs.Format.{Format}
 use Rattle.paper.specs.Calls.{Reply, judge}
 use Rattle.judging.specs.Told.{numbersOf}
 use Rattle.judging.specs.Judged.{InNumbers, judged, inNumbers}
@@ -27,8 +27,8 @@ of-numbers (Missing e r) = refl
 of-numbers (Apart e f) = refl
 of-numbers (Unsure e f) = refl
 
-pub judge-unique : (t s : List ℕ) (a b : Judged) → judged a ≡ inNumbers (judge base t s) → judged b ≡ inNumbers (judge base t s) → a ≡ b
-judge-unique t s a b p q =
+pub judge-unique : (f : Format) (t s : List ℕ) (a b : Judged) → judged a ≡ inNumbers (judge f t s) → judged b ≡ inNumbers (judge f t s) → a ≡ b
+judge-unique f t s a b p q =
     let e : judged a ≡ judged b = p ∙ sym q in
     let v : a .verdict ≡ b .verdict =
     sym (of-numbers (a .verdict)) ∙ ap (λ (x : Reply InNumbers). fromNumbers (x .rest .verdict)) e ∙ of-numbers (b .verdict) in

@@ -7,7 +7,7 @@ use mathlib.Core.List.{List, [], _∷_, _++_, map}
 use lib.Dec.{eqb}
 use lib.ListN.{length, getD, drop}
 use Rattle.paper.specs.Lists.{Has, keep, all, any, firstOr, joinMap, count}
-use Rattle.paper.specs.Format.{base}
+use Rattle.paper.specs.Format.{Format}
 use Rattle.paper.specs.Tables.{rows}
 use Rattle.paper.specs.Closeness.{Node, nodes, ofKind, kindsMeet, closestOf}
 use Rattle.paper.specs.Shapes as Paper
@@ -61,13 +61,13 @@ module _ (t : List Node) (p : Paper.Shape) (c : ℕ) where
   alone-is = refl
 
 -- ---- a prepared table and shape
-module _ {t sb : List ℕ} {w : Work} (r : Ready t sb w) where
+module _ {form : Format} {t sb : List ℕ} {w : Work} (r : Ready form t sb w) where
   abbrev ns : List Node
-  ns = nodes (rows base t)
+  ns = nodes (rows form t)
 
   -- the paper's shape
   abbrev p : Paper.Shape
-  p = shapeIn base t sb
+  p = shapeIn form t sb
 
   abbrev s : Shape
   s = w .shape
@@ -95,32 +95,32 @@ module _ {t sb : List ℕ} {w : Work} (r : Ready t sb w) where
 
   -- types meet no deeper than the levels of the format
   meeting-small : (e f : ℕ) → meeting ns p e f < 255
-  unfolding meeting base
+  unfolding meeting
   meeting-small e f =
       omega (
         arith,
-        kindsMeet-le ns (kind p e) (kind p f) 6 (λ x y o q.
-            omega (arith, shared-length (x .dewey) (y .dewey), level-most base (w .rows) t (w .types) (r .levelled .typed) x (o .0))),
+        kindsMeet-le ns (kind p e) (kind p f) (form .levels) (λ x y o q.
+            omega (arith, shared-length (x .dewey) (y .dewey), level-most form (w .rows) t (w .types) (r .levelled .typed) x (o .0))),
+        r .served .shallow,
       )
 
   pub room : length (w .ways) ≡ 128 → Room (w .shape) (w .ways)
-  unfolding base
   room long = record {
     sized = r .shaped .sized;
     ways-long = long;
-    short = λ e lt. omega (arith, r .shallow e lt);
+    short = λ e lt. omega (arith, r .shallow e lt, r .served .shallow);
     inside = λ e k lt lk.
         omega (
           arith,
           way-place (w .ways) e (levelOf s e) k lk,
           ap (λ v. getD v k 0) (r .holds .way-is e lt),
-          way-inside p (ways-are t sb (r .given-is)) e (entry-in e lt) k (deep e k lt lk),
+          way-inside p (ways-are form t sb (r .given-is)) e (entry-in e lt) k (deep e k lt lk),
           r .holds .counted,
         );
   }
     where
       deep : (e k : ℕ) → e < s .entries → k < levelOf s e → k < length (way p e)
-      deep e k lt lk = omega (arith, r .holds .level-is e lt, way-deep t sb (r .given-is) e (entry-in e lt) .0)
+      deep e k lt lk = omega (arith, r .holds .level-is e lt, way-deep form t sb (r .given-is) e (entry-in e lt) .0)
 
   -- ---- the verdict
   -- the rows of entry e without a partner, as verdicts: by runs, and by the paper
@@ -138,7 +138,7 @@ module _ {t sb : List ℕ} {w : Work} (r : Ready t sb w) where
     where
       one : (e : ℕ) → e < s .entries → told-rows e ≡ told-nodes e
       one e lt =
-          sym (alone-missing base (w .rows) t (w .levels) (w .types) (r .levelled) e (edgeOf s e) (typeOf s e) (typeOf s (parentOf s e)) (meets-up e lt))
+          sym (alone-missing form (w .rows) t (w .levels) (w .types) (r .levelled) e (edgeOf s e) (typeOf s e) (typeOf s (parentOf s e)) (meets-up e lt))
           ∙ ap (map (λ (r : Node). missing e (r .place))) (ap₂ (aloneOf ns) (r .holds .type-is e lt) (over-is e lt) ∙ alone-is ns p e)
 
       rest : (m n : ℕ) → m ≡ n → 1 ≤ m → count 1 (m - 1) ≡ drop 1 (count 0 n)
@@ -146,7 +146,7 @@ module _ {t sb : List ℕ} {w : Work} (r : Ready t sb w) where
       rest m (suc n) q le = let k : m - 1 ≡ n = omega arith in ap (count 1) k
 
   pub alone-verdict : (v : Verdict.Verdict) → v ≡ firstOr kept (loneFrom (w .levels) (w .types) (w .rows) (w .shape) 1 (w .shape .entries - 1))
-      → (v ≡ kept → ⊥) → v ≡ verdict (nodes (rows base t)) (shapeIn base t sb)
+      → (v ≡ kept → ⊥) → v ≡ verdict (nodes (rows form t)) (shapeIn form t sb)
   unfolding verdict
   alone-verdict v e ne =
       let q = e ∙ ap (firstOr kept) lone-is in
@@ -156,13 +156,13 @@ module _ {t sb : List ℕ} {w : Work} (r : Ready t sb w) where
   -- the edges on a path are among the entries, and the types meet no deeper than levels go
   inside : (e f : ℕ) → e < f → f < s .entries → (c : ℕ) → Has c (path p e f) → c < s .entries
   inside e f lt lf c h =
-      omega (arith, path-inside p (ways-are t sb (r .given-is)) e f (entry-in e (omega arith)) (entry-in f lf) c h, r .holds .counted)
+      omega (arith, path-inside p (ways-are form t sb (r .given-is)) e f (entry-in e (omega arith)) (entry-in f lf) c h, r .holds .counted)
 
   small : (e f : ℕ) → e < f → f < s .entries → meetingOf (w .meetings) (s .types) e f < 255
   small e f lt lf = omega (arith, meeting-is e f (omega arith) lf, meeting-small e f)
 
   -- no pair earns a 2, by the arrays and by the paper
-  pub apart-are : noPairApart (w .shape) (w .ways) (w .meetings) ≡ noneApart (nodes (rows base t)) (shapeIn base t sb)
+  pub apart-are : noPairApart (w .shape) (w .ways) (w .meetings) ≡ noneApart (nodes (rows form t)) (shapeIn form t sb)
   unfolding noPairApart noneApart
   apart-are =
       pairs-related NoneIn refl none-more (apartPair s (w .ways) (w .meetings)) (pairFault ns p) 0 (s .entries) (λ e f ge lt lf. pair e f lt (omega arith))
@@ -179,7 +179,7 @@ module _ {t sb : List ℕ} {w : Work} (r : Ready t sb w) where
     fulls-are : (c : ℕ) → c < s .entries → getD fulls c false ≡ full ns p c
     fulls-are c lt =
         filled c lt
-        ∙ sym (alone-empty base (w .rows) t (w .levels) (w .types) (r .levelled) (edgeOf s c) (typeOf s (parentOf s c)) (typeOf s c) (r .shaped .meets c lt))
+        ∙ sym (alone-empty form (w .rows) t (w .levels) (w .types) (r .levelled) (edgeOf s c) (typeOf s (parentOf s c)) (typeOf s c) (r .shaped .meets c lt))
         ∙ ap₂ (λ a b. isEmpty (aloneOf ns a b)) (over-is c lt) (r .holds .type-is c lt) ∙ full-is ns p c
 
     faults-are : firstFault s (w .ways) fulls (w .meetings) ≡ firstOr kept (overPairs (pairFault ns p) (numbers p))
@@ -199,7 +199,7 @@ module _ {t sb : List ℕ} {w : Work} (r : Ready t sb w) where
   -- where no row is without a partner all edges are walked, and the first pair that earns a 2 or a 3 decides
   pub pair-verdict : (edges : Edges) → WalkedTo (w .levels) (w .types) (w .rows) (w .shape) edges
       → firstOr kept (loneFrom (w .levels) (w .types) (w .rows) (w .shape) 1 (w .shape .entries - 1)) ≡ kept
-      → firstFault (w .shape) (w .ways) (edges .full) (w .meetings) ≡ verdict (nodes (rows base t)) (shapeIn base t sb)
+      → firstFault (w .shape) (w .ways) (edges .full) (w .meetings) ≡ verdict (nodes (rows form t)) (shapeIn form t sb)
   unfolding verdict
   pair-verdict edges walked q =
       let none = none-lone (w .levels) (w .types) (w .rows) s 1 (s .entries - 1) q in
@@ -208,15 +208,15 @@ module _ {t sb : List ℕ} {w : Work} (r : Ready t sb w) where
       ∙ ap (λ l. firstOr kept (l ++ overPairs (pairFault ns p) (numbers p))) (sym (sym lone-is ∙ none))
 
 -- ---- the answer
-module _ {t sb : List ℕ} {w : Work} (p : Prepared t sb w) where
-  pub judge-refused : (w .number ≡ 0 → ⊥) → record { number = w .number; place = w .place; rest = noJudgement } ≡ judge base t sb
+module _ {form : Format} {t sb : List ℕ} {w : Work} (p : Prepared form t sb w) where
+  pub judge-refused : (w .number ≡ 0 → ⊥) → record { number = w .number; place = w .place; rest = noJudgement } ≡ judge form t sb
   unfolding judge
   judge-refused ne = sym (ap (λ a. reply noJudgement (a >>= (λ x. given (judgement (x .nodes) (x .shape))))) (p .refused-is ne))
 
   -- the verdict v and the second answer n are those of the paper
-  pub judge-given : w .number ≡ 0 → (v : Verdict.Verdict) (n : Bool) → v ≡ verdict (nodes (rows base t)) (shapeIn base t sb)
+  pub judge-given : w .number ≡ 0 → (v : Verdict.Verdict) (n : Bool) → v ≡ verdict (nodes (rows form t)) (shapeIn form t sb)
       → n ≡ noPairApart (w .shape) (w .ways) (w .meetings)
-      → record { number = 0; place = 0; rest = record { verdict = v; noneApart = n } } ≡ judge base t sb
+      → record { number = 0; place = 0; rest = record { verdict = v; noneApart = n } } ≡ judge form t sb
   unfolding judge
   judge-given z v n e q =
       ap₂ {C = Reply Judgement} (λ v n. record { number = 0; place = 0; rest = record { verdict = v; noneApart = n } }) e (q ∙ apart-are (p .ready z))

@@ -5,10 +5,11 @@ use crate::pairs::first_fault;
 use crate::second::none_apart;
 use crate::second::none_apart_beside;
 use crate::verdict::Verdict;
+use paper::Format;
 use shapes::work::prepare;
 ghost use mathlib.Core.Path.{_≡_};
-ghost use Rattle.paper.specs.Format.{base};
 ghost use Rattle.paper.specs.Calls.{judge};
+ghost use Rattle.bytes.specs.Served.{Served};
 ghost use Rattle.judging.specs.Judged.{judged, inNumbers};
 
 // What judging answers: a refusal with verdict Kept and no, or the verdict and the second answer.
@@ -31,8 +32,9 @@ fn given(verdict: Verdict, none: bool) -> Judged
 }
 
 // Refusals 1 to 7, or the verdict, a row without a partner before all pairs, and the second answer over all pairs.
-pub fn judge(table: &[u8], shape: &[u8]) -> Judged
-    ensures { λ r. ⌜ judged r ≡ inNumbers (judge base (now (table .entry)) (now (shape .entry))) ⌝ }
+pub fn judge(table: &[u8], shape: &[u8], f: Format) -> Judged
+    requires { ⌜ Served f ⌝ }
+    ensures { λ r. ⌜ judged r ≡ inNumbers (judge f (now (table .entry)) (now (shape .entry))) ⌝ }
 {
     let mut levels = [0u8; 1024];
     let mut types = [0u8; 1024];
@@ -41,6 +43,7 @@ pub fn judge(table: &[u8], shape: &[u8]) -> Judged
     let prepared = prepare(
         table,
         shape,
+        f,
         &mut levels,
         &mut types,
         &mut meetings,

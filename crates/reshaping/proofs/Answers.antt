@@ -4,7 +4,7 @@ use mathlib.Core.Path.{_≡_, _∙_, ap}
 use mathlib.Core.List.{List, _++_}
 use lib.ListN.{length, drop, length-map}
 use borrow.Author.Tests.{lt-ltb, le-ltb}
-use Rattle.paper.specs.Format.{base, mostLines}
+use Rattle.paper.specs.Format.{Format, mostLines}
 use Rattle.paper.specs.Tables.{rows}
 use Rattle.paper.specs.Closeness.{Node, nodes}
 use Rattle.paper.specs.Shapes.{Shape}
@@ -15,21 +15,21 @@ use Rattle.shapes.specs.Tests.{shapeIn}
 use Rattle.shapes.specs.Work.{Prepared}
 use Rattle.shapes.specs.Work
 
-module _ {t s : List ℕ} {w : Work.Work} (p : Prepared t s w) where
+module _ {f : Format} {t s : List ℕ} {w : Work.Work} (p : Prepared f t s w) where
   abbrev ns : List Node
-  ns = nodes (rows base t)
+  ns = nodes (rows f t)
 
   abbrev sh : Shape
-  sh = shapeIn base t s
+  sh = shapeIn f t s
 
   abbrev ls : List Line
-  ls = lines ns sh 6
+  ls = lines ns sh (f .levels)
 
   abbrev work : Work
-  work = record { rows = rows base t; nodes = ns; shape = sh }
+  work = record { rows = rows f t; nodes = ns; shape = sh }
 
   abbrev counted : Work → Answer Figures
-  counted x = test8 base x mostLines >>= (λ l. given (figures (x .nodes) (x .shape) l))
+  counted x = test8 f x mostLines >>= (λ l. given (figures (x .nodes) (x .shape) l))
 
   module _ (table sources : List ℕ) where
     -- what a reshape leaves, once it is known what it gives
@@ -42,60 +42,60 @@ module _ {t s : List ℕ} {w : Work.Work} (p : Prepared t s w) where
 
     -- what is written of the lines, and before it the test after 7
     abbrev written : List Line → Answer (List ℕ × List ℕ)
-    written l = given (newTable base sh (rows base t) l, sourceList l)
+    written l = given (newTable f sh (rows f t) l, sourceList l)
 
     abbrev rest : Work → Answer (List ℕ × List ℕ)
     rest x =
-        test8 base x (roomIn base table sources)
-        >>= (λ (l : List Line). given (newTable base (x .shape) (x .rows) l, sourceList l))
+        test8 f x (roomIn f table sources)
+        >>= (λ (l : List Line). given (newTable f (x .shape) (x .rows) l, sourceList l))
 
-    pub reshape-refused : (w .number ≡ 0 → ⊥) → reshape base t s table sources ≡ record { reply = record { number = w .number; place = w .place; rest = 0 }; table = table; sources = sources }
+    pub reshape-refused : (w .number ≡ 0 → ⊥) → reshape f t s table sources ≡ record { reply = record { number = w .number; place = w .place; rest = 0 }; table = table; sources = sources }
     unfolding reshape reshaping
     reshape-refused ne = ap (λ a. from (a >>= rest)) (p .refused-is ne)
 
     module _ (z : w .number ≡ 0) where
-      same : reshape base t s table sources ≡ from (rest work)
+      same : reshape f t s table sources ≡ from (rest work)
       unfolding reshape reshaping
       same = ap (λ a. from (a >>= rest)) (p .ready z .given-is)
 
       -- 8: more lines than there is room for
-      pub reshape-full : roomIn base table sources < length (lines (nodes (rows base t)) (shapeIn base t s) 6)
-          → reshape base t s table sources ≡ record { reply = record { number = 8; place = 0; rest = 0 }; table = table; sources = sources }
-      unfolding test8 base
-      reshape-full lt = same ∙ ap (λ b. from (refuse 8 b >>= (λ _. given ls) >>= written)) (lt-ltb (roomIn base table sources) (length ls) lt)
+      pub reshape-full : roomIn f table sources < length (lines (nodes (rows f t)) (shapeIn f t s) (f .levels))
+          → reshape f t s table sources ≡ record { reply = record { number = 8; place = 0; rest = 0 }; table = table; sources = sources }
+      unfolding test8
+      reshape-full lt = same ∙ ap (λ b. from (refuse 8 b >>= (λ _. given ls) >>= written)) (lt-ltb (roomIn f table sources) (length ls) lt)
 
-      pub reshape-given : length (lines (nodes (rows base t)) (shapeIn base t s) 6) ≤ roomIn base table sources
-          → let new = newTable base (shapeIn base t s) (rows base t) (lines (nodes (rows base t)) (shapeIn base t s) 6) in
-          let list = sourceList (lines (nodes (rows base t)) (shapeIn base t s) 6) in
-          reshape base t s table sources ≡ record {
-            reply = record { number = 0; place = 0; rest = length (lines (nodes (rows base t)) (shapeIn base t s) 6) };
+      pub reshape-given : length (lines (nodes (rows f t)) (shapeIn f t s) (f .levels)) ≤ roomIn f table sources
+          → let new = newTable f (shapeIn f t s) (rows f t) (lines (nodes (rows f t)) (shapeIn f t s) (f .levels)) in
+          let list = sourceList (lines (nodes (rows f t)) (shapeIn f t s) (f .levels)) in
+          reshape f t s table sources ≡ record {
+            reply = record { number = 0; place = 0; rest = length (lines (nodes (rows f t)) (shapeIn f t s) (f .levels)) };
             table = new ++ drop (length new) table;
             sources = list ++ drop (length list) sources;
           }
-      unfolding test8 base sourceList
+      unfolding test8 sourceList
       reshape-given le =
-          same ∙ ap (λ b. from (refuse 8 b >>= (λ _. given ls) >>= written)) (le-ltb (roomIn base table sources) (length ls) le)
-          ∙ ap {B = Reshaping} (λ n. record { reply = record { number = 0; place = 0; rest = n }; table = newTable base sh (rows base t) ls ++ drop (length (newTable base sh (rows base t) ls)) table; sources = sourceList ls ++ drop (length (sourceList ls)) sources }) (length-map ls (λ (l : Line). l .entry * entryUnit + l .source .place))
+          same ∙ ap (λ b. from (refuse 8 b >>= (λ _. given ls) >>= written)) (le-ltb (roomIn f table sources) (length ls) le)
+          ∙ ap {B = Reshaping} (λ n. record { reply = record { number = 0; place = 0; rest = n }; table = newTable f sh (rows f t) ls ++ drop (length (newTable f sh (rows f t) ls)) table; sources = sourceList ls ++ drop (length (sourceList ls)) sources }) (length-map ls (λ (l : Line). l .entry * entryUnit + l .source .place))
 
   -- ---- summarising
-  pub summary-refused : (w .number ≡ 0 → ⊥) → summarise base t s ≡ record { number = w .number; place = w .place; rest = noFigures }
+  pub summary-refused : (w .number ≡ 0 → ⊥) → summarise f t s ≡ record { number = w .number; place = w .place; rest = noFigures }
   unfolding summarise
   summary-refused ne = ap (λ a. reply noFigures (a >>= counted)) (p .refused-is ne)
 
   module _ (z : w .number ≡ 0) where
-    pub summary-full : mostLines < length (lines (nodes (rows base t)) (shapeIn base t s) 6) → summarise base t s ≡ record { number = 8; place = 0; rest = noFigures }
-    unfolding summarise test8 base
+    pub summary-full : mostLines < length (lines (nodes (rows f t)) (shapeIn f t s) (f .levels)) → summarise f t s ≡ record { number = 8; place = 0; rest = noFigures }
+    unfolding summarise test8
     summary-full lt =
         ap (λ a. reply noFigures (a >>= counted)) (p .ready z .given-is)
         ∙ ap (λ b. reply noFigures (refuse 8 b >>= (λ _. given ls) >>= (λ l. given (figures ns sh l)))) (lt-ltb mostLines (length ls) lt)
 
-    pub summary-given : length (lines (nodes (rows base t)) (shapeIn base t s) 6) ≤ mostLines
-        → summarise base t s ≡ record {
+    pub summary-given : length (lines (nodes (rows f t)) (shapeIn f t s) (f .levels)) ≤ mostLines
+        → summarise f t s ≡ record {
           number = 0;
           place = 0;
-          rest = figures (nodes (rows base t)) (shapeIn base t s) (lines (nodes (rows base t)) (shapeIn base t s) 6);
+          rest = figures (nodes (rows f t)) (shapeIn f t s) (lines (nodes (rows f t)) (shapeIn f t s) (f .levels));
         }
-    unfolding summarise test8 base
+    unfolding summarise test8
     summary-given le =
         ap (λ a. reply noFigures (a >>= counted)) (p .ready z .given-is)
         ∙ ap (λ b. reply noFigures (refuse 8 b >>= (λ _. given ls) >>= (λ l. given (figures ns sh l)))) (le-ltb mostLines (length ls) le)

@@ -9,7 +9,7 @@ use lib.ListN.{length, getD, take, length-append}
 use lib.Seq.{take-at}
 use borrow.Author.Tests.{eqb-true, eq-eqb}
 use Rattle.paper.specs.Lists.{keep, count, same, up, lastOr}
-use Rattle.paper.specs.Format.{base}
+use Rattle.paper.specs.Format.{Format}
 use Rattle.paper.specs.Tables.{rows}
 use Rattle.paper.specs.Closeness.{nodes}
 use Rattle.paper.specs.Shapes.{Shape, entries, way, parent, children}
@@ -36,26 +36,26 @@ keep-skip p (suc k) i n h =
     first true e = absurd (true≢false e)
     first false e = refl
 
-module _ {t sb : List ℕ} {w : Work} (y : Ready t sb w) where
+module _ {f : Format} {t sb : List ℕ} {w : Work} (y : Ready f t sb w) where
   abbrev sh : Shape
-  sh = shapeIn base t sb
+  sh = shapeIn f t sb
 
   entry-in : (e : ℕ) → e < w .shape .entries → e < length (sh .ways)
   entry-in e lt = omega (arith, y .holds .counted)
 
   -- the way of a later entry is its parent's, and itself
   over-way : (c : ℕ) → 0 < c → c < w .shape .entries → way sh c ≡ way sh (parent sh c) ++ (c ∷ [])
-  over-way c pos lt = go (ways-are t sb (y .given-is) .own c (entry-in c lt))
+  over-way c pos lt = go (ways-are f t sb (y .given-is) .own c (entry-in c lt))
     where
       go : ((u : List ℕ) × (way sh c ≡ u ++ (c ∷ []))) → way sh c ≡ way sh (parent sh c) ++ (c ∷ [])
       go ([], e) =
-          let (v, q) = ways-are t sb (y .given-is) .root c (entry-in c lt) in
+          let (v, q) = ways-are f t sb (y .given-is) .root c (entry-in c lt) in
           let no : ⊥ = omega (arith, ap (lastOr 0) (sym e ∙ q), ap (λ l. getD l 0 0) (sym e ∙ q)) in absurd no
       go (x ∷ u, e) =
           let n = length (x ∷ u) in
-          let (g, lg, q) = ways-are t sb (y .given-is) .cut c (entry-in c lt) n (omega arith) (omega (arith, ap length e, length-append (x ∷ u) (c ∷ []))) in
+          let (g, lg, q) = ways-are f t sb (y .given-is) .cut c (entry-in c lt) n (omega arith) (omega (arith, ap length e, length-append (x ∷ u) (c ∷ []))) in
           let up-is : way sh g ≡ x ∷ u = q ∙ ap (take n) e ∙ take-at (x ∷ u) (c ∷ []) n refl in
-          let g-is : parent sh c ≡ g = ap (lastOr 0) (ap up e ∙ up-snoc (x ∷ u) c ∙ sym up-is) ∙ last-way sh (ways-are t sb (y .given-is)) g lg in
+          let g-is : parent sh c ≡ g = ap (lastOr 0) (ap up e ∙ up-snoc (x ∷ u) c ∙ sym up-is) ∙ last-way sh (ways-are f t sb (y .given-is)) g lg in
           e ∙ ap (λ v. v ++ (c ∷ [])) (sym up-is ∙ ap (way sh) (sym g-is))
 
   module _ (e : ℕ) (le : e < w .shape .entries) where
@@ -65,7 +65,7 @@ module _ {t sb : List ℕ} {w : Work} (y : Ready t sb w) where
     -- a child's way is the entry's, and itself
     child-way : (c : ℕ) → c < w .shape .entries → child c ≡ true → way sh c ≡ way sh e ++ (c ∷ [])
     child-way c lt h =
-        let (u, q) = ways-are t sb (y .given-is) .own c (entry-in c lt) in
+        let (u, q) = ways-are f t sb (y .given-is) .own c (entry-in c lt) in
         q ∙ ap (λ v. v ++ (c ∷ [])) (sym (up-snoc u c) ∙ sym (ap up q) ∙ same-eq (up (way sh c)) (way sh e) h)
 
     -- an entry up to e is no child of it
@@ -77,9 +77,9 @@ module _ {t sb : List ℕ} {w : Work} (y : Ready t sb w) where
         go true h =
             let lc : c < w .shape .entries = omega arith in
             let q = child-way c lc h in
-            let pos = child-pos sh (ways-are t sb (y .given-is)) e c (entry-in e le) (entry-in c lc) q in
-            let is = child-parent sh (ways-are t sb (y .given-is)) e c (entry-in e le) q in
-            let near = over t sb (y .given-is) c pos (entry-in c lc) .0 in
+            let pos = child-pos sh (ways-are f t sb (y .given-is)) e c (entry-in e le) (entry-in c lc) q in
+            let is = child-parent sh (ways-are f t sb (y .given-is)) e c (entry-in e le) q in
+            let near = over f t sb (y .given-is) c pos (entry-in c lc) .0 in
             let no : ⊥ = omega (arith, is, near) in absurd no
 
     late : (c : ℕ) → e < c → c < w .shape .entries → child c ≡ eqb (parentOf (w .shape) c) e
@@ -87,7 +87,7 @@ module _ {t sb : List ℕ} {w : Work} (y : Ready t sb w) where
       where
         yes : child c ≡ true → eqb (parentOf (w .shape) c) e ≡ true
         yes h =
-            let up-is = child-parent sh (ways-are t sb (y .given-is)) e c (entry-in e le) (child-way c lc h) in
+            let up-is = child-parent sh (ways-are f t sb (y .given-is)) e c (entry-in e le) (child-way c lc h) in
             eq-eqb (parentOf (w .shape) c) e (y .holds .parent-is c lc ∙ up-is)
 
         no : eqb (parentOf (w .shape) c) e ≡ true → child c ≡ true
@@ -95,7 +95,7 @@ module _ {t sb : List ℕ} {w : Work} (y : Ready t sb w) where
             let up-is = sym (y .holds .parent-is c lc) ∙ eqb-true (parentOf (w .shape) c) e h in
             eq-same (ap up (over-way c (omega arith) lc) ∙ up-snoc (way sh (parent sh c)) c ∙ ap (way sh) up-is)
 
-    pub children-are : childrenOf (nodes (rows base t)) (w .shape) e ≡ children (shapeIn base t sb) e
+    pub children-are : childrenOf (nodes (rows f t)) (w .shape) e ≡ children (shapeIn f t sb) e
     children-are =
         let n = w .shape .entries - (e + 1) in
         let q : e + 1 + n ≡ length (sh .ways) = omega (arith, y .holds .counted) in

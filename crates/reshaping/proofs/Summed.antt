@@ -8,7 +8,7 @@ use lib.Dec.{eqb, leb}
 use lib.ListN.{length, getD, length-map}
 use borrow.Author.Tests.{eqb-false, leb-true, leb-false}
 use Rattle.paper.specs.Lists.{keep, any, count, padded}
-use Rattle.paper.specs.Format.{base, mostLines}
+use Rattle.paper.specs.Format.{Format, mostLines}
 use Rattle.paper.specs.Tables.{rows}
 use Rattle.paper.specs.Closeness.{Node, nodes, ofKind}
 use Rattle.paper.specs.Shapes.{Shape, kind, numbers}
@@ -23,9 +23,10 @@ use Rattle.shapes.specs.Tests.{shapeIn}
 use Rattle.shapes.specs.Shape.{typeOf}
 use Rattle.shapes.specs.Work.{Work, Ready}
 use Rattle.shapes.specs.declared.shape.Shape as Drawn
-use Rattle.lines.specs.Lines.{Numbered, linesOf}
+use Rattle.lines.specs.Lines.{Numbered}
 use Rattle.lines.specs.Count.{shown, ofEntry, Counted}
 use Rattle.lines.specs.Counting.{Shallow, CountedOf}
+use Rattle.lines.specs.Write.{allLines}
 use Rattle.lines.specs.declared.count.Tally.{Tally}
 use Rattle.lines.proofs.SumOver.{only}
 use Rattle.lines.proofs.Sums.{sum-same}
@@ -65,29 +66,28 @@ module _ {n : ℕ} {types : List ℕ} {s : Drawn.Shape} {ls : List Numbered} {sh
       go true q = omega (arith, c .total-is (leb-true (length ls) mostLines q))
       go false q = omega (arith, leb-false (length ls) mostLines q)
 
-module _ {t sb : List ℕ} {w : Work} (y : Ready t sb w) where
+module _ {f : Format} {t sb : List ℕ} {w : Work} (y : Ready f t sb w) where
   abbrev ns : List Node
-  ns = nodes (rows base t)
+  ns = nodes (rows f t)
 
   abbrev sh : Shape
-  sh = shapeIn base t sb
+  sh = shapeIn f t sb
 
   -- ---- the count
-  -- no entry is deeper than the base
-  pub shallow : Shallow (w .shape) 5
-  unfolding base
-  shallow e lt = omega (arith, y .shallow e lt)
+  -- no entry is deeper than the format
+  shallow : Shallow (w .shape) (f .levels - 1)
+  shallow e lt = omega (arith, y .shallow e lt, y .served .deep)
 
   pub counted-here : {shows : List ℕ} {b : Tally} → CountedOf (w .rows) (w .levels) (w .types) (w .shape) shows b
-      → Counted (w .rows) (w .types) (w .shape) (linesOf (nodes (rows base t)) (w .shape) 5) shows b
-  counted-here c = c base t 5 (y .levelled) (y .shaped) shallow
+      → Counted (w .rows) (w .types) (w .shape) (allLines f t (w .shape)) shows b
+  counted-here c = c f t (f .levels - 1) (y .levelled) (y .shaped) shallow
 
   -- ---- the figures
   abbrev ls : List Line
-  ls = lines ns sh 6
+  ls = lines ns sh (f .levels)
 
   abbrev found : List Numbered
-  found = linesOf ns (w .shape) 5
+  found = allLines f t (w .shape)
 
   abbrev toLine : Numbered → Line
   toLine x = record { entry = x .0 .0; source = x .0 .1; dewey = x .1 }
@@ -101,27 +101,27 @@ module _ {t sb : List ℕ} {w : Work} (y : Ready t sb w) where
   shown-of e = sym (ap length (entry-lines e) ∙ length-map (ofEntry e found) toLine)
 
   -- a row's place is that of a line of the entry
-  appears-at : (e i : ℕ) → appears (entryLines ls e) (node base t i) ≡ any (λ (x : Numbered). eqb (x .0 .1 .place) i) (ofEntry e found)
+  appears-at : (e i : ℕ) → appears (entryLines ls e) (node f t i) ≡ any (λ (x : Numbered). eqb (x .0 .1 .place) i) (ofEntry e found)
   unfolding appears
   appears-at e i =
       ap (any (λ (l : Line). eqb (l .source .place) i)) (entry-lines e) ∙ any-map (λ (l : Line). eqb (l .source .place) i) toLine (ofEntry e found)
 
   module _ (e : ℕ) (lt : e < w .shape .entries) where
-    kind-is : (i : ℕ) → i < w .rows → eqb (getD (w .types) i 0) (typeOf (w .shape) e) ≡ eqb (node base t i .kind) (kind sh e)
-    kind-is i li = ap₂ eqb (kind-at base (w .rows) t (w .types) (y .levelled .typed) i li) (y .holds .type-is e lt)
+    kind-is : (i : ℕ) → i < w .rows → eqb (getD (w .types) i 0) (typeOf (w .shape) e) ≡ eqb (node f t i .kind) (kind sh e)
+    kind-is i li = ap₂ eqb (kind-at f (w .rows) t (w .types) (y .levelled .typed) i li) (y .holds .type-is e lt)
 
     held-is : heldBy (w .types) (w .rows) (typeOf (w .shape) e) ≡ length (ofKind ns (kind sh e))
     unfolding ofKind
     held-is =
         sum-same _ _ (w .rows) (λ i li. ap (λ b. only b 1) (kind-is i li))
-        ∙ sym (rows-kept base (w .rows) t (w .types) (y .levelled .typed) (λ (r : Node). eqb (r .kind) (kind sh e)))
+        ∙ sym (rows-kept f (w .rows) t (w .types) (y .levelled .typed) (λ (r : Node). eqb (r .kind) (kind sh e)))
 
     -- a row of another type is not shown
     different-is : {shows : List ℕ} {b : Tally} → Counted (w .rows) (w .types) (w .shape) found shows b → length found ≤ mostLines
         → differentIn (w .types) (w .rows) (typeOf (w .shape) e) shows e ≡ length (differentRows ns (entryLines ls e))
     unfolding differentRows
     different-is {shows} c few =
-        sum-same _ _ (w .rows) each ∙ sym (rows-kept base (w .rows) t (w .types) (y .levelled .typed) (appears (entryLines ls e)))
+        sum-same _ _ (w .rows) each ∙ sym (rows-kept f (w .rows) t (w .types) (y .levelled .typed) (appears (entryLines ls e)))
       where
         k : ℕ
         k = typeOf (w .shape) e
@@ -130,13 +130,13 @@ module _ {t sb : List ℕ} {w : Work} (y : Ready t sb w) where
         own i li true q = refl
         own i li false q = ap (λ n. min n 1) (sym (c .typed few e i lt li (eqb-false (getD (w .types) i 0) k q)))
 
-        each : (i : ℕ) → i < w .rows → only (eqb (getD (w .types) i 0) k) (min (shown shows e i) 1) ≡ only (appears (entryLines ls e) (node base t i)) 1
+        each : (i : ℕ) → i < w .rows → only (eqb (getD (w .types) i 0) k) (min (shown shows e i) 1) ≡ only (appears (entryLines ls e) (node f t i)) 1
         each i li =
             own i li (eqb (getD (w .types) i 0) k) refl ∙ ap (λ n. min n 1) (c .shows-are few e i lt li)
             ∙ any-one (λ (x : Numbered). eqb (x .0 .1 .place) i) (ofEntry e found) ∙ sym (ap (λ d. only d 1) (appears-at e i))
 
-  module _ {shows : List ℕ} {b : Tally} (c : Counted (w .rows) (w .types) (w .shape) (linesOf (nodes (rows base t)) (w .shape) 5) shows b)
-      (fits : length (linesOf (nodes (rows base t)) (w .shape) 5) ≤ mostLines) where
+  module _ {shows : List ℕ} {b : Tally} (c : Counted (w .rows) (w .types) (w .shape) (allLines f t (w .shape)) shows b)
+      (fits : length (allLines f t (w .shape)) ≤ mostLines) where
     few : w .shape .entries ≤ 16
     few = y .shaped .sized .few
 
@@ -145,19 +145,19 @@ module _ {t sb : List ℕ} {w : Work} (y : Ready t sb w) where
 
     -- different rows are never more than lines
     pub different-fits : (e : ℕ) → e < w .shape .entries → differentIn (w .types) (w .rows) (typeOf (w .shape) e) shows e ≤ getD (b .lines) e 0
-    different-fits e lt = omega (arith, different-is e lt c fits, line-count e (omega (arith, few)), different-few (rows base t) (entryLines ls e))
+    different-fits e lt = omega (arith, different-is e lt c fits, line-count e (omega (arith, few)), different-few (rows f t) (entryLines ls e))
 
     -- the answer is the paper's
     pub summed : (x : Summary) → length (b .lines) ≡ 16
         → Figured (w .types) (w .rows) (w .shape .types) (w .shape .entries) shows (b .lines) x → summarised x ≡ record {
           number = 0;
           place = 0;
-          rest = figures (nodes (rows base t)) (shapeIn base t sb) (lines (nodes (rows base t)) (shapeIn base t sb) 6);
+          rest = figures (nodes (rows f t)) (shapeIn f t sb) (lines (nodes (rows f t)) (shapeIn f t sb) (f .levels));
         }
-    unfolding figures base
+    unfolding figures
     summed x long q =
         ap₂ {C = Reply Figures} (λ n p. record { number = n; place = p; rest = summarised x .rest }) (q .accepted .0) (q .accepted .1)
-        ∙ ap {B = Reply Figures} (λ f. record { number = 0; place = 0; rest = f })
+        ∙ ap {B = Reply Figures} (λ x. record { number = 0; place = 0; rest = x })
         (ap₂ {C = Figures} (λ l r. record { lines = l; rows = r; copies = x .copies; different = x .different }) (q .lines-are ∙ lines-is) rows-is
         ∙ ap₂ {C = Figures} (λ c d. record { lines = placesOf shownOf; rows = placesOf heldOf; copies = c; different = d }) copies-is all-is)
       where
@@ -180,7 +180,7 @@ module _ {t sb : List ℕ} {w : Work} (y : Ready t sb w) where
 
         lines-is : b .lines ≡ placesOf shownOf
         lines-is = filled (b .lines) shownOf long (λ e lt. line-count e (omega (arith, few)))
-            (λ e le lt. c .lines-are fits e lt ∙ of-none ns (w .shape) (y .shaped .sized) 5 e le)
+            (λ e le lt. c .lines-are fits e lt ∙ of-none ns (w .shape) (y .shaped .sized) (f .levels - 1) e le)
 
         rows-is : x .rows ≡ placesOf heldOf
         rows-is = filled (x .rows) heldOf (q .rows-are .long) (λ e lt. q .rows-are .each e lt ∙ held-is e lt) (λ e le _. q .rows-are .rest e le)

@@ -4,7 +4,7 @@ use mathlib.Core.Path.{_≡_, sym, _∙_, ap, subst}
 use mathlib.Core.Bool.{true}
 use mathlib.Core.List.{List}
 use lib.ListN.{take}
-use Rattle.paper.specs.Format.{base, mostRows, rowBytes}
+use Rattle.paper.specs.Format.{Format, mostRows, rowBytes}
 use Rattle.paper.specs.Verdict.{kept, missing}
 use Rattle.paper.specs.Links.{LinksKept}
 use Rattle.paper.specs.MadeUp.{NothingMadeUp, unshown}
@@ -17,9 +17,9 @@ use Rattle.reshaping.specs.Reshaped.{summarised, Reshapes}
 use Rattle.reshaping.specs.declared.reshape.Reshaped.{Reshaped}
 use Rattle.reshaping.specs.declared.summarise.Summary.{Summary}
 
-module _ {t s new sources new₁ sources₁ : List ℕ} {a : Reshaped} (p : Reshapes t s new sources a new₁ sources₁) where
+module _ {f : Format} {t s new sources new₁ sources₁ : List ℕ} {a : Reshaped} (p : Reshapes f t s new sources a new₁ sources₁) where
   -- Two reshapes that keep the promise give one answer, and leave the same in every lent byte and place.
-  pub reshape-unique : {new₂ sources₂ : List ℕ} {b : Reshaped} → Reshapes t s new sources b new₂ sources₂ → (a ≡ b) × (new₁ ≡ new₂) × (sources₁ ≡ sources₂)
+  pub reshape-unique : {new₂ sources₂ : List ℕ} {b : Reshaped} → Reshapes f t s new sources b new₂ sources₂ → (a ≡ b) × (new₁ ≡ new₂) × (sources₁ ≡ sources₂)
   reshape-unique q = (
     ap {B = Reshaped} (λ (r : Reply ℕ). record { number = r .number; place = r .place; lines = r .rest }) (p .answer ∙ sym (q .answer)),
     p .bytes ∙ sym (q .bytes),
@@ -27,26 +27,26 @@ module _ {t s new sources new₁ sources₁ : List ℕ} {a : Reshaped} (p : Resh
   )
 
   -- Demand 3 is a part of the promise.
-  pub links-promised : a .number ≡ 0 → judge base t s .rest .verdict ≡ kept
-      → LinksKept base t s (take (a .lines * rowBytes base) new₁) (take (a .lines) sources₁)
+  pub links-promised : a .number ≡ 0 → judge f t s .rest .verdict ≡ kept
+      → LinksKept f t s (take (a .lines * rowBytes f) new₁) (take (a .lines) sources₁)
   links-promised = p .links
 
   -- So is it that where the second answer is yes nothing is made up.
-  pub none-made-up-promised : a .number ≡ 0 → judge base t s .rest .noneApart ≡ true
-      → NothingMadeUp base t s (take (a .lines * rowBytes base) new₁) (take (a .lines) sources₁)
+  pub none-made-up-promised : a .number ≡ 0 → judge f t s .rest .noneApart ≡ true
+      → NothingMadeUp f t s (take (a .lines * rowBytes f) new₁) (take (a .lines) sources₁)
   none-made-up-promised = p .none-made-up
 
   -- So is it that the row that verdict 1 names is in no line of the entry that it names.
-  pub named-unshown-promised : a .number ≡ 0 → (e i : ℕ) → judge base t s .rest .verdict ≡ missing e i → unshown e i (take (a .lines) sources₁) ≡ true
+  pub named-unshown-promised : a .number ≡ 0 → (e i : ℕ) → judge f t s .rest .verdict ≡ missing e i → unshown e i (take (a .lines) sources₁) ≡ true
   named-unshown-promised = p .named-unshown
 
   -- So is it that a new table of at most 1,024 lines is a sound source.
-  pub sound-promised : a .number ≡ 0 → a .lines ≤ mostRows → SoundSource base s (take (a .lines * rowBytes base) new₁) (a .lines)
+  pub sound-promised : a .number ≡ 0 → a .lines ≤ mostRows → SoundSource f s (take (a .lines * rowBytes f) new₁) (a .lines)
   sound-promised = p .sound
 
 -- ---- summarising
-pub summarise-unique : (t s : List ℕ) (a b : Summary) → summarised a ≡ summarise base t s → summarised b ≡ summarise base t s → a ≡ b
-summarise-unique t s a b ea eb =
+pub summarise-unique : (f : Format) (t s : List ℕ) (a b : Summary) → summarised a ≡ summarise f t s → summarised b ≡ summarise f t s → a ≡ b
+summarise-unique f t s a b ea eb =
     let from : Reply Figures → Summary = λ r. record {
       number = r .number;
       place = r .place;
@@ -57,11 +57,11 @@ summarise-unique t s a b ea eb =
     } in
     ap from (ea ∙ sym eb)
 
-module _ (t s : List ℕ) (a : Summary) (q : summarised a ≡ summarise base t s) where
+module _ (f : Format) (t s : List ℕ) (a : Summary) (q : summarised a ≡ summarise f t s) where
   -- An entry's different rows are no more than its lines, nor than the rows of its type, and its other lines are copies.
   pub figures-agree : (e : ℕ) → FiguresAgree (summarised a .rest) e
-  figures-agree e = subst (λ (r : Reply Figures). FiguresAgree (r .rest) e) (sym q) (summary-agrees base t s e)
+  figures-agree e = subst (λ (r : Reply Figures). FiguresAgree (r .rest) e) (sym q) (summary-agrees f t s e)
 
   -- Where the verdict is 0, every row of an entry's type is shown.
-  pub all-shown : judge base t s .rest .verdict ≡ kept → a .different ≡ a .rows
-  all-shown ok = subst (λ (r : Reply Figures). r .rest .different ≡ r .rest .rows) (sym q) (summary-shows-all base t s ok)
+  pub all-shown : judge f t s .rest .verdict ≡ kept → a .different ≡ a .rows
+  all-shown ok = subst (λ (r : Reply Figures). r .rest .different ≡ r .rest .rows) (sym q) (summary-shows-all f t s ok)

@@ -4,7 +4,7 @@ use mathlib.Core.Path.{_≡_}
 use mathlib.Core.Bool.{true}
 use mathlib.Core.List.{List}
 use lib.ListN.{take}
-use Rattle.paper.specs.Format.{base, mostRows, rowBytes}
+use Rattle.paper.specs.Format.{Format, mostRows, rowBytes}
 use Rattle.paper.specs.Verdict.{kept, missing}
 use Rattle.paper.specs.Links.{LinksKept}
 use Rattle.paper.specs.MadeUp.{NothingMadeUp, unshown}
@@ -24,17 +24,17 @@ summarised r = record { number = r .number; place = r .place; rest = record { li
 
 -- The whole promise of a reshape of the table t to the shape s: r is the answer, and new′ and sources′ are what the lent bytes and places
 -- hold afterwards.
-pub record Reshapes (t s new sources : List ℕ) (r : Reshaped) (new′ sources′ : List ℕ) : Type 0 where
-  pub answer : reshaped r ≡ reshape base t s new sources .reply
-  pub bytes : new′ ≡ reshape base t s new sources .table
-  pub places : sources′ ≡ reshape base t s new sources .sources
+pub record Reshapes (f : Format) (t s new sources : List ℕ) (r : Reshaped) (new′ sources′ : List ℕ) : Type 0 where
+  pub answer : reshaped r ≡ reshape f t s new sources .reply
+  pub bytes : new′ ≡ reshape f t s new sources .table
+  pub places : sources′ ≡ reshape f t s new sources .sources
   -- The buyer's demand: where the call is accepted and the verdict on the same table and shape is 0, no link is missing and none is made up.
-  pub links : r .number ≡ 0 → judge base t s .rest .verdict ≡ kept → LinksKept base t s (take (r .lines * rowBytes base) new′) (take (r .lines) sources′)
+  pub links : r .number ≡ 0 → judge f t s .rest .verdict ≡ kept → LinksKept f t s (take (r .lines * rowBytes f) new′) (take (r .lines) sources′)
   -- Where the second answer on the same table and shape is yes, any two lines of different entries that hang under, or are, one line of their
   -- fork entry have closest source rows, whatever the verdict.
-  pub none-made-up : r .number ≡ 0 → judge base t s .rest .noneApart ≡ true
-      → NothingMadeUp base t s (take (r .lines * rowBytes base) new′) (take (r .lines) sources′)
+  pub none-made-up : r .number ≡ 0 → judge f t s .rest .noneApart ≡ true
+      → NothingMadeUp f t s (take (r .lines * rowBytes f) new′) (take (r .lines) sources′)
   -- Where the verdict is 1 with entry e and row i, no place of the source list among the lines written is e × 65,536 + i.
-  pub named-unshown : r .number ≡ 0 → (e i : ℕ) → judge base t s .rest .verdict ≡ missing e i → unshown e i (take (r .lines) sources′) ≡ true
+  pub named-unshown : r .number ≡ 0 → (e i : ℕ) → judge f t s .rest .verdict ≡ missing e i → unshown e i (take (r .lines) sources′) ≡ true
   -- A reshaped table of at most 1,024 lines is a sound source: no call refuses it with 1 to 4.
-  pub sound : r .number ≡ 0 → r .lines ≤ mostRows → SoundSource base s (take (r .lines * rowBytes base) new′) (r .lines)
+  pub sound : r .number ≡ 0 → r .lines ≤ mostRows → SoundSource f s (take (r .lines * rowBytes f) new′) (r .lines)

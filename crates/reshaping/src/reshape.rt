@@ -1,10 +1,13 @@
 // Reshaping a table to a shape: the new table and its source list, into what was lent.
 use lines::count::count_lines;
 use lines::table::write_table;
+use paper::Format;
 use shapes::work::prepare;
 ghost use mathlib.Core.Path.{_≡_};
-ghost use Rattle.reshaping.specs.Reshaped.{reshaped, Reshapes};
 ghost use Prim.Native.Nat.{_/_, min};
+ghost use Rattle.paper.specs.Format.{mostLines, rowBytes};
+ghost use Rattle.bytes.specs.Served.{Served};
+ghost use Rattle.reshaping.specs.Reshaped.{reshaped, Reshapes};
 
 // What reshaping answers: a refusal, or the number of lines.
 #[repr(C)]
@@ -15,10 +18,14 @@ pub struct Reshaped {
 }
 
 // The room for lines in so many bytes and so many places of a source list.
-fn room_in(bytes: usize, places: usize) -> usize
-    ensures { λ r. ⌜ r ≡ min (bytes / 24) (min places 4096) ⌝ }
+fn room_in(bytes: usize, f: Format, places: usize) -> usize
+    requires { ⌜ Served f ⌝ }
+    ensures { λ r. ⌜ r ≡ min (bytes / rowBytes f) (min places mostLines) ⌝ }
 {
-    tables::row::smaller(bytes / 24, tables::row::smaller(places, 4096))
+    tables::row::smaller(
+        bytes / bytes::row_bytes(f),
+        tables::row::smaller(places, 4096),
+    )
 }
 
 fn refused(number: usize, place: usize) -> Reshaped
@@ -39,8 +46,15 @@ fn refused(number: usize, place: usize) -> Reshaped
 // yes, none is made up whatever the verdict. Where the verdict is 1, the row that it names is in no line of the entry that it names. And
 // where the call is accepted with at most 1,024 lines, the new table is a sound source, so that it can be reshaped again with no test in
 // between.
-pub fn reshape(table: &[u8], shape: &[u8], new: &mut [u8], sources: &mut [u32]) -> Reshaped
-    ensures { λ r. ⌜ Reshapes (now (table .entry)) (now (shape .entry)) (now (new .entry)) (now (sources .entry)) r (now (new .exit)) (now (sources .exit)) ⌝ }
+pub fn reshape(
+    table: &[u8],
+    shape: &[u8],
+    f: Format,
+    new: &mut [u8],
+    sources: &mut [u32],
+) -> Reshaped
+    requires { ⌜ Served f ⌝ }
+    ensures { λ r. ⌜ Reshapes f (now (table .entry)) (now (shape .entry)) (now (new .entry)) (now (sources .entry)) r (now (new .exit)) (now (sources .exit)) ⌝ }
 {
     let mut levels = [0u8; 1024];
     let mut types = [0u8; 1024];
@@ -49,6 +63,7 @@ pub fn reshape(table: &[u8], shape: &[u8], new: &mut [u8], sources: &mut [u32]) 
     let prepared = prepare(
         table,
         shape,
+        f,
         &mut levels,
         &mut types,
         &mut meetings,
@@ -65,13 +80,13 @@ pub fn reshape(table: &[u8], shape: &[u8], new: &mut [u8], sources: &mut [u32]) 
     let mut lists = [0u16; 16384];
     let tally = count_lines(&levels, &types, rows, wanted, &mut runs, &mut lists);
     let total = tally.total;
-    let room = room_in(new.len(), sources.len());
+    let room = room_in(new.len(), f, sources.len());
     if room < total {
         return refused(8, 0);
     }
     let lines = write_table(
         table,
-        paper::base(),
+        f,
         rows,
         &types,
         &runs,

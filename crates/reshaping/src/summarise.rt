@@ -1,11 +1,12 @@
 // Summarising a reshape: what each entry would show, with nothing written.
 use crate::figures::figures_of;
 use lines::count::count_lines;
+use paper::Format;
 use shapes::work::prepare;
 ghost use mathlib.Core.Path.{_≡_};
-ghost use Rattle.paper.specs.Format.{base};
 ghost use Rattle.paper.specs.Figures.{noFigures};
 ghost use Rattle.paper.specs.Calls.{summarise};
+ghost use Rattle.bytes.specs.Served.{Served};
 ghost use Rattle.reshaping.specs.Reshaped.{summarised};
 
 // For each of 16 entries its lines, the source rows of its type, copies, and the different source rows that appear in its lines. Copies are
@@ -34,8 +35,9 @@ fn refused(number: usize, place: usize) -> Summary
 }
 
 // Refusals 1 to 8, with room for 4,096 lines, or the figures. No line is walked to count it.
-pub fn summarise(table: &[u8], shape: &[u8]) -> Summary
-    ensures { λ r. ⌜ summarised r ≡ summarise base (now (table .entry)) (now (shape .entry)) ⌝ }
+pub fn summarise(table: &[u8], shape: &[u8], f: Format) -> Summary
+    requires { ⌜ Served f ⌝ }
+    ensures { λ r. ⌜ summarised r ≡ summarise f (now (table .entry)) (now (shape .entry)) ⌝ }
 {
     let mut levels = [0u8; 1024];
     let mut types = [0u8; 1024];
@@ -44,6 +46,7 @@ pub fn summarise(table: &[u8], shape: &[u8]) -> Summary
     let prepared = prepare(
         table,
         shape,
+        f,
         &mut levels,
         &mut types,
         &mut meetings,

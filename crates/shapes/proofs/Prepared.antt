@@ -1,77 +1,78 @@
 -- From what was read of a table and a shape to what the walks work on. Assumes nothing.
-use Prim.Native.Nat.{ℕ, suc, _+_, _≤_, _<_, max}
+use Prim.Native.Nat.{ℕ, suc, _≤_, _<_, max}
 use native.Mathlib.Omega.{arith}
 use mathlib.Core.Path.{_≡_, refl, sym, _∙_, ap, ap₂, subst}
 use mathlib.Core.List.{List}
 use lib.ListN.{length, getD}
-use Rattle.paper.specs.Format.{base, mostTypes}
+use Rattle.paper.specs.Format.{Format, mostTypes}
 use Rattle.paper.specs.Tables.{rows, types}
 use Rattle.paper.specs.Closeness.{Node, nodes, kindsMeet}
 use Rattle.paper.specs.Shapes as Paper
-use Rattle.paper.specs.Calls.{refused, tests1-7}
-use Rattle.closest.specs.Deepest.{typesMeet, Meetings}
+use Rattle.paper.specs.Calls.{refused}
+use Rattle.bytes.specs.Served.{Served}
+use Rattle.closest.specs.Deepest.{Meetings}
 use Rattle.closest.specs.Runs.{SoundRows, Levelled, LevelsOf, Rows}
 use Rattle.closest.proofs.Deepest.{types-meet, kinds-shallow}
 use Rattle.closest.proofs.Meets.{kind-few, ks-long}
 use Rattle.shapes.specs.Ways.{wayAt}
 use Rattle.shapes.specs.Tests.{Read, Passes, shapeIn}
-use Rattle.shapes.specs.Edges.{Inside, Known, meetingOf}
-use Rattle.shapes.specs.Shape.{levelOf, typeOf, parentOf, edgeOf, Sized, Shaped, Drawn}
-use Rattle.shapes.specs.Work.{Work, Holds, Ready, Prepared}
+use Rattle.shapes.specs.Edges.{Known, meetingOf}
+use Rattle.shapes.specs.Shape.{levelOf, typeOf, parentOf, edgeOf, Sized, Drawn}
+use Rattle.shapes.specs.Work.{Work, Holds, Prepared}
 use Rattle.shapes.specs.declared.shape.Shape.{Shape}
 use Rattle.shapes.specs.declared.tests.Tested.{Tested}
 use Rattle.shapes.proofs.Given as Given
 
 -- A refusal is no work.
-pub refusal : (t s : List ℕ) (r : Tested) (ks ways : List ℕ) (w : Work) → Passes t s r ks ways → (r .number ≡ 0 → ⊥)
-    → (w .number ≡ r .number) × (w .place ≡ r .place) → Prepared t s w
-refusal t s r ks ways w p ne is = record {
+pub refusal : (f : Format) (t s : List ℕ) (r : Tested) (ks ways : List ℕ) (w : Work) → Passes f t s r ks ways → (r .number ≡ 0 → ⊥)
+    → (w .number ≡ r .number) × (w .place ≡ r .place) → Prepared f t s w
+refusal f t s r ks ways w p ne is = record {
   refused-is = λ _. p .refused-is ne ∙ ap₂ (λ a b. refused a b) (sym (is .0)) (sym (is .1));
   ready = λ z. absurd (ne (sym (is .0) ∙ z));
 }
 
-module _ {t s : List ℕ} {r : Tested} {ks ways : List ℕ} (p : Passes t s r ks ways) (z : r .number ≡ 0) where
+module _ {f : Format} {t s : List ℕ} {r : Tested} {ks ways : List ℕ} (p : Passes f t s r ks ways) (z : r .number ≡ 0) where
   abbrev ns : List Node
-  ns = nodes (rows base t)
+  ns = nodes (rows f t)
 
   abbrev sh : Paper.Shape
-  sh = shapeIn base t s
+  sh = shapeIn f t s
 
-  held : Read (shapeIn base t s) r ways
+  held : Read (shapeIn f t s) r ways
   held = p .reads z
 
   inways : (e : ℕ) → e < r .entries → e < length (sh .ways)
   inways e lt = omega (arith, held .counted)
 
   some-entry : 1 ≤ r .entries
-  some-entry = omega (arith, Given.some-entry t s (p .given-is z), held .counted)
+  some-entry = omega (arith, Given.some-entry f t s (p .given-is z), held .counted)
 
   -- ---- what the levels and the edges ask for
-  pub sound-rows : SoundRows base (r .rows) t
+  pub sound-rows : SoundRows f (r .rows) t
   sound-rows = record { sound = p .typed z .sound; rows-n = p .typed z .rows-n; few = p .few-rows z }
 
   pub known : Known (r .entries) (r .types) (r .parents)
   known = record {
     inside = record {
       few = held .few;
-      under = λ e lt. omega (arith, held .parent-is e lt, Given.parent-in t s (p .given-is z) e (inways e lt), held .counted);
+      under = λ e lt. omega (arith, held .parent-is e lt, Given.parent-in f t s (p .given-is z) e (inways e lt), held .counted);
     };
     typed = λ e lt. omega (arith, p .known z e lt, p .few-types z);
   }
 
-  pub rows-are : (levels : List ℕ) → LevelsOf base (r .rows) t levels → length levels ≡ 1024 → Rows (r .rows) levels ks
+  pub rows-are : (levels : List ℕ) → LevelsOf f (r .rows) t levels → length levels ≡ 1024 → Rows (r .rows) levels ks
   rows-are levels ls long = record {
     few = p .few-rows z;
     levels-long = omega (arith, p .few-rows z);
-    types-long = ks-long base (r .rows) t ks (p .typed z);
+    types-long = ks-long f (r .rows) t ks (p .typed z);
     level-some = ls .level-some;
-    type-few = λ i lt. omega (arith, kind-few base (r .rows) t ks (p .typed z) i lt, p .few-types z);
+    type-few = λ i lt. omega (arith, kind-few f (r .rows) t ks (p .typed z) i lt, p .few-types z);
   }
 
-  module _ (levels meetings : List ℕ) (ls : LevelsOf base (r .rows) t levels) (long : length levels ≡ 1024)
+  module _ (levels meetings : List ℕ) (ls : LevelsOf f (r .rows) t levels) (long : length levels ≡ 1024)
       (met : Meetings (r .rows) levels ks (r .types) meetings)
       (d : Shape) (drawn : Drawn (r .entries) (r .levels) (r .labels) (r .types) (r .parents) meetings d) where
-    levelled : Levelled base (r .rows) t levels ks
+    levelled : Levelled f (r .rows) t levels ks
     levelled = record { typed = p .typed z; level-is = ls .level-is }
 
     -- ---- an entry of the shape as it was read
@@ -91,16 +92,16 @@ module _ {t s : List ℕ} {r : Tested} {ks ways : List ℕ} (p : Passes t s r ks
     type-few = known .typed
 
     -- ---- where types meet
-    meeting-is : (e f : ℕ) → e < r .entries → f < r .entries → meetingOf meetings (r .types) e f ≡ kindsMeet ns (getD (r .types) e 0) (getD (r .types) f 0)
-    meeting-is e f le lf =
+    meeting-is : (e c : ℕ) → e < r .entries → c < r .entries → meetingOf meetings (r .types) e c ≡ kindsMeet ns (getD (r .types) e 0) (getD (r .types) c 0)
+    meeting-is e c le lc =
         let few = held .few in
-        ap₂ (λ a b. max a b) (met (getD (r .types) f 0) e (type-few f lf) (omega arith)) (met (getD (r .types) e 0) f (type-few e le) (omega arith))
-        ∙ types-meet base (r .rows) t levels ks levelled (getD (r .types) e 0) (getD (r .types) f 0)
+        ap₂ (λ a b. max a b) (met (getD (r .types) c 0) e (type-few c lc) (omega arith)) (met (getD (r .types) e 0) c (type-few e le) (omega arith))
+        ∙ types-meet f (r .rows) t levels ks levelled (getD (r .types) e 0) (getD (r .types) c 0)
 
-    meets : (e f : ℕ) → e < d .entries → f < d .entries → meetingOf meetings (d .types) e f ≡ kindsMeet ns (typeOf d e) (typeOf d f)
-    meets e f le lf =
-        ap (λ l. meetingOf meetings l e f) (drawn .types-are) ∙ meeting-is e f (inside e le) (inside f lf)
-        ∙ ap₂ (λ a b. kindsMeet ns a b) (sym (type-at e)) (sym (type-at f))
+    meets : (e c : ℕ) → e < d .entries → c < d .entries → meetingOf meetings (d .types) e c ≡ kindsMeet ns (typeOf d e) (typeOf d c)
+    meets e c le lc =
+        ap (λ l. meetingOf meetings l e c) (drawn .types-are) ∙ meeting-is e c (inside e le) (inside c lc)
+        ∙ ap₂ (λ a b. kindsMeet ns a b) (sym (type-at e)) (sym (type-at c))
 
     edge-is : (c : ℕ) → c < d .entries → edgeOf d c ≡ kindsMeet ns (typeOf d (parentOf d c)) (typeOf d c)
     edge-is c lt =
@@ -111,33 +112,27 @@ module _ {t s : List ℕ} {r : Tested} {ks ways : List ℕ} (p : Passes t s r ks
     nearest : (c : ℕ) → 0 < c → c < d .entries → (parentOf d c < c) × (levelOf d c ≡ suc (levelOf d (parentOf d c)))
     nearest c pos lt =
         let lc = inside c lt in
-        let n = Given.over t s (p .given-is z) c pos (inways c lc) in
+        let n = Given.over f t s (p .given-is z) c pos (inways c lc) in
         let is = parent-at c ∙ held .parent-is c lc in
         let up = level-at (parentOf d c) ∙ held .level (parentOf d c) (omega (arith, is, n .0)) ∙ ap (λ e. getD (sh .levels) e 0) is in
         (omega (arith, is, n .0), omega (arith, level-at c, held .level c lc, up, n .1))
 
     top : levelOf d 0 ≡ 1
-    top = level-at 0 ∙ held .level 0 some-entry ∙ Given.top t s (p .given-is z)
+    top = level-at 0 ∙ held .level 0 some-entry ∙ Given.top f t s (p .given-is z)
 
-    -- the base has six levels
-    deep : (e : ℕ) → e < r .entries → levelOf d e ≤ base .levels
-    unfolding base
-    deep e lt = let w = Given.way-deep t s (p .given-is z) e (inways e lt) in omega (arith, level-at e, held .level e lt, w .0, w .1)
+    deep : (e : ℕ) → e < r .entries → levelOf d e ≤ f .levels
+    deep e lt = let w = Given.way-deep f t s (p .given-is z) e (inways e lt) in omega (arith, level-at e, held .level e lt, w .0, w .1)
 
-    shallow : {a b : ℕ} → a ≡ b → b ≤ base .levels → a ≤ 8
-    unfolding base
-    shallow e le = omega arith
-
-    sized : Sized d
-    sized = record {
+    sized : Served f → Sized d
+    sized served = record {
       some = omega (arith, some-entry, drawn .entries-are);
       few = omega (arith, held .few, drawn .entries-are);
       typed = λ e lt. omega (arith, type-at e, type-few e (inside e lt));
-      root = parent-at 0 ∙ held .parent-is 0 some-entry ∙ Given.root t s (p .given-is z);
+      root = parent-at 0 ∙ held .parent-is 0 some-entry ∙ Given.root f t s (p .given-is z);
       under = λ c pos lt. nearest c pos lt .0;
       top = top;
       down = λ c pos lt. nearest c pos lt .1;
-      deep = λ c lt. shallow (edge-is c lt) (kinds-shallow base (r .rows) t ks (p .typed z) (typeOf d (parentOf d c)) (typeOf d c));
+      deep = λ c lt. omega (arith, edge-is c lt, kinds-shallow f (r .rows) t ks (p .typed z) (typeOf d (parentOf d c)) (typeOf d c), served .shallow);
       before = λ e lt. omega (arith, drawn .ends-are .before e, drawn .entries-are);
       last = λ c pos lt. subst (λ q. c < getD (d .ends) q 0) (sym (parent-at c)) (drawn .ends-are .last c pos (inside c lt));
     }
@@ -164,7 +159,7 @@ module _ {t s : List ℕ} {r : Tested} {ks ways : List ℕ} (p : Passes t s r ks
       way-is = λ e lt. ap (wayAt ways e) (level-at e) ∙ held .way-is e (inside e lt);
     }
 
-    pub prepared : Prepared t s (record {
+    pub prepared : Served f → Prepared f t s (record {
       number = 0;
       place = 0;
       rows = r .rows;
@@ -174,13 +169,14 @@ module _ {t s : List ℕ} {r : Tested} {ks ways : List ℕ} (p : Passes t s r ks
       shape = d;
       ways = ways;
     })
-    prepared = record {
+    prepared served = record {
       refused-is = λ ne. absurd (ne refl);
       ready = λ _. record {
+        served = served;
         given-is = p .given-is z;
         levelled = levelled;
         rows-are = rows-are levels ls long;
-        shaped = record { sized = sized; meets = edge-is };
+        shaped = record { sized = sized served; meets = edge-is };
         shallow = λ e lt. deep e (inside e lt);
         meets = meets;
         holds = holds;

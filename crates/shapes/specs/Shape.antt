@@ -5,12 +5,9 @@ use mathlib.Core.List.{List}
 use lib.ListN.{getD}
 use Rattle.paper.specs.Format.{mostEntries, mostTypes}
 use Rattle.paper.specs.Closeness.{Node, kindsMeet}
+use Rattle.bytes.specs.Served.{mostLevels}
 use Rattle.shapes.specs.Edges.{EdgeLevels, Ends}
 use Rattle.shapes.specs.declared.shape.Shape.{Shape}
-
--- the most levels that a format may have
-abbrev pub mostLevels : ℕ
-mostLevels = 8
 
 module _ (s : Shape) where
   abbrev pub levelOf : ℕ → ℕ

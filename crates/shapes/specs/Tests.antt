@@ -3,7 +3,7 @@ use Prim.Native.Nat.{ℕ, _≤_, _<_}
 use mathlib.Core.Path.{_≡_}
 use mathlib.Core.List.{List}
 use lib.ListN.{length, getD}
-use Rattle.paper.specs.Format.{Format, base, mostRows, mostEntries, mostTypes}
+use Rattle.paper.specs.Format.{Format, mostRows, mostEntries, mostTypes}
 use Rattle.paper.specs.Tables.{rows, types}
 use Rattle.paper.specs.Closeness.{nodes}
 use Rattle.paper.specs.Shapes.{Shape, entries, shapeOver, kind, parent, way}
@@ -37,11 +37,11 @@ pub record Read (s : Shape) (w : Tested) (ways : List ℕ) : Type 0 where
   pub way-is : (e : ℕ) → e < w .entries → wayAt ways e (getD (w .levels) e 0) ≡ way s e
 
 -- what tests 1 to 7 say of a table t and a shape s, and where none refuses, the rows' type numbers ks and the entries
-pub record Passes (t s : List ℕ) (w : Tested) (ks ways : List ℕ) : Type 0 where
-  pub refused-is : (w .number ≡ 0 → ⊥) → tests1-7 base t s ≡ refused (w .number) (w .place)
-  pub given-is : w .number ≡ 0 → tests1-7 base t s ≡ given (record { rows = rows base t; nodes = nodes (rows base t); shape = shapeIn base t s })
-  pub typed : w .number ≡ 0 → Typed base (w .rows) t ks
+pub record Passes (f : Format) (t s : List ℕ) (w : Tested) (ks ways : List ℕ) : Type 0 where
+  pub refused-is : (w .number ≡ 0 → ⊥) → tests1-7 f t s ≡ refused (w .number) (w .place)
+  pub given-is : w .number ≡ 0 → tests1-7 f t s ≡ given (record { rows = rows f t; nodes = nodes (rows f t); shape = shapeIn f t s })
+  pub typed : w .number ≡ 0 → Typed f (w .rows) t ks
   pub few-rows : w .number ≡ 0 → w .rows ≤ mostRows
-  pub few-types : w .number ≡ 0 → length (types (rows base t)) ≤ mostTypes
-  pub known : w .number ≡ 0 → (e : ℕ) → e < w .entries → getD (w .types) e 0 < length (types (rows base t))
-  pub reads : w .number ≡ 0 → Read (shapeIn base t s) w ways
+  pub few-types : w .number ≡ 0 → length (types (rows f t)) ≤ mostTypes
+  pub known : w .number ≡ 0 → (e : ℕ) → e < w .entries → getD (w .types) e 0 < length (types (rows f t))
+  pub reads : w .number ≡ 0 → Read (shapeIn f t s) w ways

@@ -3,11 +3,12 @@ use Prim.Native.Nat.{ℕ, _*_, _≤_, _<_}
 use mathlib.Core.Path.{_≡_}
 use mathlib.Core.List.{List}
 use lib.ListN.{length, getD}
-use Rattle.paper.specs.Format.{base, mostRows, mostEntries}
+use Rattle.paper.specs.Format.{Format, mostRows, mostEntries}
 use Rattle.paper.specs.Tables.{rows}
 use Rattle.paper.specs.Closeness.{nodes, kindsMeet}
 use Rattle.paper.specs.Shapes as Paper
 use Rattle.paper.specs.Calls.{refused, given, tests1-7}
+use Rattle.bytes.specs.Served.{Served}
 use Rattle.closest.specs.Deepest.{noMeetings}
 use Rattle.closest.specs.Runs.{Levelled, Rows}
 use Rattle.shapes.specs.Ways.{wayPlaces, wayAt}
@@ -38,20 +39,21 @@ pub record Holds (s : Paper.Shape) (w : Work) : Type 0 where
   pub way-is : (e : ℕ) → e < w .shape .entries → wayAt (w .ways) e (levelOf (w .shape) e) ≡ Paper.way s e
 
 -- what tests 1 to 7 give where none refuses
-pub record Ready (t s : List ℕ) (w : Work) : Type 0 where
-  pub given-is : tests1-7 base t s ≡ given (record { rows = rows base t; nodes = nodes (rows base t); shape = shapeIn base t s })
-  pub levelled : Levelled base (w .rows) t (w .levels) (w .types)
+pub record Ready (f : Format) (t s : List ℕ) (w : Work) : Type 0 where
+  pub served : Served f
+  pub given-is : tests1-7 f t s ≡ given (record { rows = rows f t; nodes = nodes (rows f t); shape = shapeIn f t s })
+  pub levelled : Levelled f (w .rows) t (w .levels) (w .types)
   pub rows-are : Rows (w .rows) (w .levels) (w .types)
-  pub shaped : Shaped (nodes (rows base t)) (w .shape)
-  pub shallow : (e : ℕ) → e < w .shape .entries → levelOf (w .shape) e ≤ base .levels
-  pub meets : (e f : ℕ) → e < w .shape .entries → f < w .shape .entries
-      → meetingOf (w .meetings) (w .shape .types) e f ≡ kindsMeet (nodes (rows base t)) (typeOf (w .shape) e) (typeOf (w .shape) f)
-  pub holds : Holds (shapeIn base t s) w
+  pub shaped : Shaped (nodes (rows f t)) (w .shape)
+  pub shallow : (e : ℕ) → e < w .shape .entries → levelOf (w .shape) e ≤ f .levels
+  pub meets : (d e : ℕ) → d < w .shape .entries → e < w .shape .entries
+      → meetingOf (w .meetings) (w .shape .types) d e ≡ kindsMeet (nodes (rows f t)) (typeOf (w .shape) d) (typeOf (w .shape) e)
+  pub holds : Holds (shapeIn f t s) w
 
 -- what tests 1 to 7 say of a table t and a shape s
-pub record Prepared (t s : List ℕ) (w : Work) : Type 0 where
-  pub refused-is : (w .number ≡ 0 → ⊥) → tests1-7 base t s ≡ refused (w .number) (w .place)
-  pub ready : w .number ≡ 0 → Ready t s w
+pub record Prepared (f : Format) (t s : List ℕ) (w : Work) : Type 0 where
+  pub refused-is : (w .number ≡ 0 → ⊥) → tests1-7 f t s ≡ refused (w .number) (w .place)
+  pub ready : w .number ≡ 0 → Ready f t s w
 
 -- the lists that are lent to prepare it: places for all rows, no meetings yet, and places for all ways
 pub record Blank (levels types meetings ways : List ℕ) : Type 0 where
@@ -74,5 +76,5 @@ workOf r levels types meetings ways = record {
 }
 
 -- preparing gives r back, and leaves these lists
-abbrev pub Prepares : List ℕ → List ℕ → Preparation → List ℕ → List ℕ → List ℕ → List ℕ → Type 0
-Prepares t s r levels types meetings ways = Prepared t s (workOf r levels types meetings ways)
+abbrev pub Prepares : Format → List ℕ → List ℕ → Preparation → List ℕ → List ℕ → List ℕ → List ℕ → Type 0
+Prepares f t s r levels types meetings ways = Prepared f t s (workOf r levels types meetings ways)

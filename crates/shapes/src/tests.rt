@@ -2,12 +2,14 @@
 use crate::entry::bad_entry;
 use crate::entry_types::entry_types;
 use crate::ways::entry_ways;
+use paper::Format;
 use tables::table::examine;
 use types::list::list_types;
 ghost use mathlib.Core.Path.{_≡_};
 ghost use Prim.Native.Nat.{_*_};
 ghost use lib.ListN.{length};
-ghost use Rattle.paper.specs.Format.{base, mostRows, mostEntries};
+ghost use Rattle.paper.specs.Format.{mostRows, mostEntries};
+ghost use Rattle.bytes.specs.Served.{Served};
 ghost use Rattle.shapes.specs.Ways.{wayPlaces};
 ghost use Rattle.shapes.specs.Tests.{shapeExamined, shapeReply, Passes};
 
@@ -19,10 +21,10 @@ pub struct ShapeExamined {
 }
 
 // Refusals 5 and 6, or the number of entries.
-pub fn examine_shape(shape: &[u8]) -> ShapeExamined
-    ensures { λ r. ⌜ shapeExamined r ≡ shapeReply base (now (shape .entry)) ⌝ }
+pub fn examine_shape(shape: &[u8], f: Format) -> ShapeExamined
+    requires { ⌜ Served f ⌝ }
+    ensures { λ r. ⌜ shapeExamined r ≡ shapeReply f (now (shape .entry)) ⌝ }
 {
-    let f = paper::base();
     let w = bytes::entry_bytes(f);
     if shape.len() == 0 {
         return ShapeExamined {
@@ -89,12 +91,11 @@ fn refused(number: usize, place: usize) -> Tested
 }
 
 // Refusals 1 to 7 in their order, or what was read: each row's type number and each entry's way in the lent lists.
-pub fn tests1_7(table: &[u8], shape: &[u8], types: &mut [u8], ways: &mut [u8]) -> Tested
-    requires { ⌜ (length (now types) ≡ mostRows) × (length (now ways) ≡ wayPlaces * mostEntries) ⌝ }
-    ensures { λ r. ⌜ Passes (now (table .entry)) (now (shape .entry)) r (now (types .exit)) (now (ways .exit)) ⌝ }
+pub fn tests1_7(table: &[u8], shape: &[u8], f: Format, types: &mut [u8], ways: &mut [u8]) -> Tested
+    requires { ⌜ Served f × (length (now types) ≡ mostRows) × (length (now ways) ≡ wayPlaces * mostEntries) ⌝ }
+    ensures { λ r. ⌜ Passes f (now (table .entry)) (now (shape .entry)) r (now (types .exit)) (now (ways .exit)) ⌝ }
 {
-    let f = paper::base();
-    let examined = examine(table);
+    let examined = examine(table, f);
     let number = examined.number;
     let place = examined.place;
     let rows = examined.rows;
@@ -107,7 +108,7 @@ pub fn tests1_7(table: &[u8], shape: &[u8], types: &mut [u8], ways: &mut [u8]) -
     if over < rows {
         return refused(4, over);
     }
-    let examined_shape = examine_shape(shape);
+    let examined_shape = examine_shape(shape, f);
     let shape_number = examined_shape.number;
     let shape_place = examined_shape.place;
     let entries = examined_shape.entries;

@@ -3,7 +3,9 @@ use crate::shape::Shape;
 use crate::shape::draw;
 use crate::tests::tests1_7;
 use closest::meet::row_levels;
+use paper::Format;
 ghost use mathlib.Core.Path.{_≡_};
+ghost use Rattle.bytes.specs.Served.{Served};
 ghost use Rattle.shapes.specs.Work.{Blank, Prepares};
 
 // A refusal, or the number of rows and the shape.
@@ -38,15 +40,16 @@ fn unprepared(number: usize, place: usize) -> Preparation
 pub fn prepare(
     table: &[u8],
     shape: &[u8],
+    f: Format,
     levels: &mut [u8],
     types: &mut [u8],
     meetings: &mut [u8],
     ways: &mut [u8],
 ) -> Preparation
-    requires { ⌜ Blank (now levels) (now types) (now meetings) (now ways) ⌝ }
-    ensures { λ r. ⌜ Prepares (now (table .entry)) (now (shape .entry)) r (now (levels .exit)) (now (types .exit)) (now (meetings .exit)) (now (ways .exit)) ⌝ }
+    requires { ⌜ Served f × Blank (now levels) (now types) (now meetings) (now ways) ⌝ }
+    ensures { λ r. ⌜ Prepares f (now (table .entry)) (now (shape .entry)) r (now (levels .exit)) (now (types .exit)) (now (meetings .exit)) (now (ways .exit)) ⌝ }
 {
-    let read = tests1_7(table, shape, types, ways);
+    let read = tests1_7(table, shape, f, types, ways);
     let number = read.number;
     let place = read.place;
     if number != 0 {
@@ -58,7 +61,7 @@ pub fn prepare(
     let entry_levels = read.levels;
     let labels = read.labels;
     let parents = read.parents;
-    row_levels(table, paper::base(), rows, levels);
+    row_levels(table, f, rows, levels);
     closest::meet::meetings(levels, types, rows, entry_types, meetings);
     let drawn = draw(
         entries,

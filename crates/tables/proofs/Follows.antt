@@ -6,10 +6,10 @@ use mathlib.Core.Path.{_≡_, refl, sym, _∙_, ap, ap₂}
 use mathlib.Core.Logic.{_⊎_, inl, inr, ⊎-elim}
 use mathlib.Core.Bool.{Bool, true, false}
 use mathlib.Core.List.{List, [], _∷_, _++_}
-use lib.Dec.{eqb}
+use lib.Dec.{eqb, leb}
 use lib.ListN.{length, getD, take, length-append, length-take}
 use lib.Seq.{take-suc, take-all, getD-append-seam, take-append-seam, take-at, getD-at}
-use borrow.Author.Tests.{eqb-true, eq-eqb}
+use borrow.Author.Tests.{eqb-true, eq-eqb, leb-true, leb-false}
 use Rattle.paper.specs.Lists.{same}
 use Rattle.paper.specs.Format.{Format, byte, words}
 use Rattle.paper.specs.Tables.{rowOf, dewey, raised, follows}
@@ -102,16 +102,15 @@ module _ (p d : List ℕ) (k : ℕ) (l : length d ≡ suc k) (le : suc k ≤ len
       ∙ ap (λ x. take k p ++ (x ∷ [])) (eqb-true (getD d k 0) (getD p k 0 + 1) q ∙ add-one (getD p k 0)) ∙ sym cut))
 
 -- ---- two rows as read
--- row y has some level, a and b are the levels of the two, and m is where they meet
-pub record Read (f : Format) (x y : List ℕ) (a b m : ℕ) : Type 0 where
+-- row y has some level, and a and b are the levels of the two
+pub record Read (f : Format) (x y : List ℕ) (a b : ℕ) : Type 0 where
   pub fits-x : byte x 0 ≤ f .levels
   pub fits-y : byte y 0 ≤ f .levels
   pub some-y : 1 ≤ byte y 0
   pub level-x : a ≡ byte x 0
   pub level-y : b ≡ byte y 0
-  pub meets : m ≡ met f x y
 
-module _ {f : Format} {x y : List ℕ} {a b m : ℕ} (r : Read f x y a b m) where
+module _ {f : Format} {x y : List ℕ} {a b : ℕ} (r : Read f x y a b) where
   abbrev p : List ℕ
   p = dewey (rowOf f x)
 
@@ -124,22 +123,38 @@ module _ {f : Format} {x y : List ℕ} {a b m : ℕ} (r : Read f x y a b m) wher
   ld : length d ≡ b
   ld = dewey-length f y (r .fits-y) ∙ sym (r .level-y)
 
-  pub rows-child-apart : b ≡ a + 1 → m < a → false ≡ follows (dewey (rowOf f x)) (dewey (rowOf f y))
-  rows-child-apart e lt = sym (child-apart p d (omega (arith, lp, ld)) (omega (arith, lp, r .meets)))
+  pub rows-longer : a + 1 < b → false ≡ follows (dewey (rowOf f x)) (dewey (rowOf f y))
+  rows-longer lt = sym (longer-apart p d (omega (arith, lp, ld)))
 
-  pub rows-child : b ≡ a + 1 → a ≤ m → (v : ℕ) → v ≡ getD (words (f .levels) y 4) a 0 → eqb v 1 ≡ follows (dewey (rowOf f x)) (dewey (rowOf f y))
-  rows-child e le v ev =
-      ap (λ z. eqb z 1) (ev ∙ sym (dewey-at f y (r .fits-y) a (omega arith)) ∙ ap (λ n. getD d n 0) (sym lp))
-      ∙ sym (child-decides p d (omega (arith, lp, ld)) (omega (arith, lp, r .meets)))
+  -- they do not agree above the last component of the later one
+  pub rows-apart : b ≤ a + 1 → leb (b - 1) (met f x y) ≡ false → false ≡ follows (dewey (rowOf f x)) (dewey (rowOf f y))
+  rows-apart le apart = go (leb b a) refl
+    where
+      lt : met f x y < b - 1
+      lt = leb-false (b - 1) (met f x y) apart
 
-  pub rows-longer : (b ≡ a + 1 → ⊥) → a < b → false ≡ follows (dewey (rowOf f x)) (dewey (rowOf f y))
-  rows-longer ne lt = sym (longer-apart p d (omega (arith, lp, ld)))
+      go : (t : Bool) → leb b a ≡ t → false ≡ follows p d
+      go true e = sym (next-apart p d (b - 1) (omega (arith, ld, lt)) (omega (arith, lp, lt, leb-true b a e)) lt)
+      go false e = let more = leb-false b a e in sym (child-apart p d (omega (arith, lp, ld)) (omega (arith, lp, lt)))
 
-  pub rows-next-apart : b ≤ a → m < b - 1 → false ≡ follows (dewey (rowOf f x)) (dewey (rowOf f y))
-  rows-next-apart le lt = sym (next-apart p d (b - 1) (omega (arith, ld)) (omega (arith, lp)) (omega (arith, r .meets)))
+  -- they do: the later one is longer by one, or not longer
+  module _ (agrees : leb (b - 1) (met f x y) ≡ true) where
+    deep : b - 1 ≤ met f x y
+    deep = leb-true (b - 1) (met f x y) agrees
 
-  pub rows-next : b ≤ a → b - 1 ≤ m → (v u : ℕ) → v ≡ getD (words (f .levels) y 4) (b - 1) 0 → u ≡ getD (words (f .levels) x 4) (b - 1) 0
-      → eqb v (u + 1) ≡ follows (dewey (rowOf f x)) (dewey (rowOf f y))
-  rows-next le h v u ev eu =
-      ap₂ (λ z c. eqb z (c + 1)) (ev ∙ sym (dewey-at f y (r .fits-y) (b - 1) (omega arith))) (eu ∙ sym (dewey-at f x (r .fits-x) (b - 1) (omega arith)))
-      ∙ sym (next-decides p d (b - 1) (omega (arith, ld)) (omega (arith, lp)) (omega (arith, r .meets)))
+    some : 1 ≤ b
+    some = omega (arith, r .some-y, r .level-y)
+
+    last-y : getD d (b - 1) 0 ≡ getD (words (f .levels) y 4) (b - 1) 0
+    last-y = dewey-at f y (r .fits-y) (b - 1) (omega (arith, some, r .level-y))
+
+    pub rows-child : b ≤ a + 1 → a < b → (v : ℕ) → v ≡ getD (words (f .levels) y 4) (b - 1) 0 → eqb v 1 ≡ follows (dewey (rowOf f x)) (dewey (rowOf f y))
+    rows-child le lt v ev =
+        let e : b - 1 ≡ length p = omega (arith, lp) in
+        ap (λ z. eqb z 1) (ev ∙ sym last-y ∙ ap (λ n. getD d n 0) e) ∙ sym (child-decides p d (omega (arith, lp, ld)) (omega (arith, e, deep)))
+
+    pub rows-next : b ≤ a → (v u : ℕ) → v ≡ getD (words (f .levels) y 4) (b - 1) 0 → u ≡ getD (words (f .levels) x 4) (b - 1) 0
+        → eqb v (u + 1) ≡ follows (dewey (rowOf f x)) (dewey (rowOf f y))
+    rows-next le v u ev eu =
+        ap₂ (λ z c. eqb z (c + 1)) (ev ∙ sym last-y) (eu ∙ sym (dewey-at f x (r .fits-x) (b - 1) (omega (arith, some, r .level-x))))
+        ∙ sym (next-decides p d (b - 1) (omega (arith, ld, some)) (omega (arith, lp, some)) deep)

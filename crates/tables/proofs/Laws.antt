@@ -73,39 +73,39 @@ shared-end a b k le = go (leb (length a) k) refl
 abbrev pub met : Format → List ℕ → List ℕ → ℕ
 met f x y = shared (dewey (rowOf f x)) (dewey (rowOf f y))
 
--- the walk that finds it: m is the smaller level, k components agree so far
+-- the walk along the first n components of both: k of them agree so far
 abbrev pub Walk : Format → List ℕ → List ℕ → ℕ → ℕ → Type 0
-Walk f x y m k =
-    (k ≤ m) × (m ≡ min (byte x 0) (byte y 0)) × (k + shared (drop k (dewey (rowOf f x))) (drop k (dewey (rowOf f y))) ≡ met f x y)
+Walk f x y n k =
+    (k ≤ n) × (n ≤ byte x 0) × (n ≤ byte y 0) × (k + shared (drop k (dewey (rowOf f x))) (drop k (dewey (rowOf f y))) ≡ met f x y)
 
-pub walk-start : (f : Format) (x y : List ℕ) (m : ℕ) → m ≡ min (byte x 0) (byte y 0) → Walk f x y m 0
-walk-start f x y m e = (omega arith, e, omega arith)
+pub walk-start : (f : Format) (x y : List ℕ) (n : ℕ) → n ≤ byte x 0 → n ≤ byte y 0 → Walk f x y n 0
+walk-start f x y n a b = (omega arith, a, b, omega arith)
 
 module _ (f : Format) (x y : List ℕ) (fx : byte x 0 ≤ f .levels) (fy : byte y 0 ≤ f .levels) where
-  module _ (m k a b : ℕ) (i : Walk f x y m k) (lt : k < m) (ea : a ≡ getD (words (f .levels) x 4) k 0) (eb : b ≡ getD (words (f .levels) y 4) k 0) where
+  module _ (n k a b : ℕ) (i : Walk f x y n k) (lt : k < n) (ea : a ≡ getD (words (f .levels) x 4) k 0) (eb : b ≡ getD (words (f .levels) y 4) k 0) where
     at-x : getD (dewey (rowOf f x)) k 0 ≡ a
     at-x = dewey-at f x fx k (omega (arith, i .1)) ∙ sym ea
 
     at-y : getD (dewey (rowOf f y)) k 0 ≡ b
-    at-y = dewey-at f y fy k (omega (arith, i .1)) ∙ sym eb
+    at-y = dewey-at f y fy k (omega (arith, i .2)) ∙ sym eb
 
     in-x : k < length (dewey (rowOf f x))
     in-x = omega (arith, i .1, dewey-length f x fx)
 
     in-y : k < length (dewey (rowOf f y))
-    in-y = omega (arith, i .1, dewey-length f y fy)
+    in-y = omega (arith, i .2, dewey-length f y fy)
 
-    pub walk-step : a ≡ b → Walk f x y m (k + 1)
+    pub walk-step : a ≡ b → Walk f x y n (k + 1)
     walk-step e =
-        (omega arith, i .1, omega (arith, i .2, shared-step (dewey (rowOf f x)) (dewey (rowOf f y)) k in-x in-y (at-x ∙ e ∙ sym at-y)))
+        (omega arith, i .1, i .2, omega (arith, i .3, shared-step (dewey (rowOf f x)) (dewey (rowOf f y)) k in-x in-y (at-x ∙ e ∙ sym at-y)))
 
-    pub walk-stop : (a ≡ b → ⊥) → k ≡ met f x y
+    pub walk-stop : (a ≡ b → ⊥) → false ≡ leb n (met f x y)
     walk-stop ne =
-        omega (arith, i .2, shared-stop (dewey (rowOf f x)) (dewey (rowOf f y)) k in-x in-y (λ q. ne (sym at-x ∙ q ∙ at-y)))
+        let e = shared-stop (dewey (rowOf f x)) (dewey (rowOf f y)) k in-x in-y (λ q. ne (sym at-x ∙ q ∙ at-y)) in
+        sym (lt-leb n (met f x y) (omega (arith, i .3, e)))
 
-  pub walk-end : (m k : ℕ) → Walk f x y m k → m ≤ k → m ≡ met f x y
-  walk-end m k i le =
-      omega (arith, i .0, i .1, i .2, shared-end (dewey (rowOf f x)) (dewey (rowOf f y)) k (omega (arith, i .1, dewey-length f x fx, dewey-length f y fy)))
+  pub walk-end : (n k : ℕ) → Walk f x y n k → n ≤ k → true ≡ leb n (met f x y)
+  walk-end n k i le = sym (le-leb n (met f x y) (omega (arith, i .3)))
 
 -- ---- a row's own fields
 pub and-left : {a : Bool} (b : Bool) → a ≡ false → a && b ≡ false

@@ -1,9 +1,9 @@
-// One row, and two: its own fields, where two rows meet, and whether one follows the other.
+// One row, and two: its own fields, how far two rows agree, and whether one follows the other.
 use paper::Format;
 ghost use mathlib.Core.Path.{_≡_};
 ghost use mathlib.Core.Bool.{true};
 ghost use Prim.Native.Nat.{_+_, _*_, _≤_, _<_, min, max};
-ghost use lib.Dec.{eqb};
+ghost use lib.Dec.{eqb, leb};
 ghost use lib.ListN.{length, getD, drop};
 ghost use Rattle.paper.specs.Lists.{all};
 ghost use Rattle.paper.specs.Format.{rowBytes, entryBytes, byte, words};
@@ -70,21 +70,20 @@ pub fn larger(a: usize, b: usize) -> usize
     if a < b { b } else { a }
 }
 
-// Where two rows meet.
-pub fn meet(x: &[u8], y: &[u8], f: Format) -> usize
+// Do two rows agree in their first n components? They do where they meet at n or deeper.
+fn agree(x: &[u8], y: &[u8], f: Format, n: usize) -> bool
     requires { ⌜ (length (now x) ≡ rowBytes f) × (length (now y) ≡ rowBytes f) × (f .levels ≤ 255) ⌝ }
-    requires { ⌜ (byte (now x) 0 ≤ f .levels) × (byte (now y) 0 ≤ f .levels) ⌝ }
-    ensures { λ r. ⌜ r ≡ shared (dewey (rowOf f (now (x .entry)))) (dewey (rowOf f (now (y .entry)))) ⌝ }
+    requires { ⌜ (byte (now x) 0 ≤ f .levels) × (byte (now y) 0 ≤ f .levels) × (n ≤ byte (now x) 0) × (n ≤ byte (now y) 0) ⌝ }
+    ensures { λ r. ⌜ r ≡ leb n (shared (dewey (rowOf f (now (x .entry)))) (dewey (rowOf f (now (y .entry))))) ⌝ }
 {
-    let most = smaller(bytes::wide(x[0]), bytes::wide(y[0]));
     let mut k = 0;
-    while k < most {
+    while k < n {
         if component(x, f, k) != component(y, f, k) {
-            return k;
+            return false;
         }
         k += 1;
     }
-    most
+    true
 }
 
 // Does the Dewey number of `row` follow that of `before`?
@@ -95,19 +94,16 @@ pub fn follows(before: &[u8], row: &[u8], f: Format) -> bool
 {
     let a = bytes::wide(before[0]);
     let b = bytes::wide(row[0]);
-    let met = meet(before, row, f);
-    if b == a + 1 {
-        if met < a {
-            return false;
-        }
-        return component(row, f, a) == 1;
-    }
-    if a < b {
+    if a + 1 < b {
         return false;
     }
     let k = b - 1;
-    if met < k {
+    if !agree(before, row, f, k) {
         return false;
     }
-    component(row, f, k) == component(before, f, k) + 1
+    let last = component(row, f, k);
+    if a < b {
+        return last == 1;
+    }
+    last == component(before, f, k) + 1
 }

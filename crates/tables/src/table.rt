@@ -7,10 +7,11 @@ ghost use mathlib.Core.Path.{_≡_};
 ghost use mathlib.Core.List.{[]};
 ghost use Prim.Native.Nat.{_+_, _*_, _≤_, _<_};
 ghost use lib.ListN.{length};
-ghost use Rattle.paper.specs.Format.{base, rowBytes, whole, byte};
+ghost use Rattle.paper.specs.Format.{rowBytes, whole, byte};
 ghost use Rattle.paper.specs.Tables as Tables;
 ghost use Rattle.paper.specs.Tables.{rowOf, dewey, rowKept, badRow};
 ghost use Rattle.paper.specs.Calls.{examine, lookUp};
+ghost use Rattle.bytes.specs.Served.{Served};
 ghost use Rattle.tables.specs.Place.{placeOf};
 ghost use Rattle.tables.specs.Reply.{examined, HandsBack};
 
@@ -74,10 +75,10 @@ pub fn bad_row(table: &[u8], f: Format, rows: usize) -> usize
 }
 
 // Refusals 1 to 3, or the number of rows.
-pub fn examine(table: &[u8]) -> Examined
-    ensures { λ r. ⌜ examined r ≡ examine base (now (table .entry)) ⌝ }
+pub fn examine(table: &[u8], f: Format) -> Examined
+    requires { ⌜ Served f ⌝ }
+    ensures { λ r. ⌜ examined r ≡ examine f (now (table .entry)) ⌝ }
 {
-    let f = paper::base();
     let w = bytes::row_bytes(f);
     if 1024 * w < table.len() {
         return Examined {
@@ -116,10 +117,11 @@ pub struct Refusal {
 }
 
 // The number and place of a look-up.
-pub fn look_up_refusal(table: &[u8], i: usize) -> Refusal
-    ensures { λ r. ⌜ (r .number ≡ lookUp base (now (table .entry)) i .number) × (r .place ≡ lookUp base (now (table .entry)) i .place) ⌝ }
+pub fn look_up_refusal(table: &[u8], f: Format, i: usize) -> Refusal
+    requires { ⌜ Served f ⌝ }
+    ensures { λ r. ⌜ (r .number ≡ lookUp f (now (table .entry)) i .number) × (r .place ≡ lookUp f (now (table .entry)) i .place) ⌝ }
 {
-    let examined = examine(table);
+    let examined = examine(table, f);
     let number = examined.number;
     let rows = examined.rows;
     if number != 0 {
@@ -141,18 +143,19 @@ pub fn look_up_refusal(table: &[u8], i: usize) -> Refusal
 }
 
 // Row i's own bytes of the caller's table, or an empty part.
-pub fn look_up(table: &[u8], i: usize) -> &[u8]
-    ensures { λ r. ⌜ HandsBack (table .entry) i r ⌝ }
+pub fn look_up(table: &[u8], f: Format, i: usize) -> &[u8]
+    requires { ⌜ Served f ⌝ }
+    ensures { λ r. ⌜ HandsBack f (table .entry) i r ⌝ }
 {
     let none = 0;
-    let examined = examine(table);
+    let examined = examine(table, f);
     let number = examined.number;
     let rows = examined.rows;
     if number != 0 {
         return &table[none..none];
     }
     if i < rows {
-        return bytes::record(table, bytes::row_bytes(paper::base()), i);
+        return bytes::record(table, bytes::row_bytes(f), i);
     }
     &table[none..none]
 }

@@ -1,19 +1,16 @@
 -- `adorn_by_value`: each test decides one refusal. Assumes nothing.
 use Prim.Native.Nat.{ℕ, _≤_}
 use native.Mathlib.Omega.{arith}
-use mathlib.Core.Path.{_≡_, refl, sym, _∙_, subst}
-use mathlib.Core.List.{List, [], map}
-use mathlib.Core.Option.{none}
+use mathlib.Core.Path.{_≡_, refl, sym, _∙_}
+use mathlib.Core.List.{List, []}
 use lib.ListN.{length}
-use Rattle.paper.specs.Format.{Format, base, mostRows, rowBytes, whole}
+use Rattle.paper.specs.Format.{Format, mostRows, rowBytes, whole}
 use Rattle.paper.specs.Tables as Tables
 use Rattle.paper.specs.Adorned.{adorned}
 use Rattle.paper.specs.Calls.{given, tests1-3}
 use Rattle.paper.proofs.Calls.{passed1-3, few-rows, count-rows}
-use Rattle.bytes.proofs.Laws.{base-levels}
 use Rattle.tables.proofs.Examine.{examined-refused, examined-given}
-use Rattle.types.specs.Types.{Lists}
-use Rattle.adorned.specs.Told.{told, placed, Counted, adornFigures}
+use Rattle.adorned.specs.Told.{adornFigures}
 use Rattle.adorned.proofs.All.{adorned-length}
 use Rattle.adorned.proofs.Calls.{says, answer-is, figures-refused, figures-over, figures-short, figures-given}
 use borrow.Author.Needs.{needs}
@@ -23,52 +20,48 @@ use Rattle.adorned.proofs.adorn_by_value.Tie as tie
 abbrev begun : tie.After-examine → tie.Start
 begun x = x .before .before
 
--- where the table is accepted
-abbrev accepted : tie.After-base → tie.Else1
-accepted c = c .before
+-- where the types of an accepted table are listed, and where it is accepted
+abbrev accepted : tie.After-list-types → tie.Else1
+accepted l = l .before .before
 
--- the table that is lent
-abbrev lent : tie.After-base → List ℕ
-lent c = begun (accepted c .before) .args .table .now
+-- the table that is lent, its format, and the places that are lent for summaries
+abbrev lent : tie.Else1 → List ℕ
+lent u = begun (u .before) .args .table .now
 
--- the places that are lent for summaries
-abbrev places : tie.After-base → ℕ
-places c = begun (accepted c .before) .args .lent
+abbrev format : tie.Else1 → Format
+format u = begun (u .before) .args .f
+
+abbrev places : tie.Else1 → ℕ
+places u = begun (u .before) .args .lent
 
 -- the tests of the table are passed, and its rows are counted
-examined : (c : tie.After-base) →
-    (tests1-3 base (lent c) ≡ given (Tables.rows base (lent c))) × (accepted c .before .examine .result .rows ≡ whole (rowBytes base) (lent c))
-examined c =
-    let x = accepted c .before in
-    let r = x .examine .result in
-    examined-given base (lent c) (r .number) (r .place) (r .rows) (x .examine .ensures) (accepted c .if1 .left)
+examined : (u : tie.Else1) →
+    let f = format u in
+    (tests1-3 f (lent u) ≡ given (Tables.rows f (lent u))) × (u .before .examine .result .rows ≡ whole (rowBytes f) (lent u))
+examined u =
+    let r = u .before .examine in
+    examined-given (format u) (lent u) (r .result .number) (r .result .place) (r .result .rows) (r .ensures) (u .if1 .left)
 
 -- so many rows
-counted : (c : tie.After-base) → accepted c .before .examine .result .rows ≡ length (Tables.rows base (lent c))
-counted c = omega (arith, examined c .1, count-rows base (lent c))
+counted : (u : tie.Else1) → u .before .examine .result .rows ≡ length (Tables.rows (format u) (lent u))
+counted u = omega (arith, examined u .1, count-rows (format u) (lent u))
 
-few : (c : tie.After-base) → accepted c .before .examine .result .rows ≤ mostRows
-few c =
-    let p = passed1-3 base (lent c) (Tables.rows base (lent c)) (examined c .0) in
-    omega (arith, counted c, few-rows base (lent c) (p .2))
+few : (u : tie.Else1) → u .before .examine .result .rows ≤ mostRows
+few u =
+    let f = format u in
+    let p = passed1-3 f (lent u) (Tables.rows f (lent u)) (examined u .0) in
+    omega (arith, counted u, few-rows f (lent u) (p .2))
 
--- the type list is that of the base, and the lent list has the rows' type numbers
-abbrev based : tie.After-list-types → tie.After-base
-based l = l .before .before
-
+-- the lent list has the rows' type numbers
 abbrev numbers : tie.After-list-types → List ℕ
 numbers l = l .list-types .last .1 .1 .1 .0
-
-lists : (l : tie.After-list-types) → Lists (Tables.rows base (lent (based l))) (numbers l) (l .list-types .result)
-lists l =
-    let b = based l in
-    subst (λ f. Lists (Tables.rows f (lent b)) (numbers l) (l .list-types .result)) (b .base .ensures) (l .list-types .ensures)
 
 -- no type is one too many
 late : (c : tie.Else2) →
     let l = c .before .before in
-    length (Tables.rows base (lent (based l))) ≤ l .list-types .result .over
-late c = omega (arith, c .if2 .left, counted (based (c .before .before)))
+    let u = accepted l in
+    length (Tables.rows (format u) (lent u)) ≤ l .list-types .result .over
+late c = omega (arith, c .if2 .left, counted (accepted (c .before .before)))
 
 examine-requires : tie.Need-examine-requires
 examine-requires c κs = search needs
@@ -82,26 +75,18 @@ returns c =
     let a = begun x .args in
     let r = x .examine .result in
     let t = a .table .now in
-    let refusal = examined-refused base t (r .number) (r .place) (r .rows) (x .examine .ensures) (c .before .if1 .taken) in
-    says record { number = r .number; place = r .place; rest = [] } (adornFigures t (a .lent)) (c .refused .result)
-    (answer-is (c .refused .result) (r .number) (r .place) (c .refused .ensures)) (figures-refused t (a .lent) (r .number) (r .place) refusal)
-
-base-requires : tie.Need-base-requires
-base-requires c κs = search needs
+    let refusal = examined-refused (a .f) t (r .number) (r .place) (r .rows) (x .examine .ensures) (c .before .if1 .taken) in
+    says record { number = r .number; place = r .place; rest = [] } (adornFigures (a .f) t (a .lent)) (c .refused .result)
+    (answer-is (c .refused .result) (r .number) (r .place) (c .refused .ensures)) (figures-refused (a .f) t (a .lent) (r .number) (r .place) refusal)
 
 slice-aggregate-list-types : tie.Need-slice-aggregate-list-types
 slice-aggregate-list-types c = search needs
 
 list-types-requires : tie.Need-list-types-requires
 list-types-requires c κs =
-    let b = c .before in
-    let t = lent b in
-    let rows = accepted b .before .examine .result .rows in
-    let p = passed1-3 base t (Tables.rows base t) (examined b .0) in
-    let is = sym (b .base .ensures) in (
-      (subst (λ (f : Format). rows ≡ whole (rowBytes f) t) is (examined b .1), few b, base-levels (b .base .result) (b .base .ensures)),
-      (subst (λ f. Tables.badRow f (Tables.rows f t) ≡ none) is (p .1), refl),
-    )
+    let u = c .before in
+    let p = passed1-3 (format u) (lent u) (Tables.rows (format u) (lent u)) (examined u .0) in
+    ((examined u .1, few u, begun (u .before) .pre .shallow), (p .1, refl))
 
 refused-requires-2 : tie.Need-refused-requires-2
 refused-requires-2 c κs = search needs
@@ -109,11 +94,12 @@ refused-requires-2 c κs = search needs
 returns-2 : tie.Need-returns-2
 returns-2 c =
     let l = c .before .before .before in
-    let b = based l in
-    let t = lent b in
+    let u = accepted l in
+    let f = format u in
+    let t = lent u in
     let over = l .list-types .result .over in
-    let q = figures-over t (places b) (examined b .0) over _ (lists l .over) (omega (arith, c .before .if2 .taken, counted b)) in
-    says record { number = 4; place = over; rest = [] } (adornFigures t (places b)) (c .refused2 .result)
+    let q = figures-over f t (places u) (examined u .0) over _ (l .list-types .ensures .over) (omega (arith, c .before .if2 .taken, counted u)) in
+    says record { number = 4; place = over; rest = [] } (adornFigures f t (places u)) (c .refused2 .result)
     (answer-is (c .refused2 .result) 4 over (c .refused2 .ensures)) q
 
 refused-requires-3 : tie.Need-refused-requires-3
@@ -123,11 +109,13 @@ returns-3 : tie.Need-returns-3
 returns-3 c =
     let e = c .before .before in
     let l = e .before .before in
-    let b = based l in
-    let t = lent b in
-    let count = lists l .count (late e) in
-    let q = figures-short t (places b) (examined b .0) (l .list-types .result .over) _ (lists l .over) (late e) (omega (arith, c .before .if3 .taken, count)) in
-    says record { number = 10; place = 0; rest = [] } (adornFigures t (places b)) (c .refused3 .result)
+    let u = accepted l in
+    let f = format u in
+    let t = lent u in
+    let lists = l .list-types .ensures in
+    let q = figures-short f t (places u) (examined u .0) (l .list-types .result .over) _ (lists .over) (late e)
+    (omega (arith, c .before .if3 .taken, lists .count (late e))) in
+    says record { number = 10; place = 0; rest = [] } (adornFigures f t (places u)) (c .refused3 .result)
     (answer-is (c .refused3 .result) 10 0 (c .refused3 .ensures)) q
 
 slice-aggregate-summaries-of : tie.Need-slice-aggregate-summaries-of
@@ -137,32 +125,32 @@ summaries-of-requires : tie.Need-summaries-of-requires
 summaries-of-requires c κs =
     let e = c .before .before in
     let l = e .before .before in
-    let b = based l in
-    let t = lent b in
-    let p = passed1-3 base t (Tables.rows base t) (examined b .0) in
-    let known : Counted base (accepted b .before .examine .result .rows) t (numbers l) (l .list-types .result) = record {
-      sound = record { kept = p .1; shallow = omega (arith, base-levels base refl) };
-      rows-n = counted b;
-      lists = lists l;
+    let u = accepted l in
+    let f = format u in
+    let p = passed1-3 f (lent u) (Tables.rows f (lent u)) (examined u .0) in
+    record {
+      sound = record { kept = p .1; shallow = omega (arith, begun (u .before) .pre .shallow) };
+      rows-n = counted u;
+      lists = l .list-types .ensures;
       whole = e .if2 .left;
-      small = few b;
-    } in
-    subst (λ f. Counted f (accepted b .before .examine .result .rows) t (numbers l) (l .list-types .result)) (sym (b .base .ensures)) known
+      small = few u;
+    }
 
 returns-4 : tie.Need-returns-4
 returns-4 c =
     let e = c .before .before .before in
     let l = e .before .before in
-    let b = based l in
-    let t = lent b in
-    let count = lists l .count (late e) in
+    let u = accepted l in
+    let f = format u in
+    let t = lent u in
+    let lists = l .list-types .ensures in
+    let count = lists .count (late e) in
     let s = c .summaries-of in
-    let all = subst (λ f. map told (s .result) ≡ placed (adorned (Tables.rows f t))) (b .base .ensures) (s .ensures) in
-    let enough = c .before .before .if3 .left in
-    let q = figures-given t (places b) (examined b .0) (l .list-types .result .over) _ (lists l .over) (late e) (omega (arith, enough, count)) in
-    says record { number = 0; place = 0; rest = adorned (Tables.rows base t) } (adornFigures t (places b))
+    let q = figures-given f t (places u) (examined u .0) (l .list-types .result .over) _ (lists .over) (late e)
+    (omega (arith, c .before .before .if3 .left, count)) in
+    says record { number = 0; place = 0; rest = adorned (Tables.rows f t) } (adornFigures f t (places u))
     record { number = 0; place = 0; count = l .list-types .result .count; summaries = s .result }
-    record { number-is = refl; place-is = refl; count-is = count ∙ sym (adorned-length (Tables.rows base t)); summaries-are = all } q
+    record { number-is = refl; place-is = refl; count-is = count ∙ sym (adorned-length (Tables.rows f t)); summaries-are = s .ensures } q
 
 pub adorn-by-value-spec : {M : Type 1} → statement M
 adorn-by-value-spec =
@@ -171,7 +159,6 @@ adorn-by-value-spec =
     examine-requires
     refused-requires
     returns
-    base-requires
     slice-aggregate-list-types
     list-types-requires
     refused-requires-2

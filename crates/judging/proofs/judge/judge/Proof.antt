@@ -18,13 +18,13 @@ prepared u = u .before .before .before .before .before
 
 -- what is given back, and what the lent lists hold
 abbrev work : tie.After-prepare → Work
-work p = let left = p .prepare .last .1 .1 in workOf (p .prepare .result) (left .0) (left .1 .0) (left .1 .1 .0) (left .1 .1 .1 .0)
+work p = let left = p .prepare .last .1 .1 .1 in workOf (p .prepare .result) (left .0) (left .1 .0) (left .1 .1 .0) (left .1 .1 .1 .0)
 
 -- where tests 1 to 7 pass
 abbrev tested : tie.After-types3 → tie.Else1
 tested c = c .before .before .before
 
-ready : (u : tie.Else1) → let p = prepared u in let a = begun p .args in Ready (a .table .now) (a .shape .now) (work p)
+ready : (u : tie.Else1) → let p = prepared u in let a = begun p .args in Ready (a .f) (a .table .now) (a .shape .now) (work p)
 ready u = prepared u .prepare .ensures .ready (u .if1 .left)
 
 -- where the edges are walked
@@ -48,7 +48,7 @@ slice-aggregate-prepare-4 : tie.Need-slice-aggregate-prepare-4
 slice-aggregate-prepare-4 c = search needs
 
 prepare-requires : tie.Need-prepare-requires
-prepare-requires c κs = record { levels-long = refl; types-long = refl; none-met = refl; ways-long = refl }
+prepare-requires c κs = (search needs, record { levels-long = refl; types-long = refl; none-met = refl; ways-long = refl })
 
 returns : tie.Need-returns
 returns c = ap inNumbers (judge-refused (c .before .before .before .before .before .prepare .ensures) (c .if1 .taken))

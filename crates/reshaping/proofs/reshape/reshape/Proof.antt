@@ -3,7 +3,6 @@ use Prim.Native.Nat.{_≤_}
 use native.Mathlib.Omega.{arith}
 use mathlib.Core.Path.{refl, sym, _∙_, ap}
 use lib.ListN.{length}
-use Rattle.paper.specs.Format.{base}
 use Rattle.paper.specs.Tables.{rows}
 use Rattle.paper.specs.Closeness.{nodes}
 use Rattle.paper.specs.NewTable.{lines}
@@ -12,7 +11,7 @@ use Rattle.shapes.specs.Tests.{shapeIn}
 use Rattle.reshaping.proofs.Answers.{reshape-refused, reshape-full}
 use Rattle.reshaping.proofs.Paper.{length-is}
 use Rattle.reshaping.proofs.Summed.{counted-here, count-fits, count-exceeds}
-use Rattle.reshaping.proofs.Lent.{reshapes, runs-named, asked-as, left-as, fits, lines-left, table-left, sources-left}
+use Rattle.reshaping.proofs.Lent.{reshapes, runs-named, left-at-front, fits, lines-left, table-left, sources-left}
 use borrow.Author.Needs.{needs}
 use Rattle.reshaping.proofs.reshape.reshape.Statement.{statement}
 use Rattle.reshaping.proofs.reshape.reshape.Tie as tie
@@ -32,8 +31,8 @@ counts c = c .before .before .before
 
 -- there is room for all lines
 room-enough : (d : tie.Else2) → let a = begun (prepared (passed (counts (d .before) .before))) .args in
-    length (lines (nodes (rows base (a .table .now))) (shapeIn base (a .table .now) (a .shape .now)) 6) ≤ roomIn base (a .new .now) (a .sources .now)
-unfolding base
+    length (lines (nodes (rows (a .f) (a .table .now))) (shapeIn (a .f) (a .table .now) (a .shape .now)) (a .f .levels))
+    ≤ roomIn (a .f) (a .new .now) (a .sources .now)
 room-enough d =
     let r = d .before .room-in in
     let n = counts (d .before) in
@@ -55,7 +54,7 @@ slice-aggregate-prepare-4 : tie.Need-slice-aggregate-prepare-4
 slice-aggregate-prepare-4 c = search needs
 
 prepare-requires : tie.Need-prepare-requires
-prepare-requires c κs = record { levels-long = refl; types-long = refl; none-met = refl; ways-long = refl }
+prepare-requires c κs = (search needs, record { levels-long = refl; types-long = refl; none-met = refl; ways-long = refl })
 
 refused-requires : tie.Need-refused-requires
 refused-requires c κs = search needs
@@ -68,7 +67,7 @@ returns c =
     let er = c .refused .ensures ∙ sym (ap (λ (x : Reshaping). x .reply) e) in
     let en = sym (ap (λ (x : Reshaping). x .table) e) in
     let es = sym (ap (λ (x : Reshaping). x .sources) e) in
-    reshapes _ _ _ er en es
+    reshapes (begun p .pre) _ _ _ er en es
 
 slice-aggregate-count-lines : tie.Need-slice-aggregate-count-lines
 slice-aggregate-count-lines c = search needs
@@ -98,7 +97,6 @@ refused-requires-2 : tie.Need-refused-requires-2
 refused-requires-2 c κs = search needs
 
 returns-2 : tie.Need-returns-2
-unfolding base
 returns-2 c =
     let t = c .before in
     let n = counts (t .before) in
@@ -112,10 +110,7 @@ returns-2 c =
     let er = c .refused2 .ensures ∙ sym (ap (λ (x : Reshaping). x .reply) e) in
     let en = sym (ap (λ (x : Reshaping). x .table) e) in
     let es = sym (ap (λ (x : Reshaping). x .sources) e) in
-    reshapes _ _ _ er en es
-
-base-requires : tie.Need-base-requires
-base-requires c κs = search needs
+    reshapes (begun (prepared p) .pre) _ _ _ er en es
 
 slice-aggregate-write-table : tie.Need-slice-aggregate-write-table
 slice-aggregate-write-table c = search needs
@@ -130,15 +125,15 @@ write-table-requires : tie.Need-write-table-requires
 write-table-requires c κs =
     let l = c .before .before in
     let b = l .before .before .before in
-    let n = counts (b .before .before) in
+    let n = counts (b .before) in
     let p = passed (n .before) in
     let a = begun (prepared p) .args in
     let y = prepared p .prepare .ensures .ready (p .if1 .left) in
     let left = n .count-lines .last .1 .1 .1 .1 in
     let named = runs-named y {runs = left .0} {lists = left .1 .0} (n .count-lines .ensures .0)
     (record { runs-long = omega (arith, slice-aggregate-write-table-2 (l .before)); list-long = omega (arith, slice-aggregate-write-table-3 l) }) in
-    let room = fits (prepared p .prepare .ensures) (p .if1 .left) (a .new .now) (a .sources .now) (room-enough (b .before)) in
-    asked-as (b .base .result) (b .base .ensures) named room
+    let room = fits (prepared p .prepare .ensures) (p .if1 .left) (a .new .now) (a .sources .now) (room-enough b) in
+    (named, room)
 
 same-length : tie.Need-same-length
 same-length c = search needs
@@ -150,16 +145,16 @@ returns-3 : tie.Need-returns-3
 returns-3 c =
     let v = c .before .before .before .before .before in
     let b = v .before .before .before .before .before .before in
-    let p = passed (counts (b .before .before) .before) in
+    let p = passed (counts (b .before) .before) in
     let a = begun (prepared p) .args in
     let q = prepared p .prepare .ensures in
     let z = p .if1 .left in
-    let le = room-enough (b .before) in
-    let (ec, (et, ep)) = left-as (b .base .result) (b .base .ensures) (v .write-table .ensures) in
+    let le = room-enough b in
+    let (ec, (et, ep)) = left-at-front (v .write-table .ensures) in
     let er = lines-left q z (a .new .now) (a .sources .now) le (v .write-table .result) ec in
     let en = table-left q z (a .new .now) (a .sources .now) le _ et in
     let es = sources-left q z (a .new .now) (a .sources .now) le _ ep in
-    reshapes _ _ _ er en es
+    reshapes (begun (prepared p) .pre) _ _ _ er en es
 
 pub reshape-spec : {M : Type 1} → statement M
 reshape-spec =
@@ -180,7 +175,6 @@ reshape-spec =
     room-in-requires
     refused-requires-2
     returns-2
-    base-requires
     slice-aggregate-write-table
     slice-aggregate-write-table-2
     slice-aggregate-write-table-3

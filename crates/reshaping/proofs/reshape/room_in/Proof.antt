@@ -1,11 +1,15 @@
 -- `reshaping::reshape::room_in` meets its contract. Assumes nothing.
-use native.Mathlib.Omega.{arith}
+use Prim.Native.Nat.{_/_, min}
+use mathlib.Core.Path.{_∙_, ap, ap₂}
 use borrow.Author.Needs.{needs}
 use Rattle.reshaping.proofs.reshape.room_in.Statement.{statement}
 use Rattle.reshaping.proofs.reshape.room_in.Tie as tie
-use Rattle.reshaping.proofs.reshape.room_in.Reads as reads
-use Rattle.reshaping.proofs.reshape.room_in.Lts as lts
-use Rattle.tables.proofs.row.smaller.Reads as smaller-reads
+
+row-bytes-requires : tie.Need-row-bytes-requires
+row-bytes-requires c κs = search needs
+
+div-smaller : tie.Need-div-smaller
+div-smaller c = search needs
 
 smaller-requires : tie.Need-smaller-requires
 smaller-requires c κs = search needs
@@ -14,7 +18,10 @@ smaller-requires-2 : tie.Need-smaller-requires-2
 smaller-requires-2 c κs = search needs
 
 returns : tie.Need-returns
-returns c = omega (arith, c .smaller2 .ensures, c .before .smaller .ensures)
+returns c =
+    let p = c .before in
+    let w = p .before in
+    c .smaller2 .ensures ∙ ap₂ min (ap (λ n. w .before .args .bytes / n) (w .row-bytes .ensures)) (p .smaller .ensures)
 
 pub room-in-spec : {M : Type 1} → statement M
-room-in-spec = tie.close (tie.spec smaller-requires smaller-requires-2 returns)
+room-in-spec = tie.close (tie.spec row-bytes-requires div-smaller smaller-requires smaller-requires-2 returns)

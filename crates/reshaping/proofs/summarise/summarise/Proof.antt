@@ -3,11 +3,9 @@ use Prim.Native.Nat.{_≤_}
 use native.Mathlib.Omega.{arith}
 use mathlib.Core.Path.{_≡_, refl, sym, _∙_}
 use lib.ListN.{length}
-use Rattle.paper.specs.Format.{base, mostLines}
-use Rattle.paper.specs.Tables.{rows}
-use Rattle.paper.specs.Closeness.{nodes}
+use Rattle.paper.specs.Format.{mostLines}
 use Rattle.shapes.specs.Work.{Work, Ready, workOf}
-use Rattle.lines.specs.Lines.{linesOf}
+use Rattle.lines.specs.Write.{allLines}
 use Rattle.reshaping.proofs.Answers.{summary-refused, summary-full, summary-given}
 use Rattle.reshaping.proofs.Paper.{length-is}
 use Rattle.reshaping.proofs.Summed.{counted-here, different-fits, summed, count-fits, count-exceeds}
@@ -27,9 +25,9 @@ begun c = c .before .before .before .before .before .before .before
 
 -- what is given back, and what the lent lists hold
 abbrev work : tie.After-prepare → Work
-work p = let left = p .prepare .last .1 .1 in workOf (p .prepare .result) (left .0) (left .1 .0) (left .1 .1 .0) (left .1 .1 .1 .0)
+work p = let left = p .prepare .last .1 .1 .1 in workOf (p .prepare .result) (left .0) (left .1 .0) (left .1 .1 .0) (left .1 .1 .1 .0)
 
-ready : (c : tie.After-shows) → let p = prepared (passed c) in Ready (begun p .args .table .now) (begun p .args .shape .now) (work p)
+ready : (c : tie.After-shows) → let p = prepared (passed c) in Ready (begun p .args .f) (begun p .args .table .now) (begun p .args .shape .now) (work p)
 ready c = prepared (passed c) .prepare .ensures .ready (passed c .if1 .left)
 
 lines-long : (n : tie.After-count-lines) → length (n .count-lines .result .lines) ≡ 16
@@ -40,7 +38,7 @@ abbrev counts : tie.Else2 → tie.After-count-lines
 counts e = e .before .before .before
 
 fits : (e : tie.Else2) → let p = prepared (passed (counts e .before)) in
-    length (linesOf (nodes (rows base (begun p .args .table .now))) (work p .shape) 5) ≤ mostLines
+    length (allLines (begun p .args .f) (begun p .args .table .now) (work p .shape)) ≤ mostLines
 fits e =
     let n = counts e in
     count-fits (counted-here (ready (n .before)) (n .count-lines .ensures .1)) mostLines (omega arith) (e .if2 .left)
@@ -58,7 +56,7 @@ slice-aggregate-prepare-4 : tie.Need-slice-aggregate-prepare-4
 slice-aggregate-prepare-4 c = search needs
 
 prepare-requires : tie.Need-prepare-requires
-prepare-requires c κs = record { levels-long = refl; types-long = refl; none-met = refl; ways-long = refl }
+prepare-requires c κs = (search needs, record { levels-long = refl; types-long = refl; none-met = refl; ways-long = refl })
 
 refused-requires : tie.Need-refused-requires
 refused-requires c κs = search needs

@@ -1,14 +1,13 @@
 -- `table::look_up`: what each branch hands back. Assumes nothing.
-use Prim.Native.Nat.{ℕ, _+_, _*_, _≤_}
+use Prim.Native.Nat.{_+_, _*_, _≤_}
 use native.Mathlib.Omega.{arith}
-use mathlib.Core.Path.{_≡_, sym, _∙_, ap, subst}
+use mathlib.Core.Path.{_≡_, sym, subst}
 use lib.ListN.{length, take, drop}
 use denote.Ref.{now}
-use Rattle.paper.specs.Format.{Format, base, rowBytes, whole}
+use Rattle.paper.specs.Format.{rowBytes, whole}
 use Rattle.paper.specs.Tables as Tables
 use Rattle.paper.specs.Calls.{given, tests1-3}
 use Rattle.bytes.specs.Part.{OwnFrom}
-use Rattle.bytes.proofs.Laws.{base-levels}
 use Rattle.tables.proofs.Examine.{examined-refused, examined-given, lookUp-refused, lookUp-past, lookUp-row}
 use Rattle.tables.proofs.Rows.{row-in}
 use Rattle.tables.proofs.Back.{nothing-back, row-back}
@@ -22,15 +21,12 @@ begun x = x .before .before
 -- the table is accepted, and its rows are counted
 accepted : (c : tie.Else1) →
     let t = begun (c .before) .args .table .now in
-    (tests1-3 base t ≡ given (Tables.rows base t)) × (c .before .examine .result .rows ≡ whole (rowBytes base) t)
+    let f = begun (c .before) .args .f in
+    (tests1-3 f t ≡ given (Tables.rows f t)) × (c .before .examine .result .rows ≡ whole (rowBytes f) t)
 accepted c =
     let x = c .before in
     let r = x .examine .result in
-    examined-given base (begun x .args .table .now) (r .number) (r .place) (r .rows) (x .examine .ensures) (c .if1 .left)
-
--- the width is that of the base's rows
-width : (c : tie.After-row-bytes) → c .row-bytes .result ≡ rowBytes base
-width c = c .row-bytes .ensures ∙ ap (λ (f : Format). rowBytes f) (c .before .base .ensures)
+    examined-given (begun x .args .f) (begun x .args .table .now) (r .number) (r .place) (r .rows) (x .examine .ensures) (c .if1 .left)
 
 examine-requires : tie.Need-examine-requires
 examine-requires c κs = search needs
@@ -51,33 +47,30 @@ returns c =
     let r = x .examine .result in
     let t = a .table .now in
     let refusal = c .before .if1 .taken in
-    nothing-back (a .table) (a .i) (r .number) (r .place) refusal
-    (lookUp-refused base t (a .i) (r .number) (r .place) (examined-refused base t (r .number) (r .place) (r .rows) (x .examine .ensures) refusal))
-
-base-requires : tie.Need-base-requires
-base-requires c κs = search needs
+    nothing-back (a .f) (a .table) (a .i) (r .number) (r .place) refusal
+    (lookUp-refused (a .f) t (a .i) (r .number) (r .place) (examined-refused (a .f) t (r .number) (r .place) (r .rows) (x .examine .ensures) refusal))
 
 row-bytes-requires : tie.Need-row-bytes-requires
-row-bytes-requires c κs = omega (arith, base-levels (c .base .result) (c .base .ensures))
+row-bytes-requires c κs = search needs
 
 record-requires : tie.Need-record-requires
 record-requires c κs =
-    let i = c .before .before in
+    let i = c .before in
     let a = begun (i .before .before) .args in
-    subst (λ w. w * a .i + w ≤ length (a .table .now)) (sym (width c))
-    (row-in (rowBytes base) (a .i) (a .table .now) (omega (arith, i .if2 .taken, accepted (i .before) .1)))
+    subst (λ w. w * a .i + w ≤ length (a .table .now)) (sym (c .row-bytes .ensures))
+    (row-in (rowBytes (a .f)) (a .i) (a .table .now) (omega (arith, i .if2 .taken, accepted (i .before) .1)))
 
 returns-2 : tie.Need-returns-2
 returns-2 c =
     let w = c .before in
-    let i = w .before .before in
+    let i = w .before in
     let a = begun (i .before .before) .args in
     let t = a .table .now in
     let r = c .«record» in
     let (g, n) = accepted (i .before) in
-    row-back (a .table) (a .i) (r .result) (subst (λ w. now (r .result) ≡ take w (drop (w * a .i) t)) (width w) (r .ensures .0))
-    (subst (λ w. OwnFrom (a .table) (w * a .i) (r .result)) (width w) (r .ensures .2))
-    (lookUp-row base t (a .i) g (omega (arith, i .if2 .taken, n)))
+    row-back (a .f) (a .table) (a .i) (r .result) (subst (λ w. now (r .result) ≡ take w (drop (w * a .i) t)) (w .row-bytes .ensures) (r .ensures .0))
+    (subst (λ w. OwnFrom (a .table) (w * a .i) (r .result)) (w .row-bytes .ensures) (r .ensures .2))
+    (lookUp-row (a .f) t (a .i) g (omega (arith, i .if2 .taken, n)))
 
 sub-result-2 : tie.Need-sub-result-2
 sub-result-2 c = search needs
@@ -93,7 +86,7 @@ returns-3 c =
     let i = c .before in
     let a = begun (i .before .before) .args in
     let (g, n) = accepted (i .before) in
-    nothing-back (a .table) (a .i) 11 (a .i) (λ e. omega (arith, e)) (lookUp-past base (a .table .now) (a .i) g (omega (arith, i .if2 .left, n)))
+    nothing-back (a .f) (a .table) (a .i) 11 (a .i) (λ e. omega (arith, e)) (lookUp-past (a .f) (a .table .now) (a .i) g (omega (arith, i .if2 .left, n)))
 
 pub look-up-spec : {M : Type 1} → statement M
 look-up-spec =
@@ -104,7 +97,6 @@ look-up-spec =
     part-result-start
     part-result-end
     returns
-    base-requires
     row-bytes-requires
     record-requires
     returns-2
