@@ -8,7 +8,7 @@ use lib.ListN.{take, drop, replicate}
 use lib.Seq.{drop-drop}
 use denote.Ref.{RefT, now}
 use borrow.Author.Tests.{lt-ltb, le-ltb}
-use Rattle.paper.specs.Format.{Format, base, rowBytes, records, whole}
+use Rattle.paper.specs.Format.{Format, rowBytes, records, whole}
 use Rattle.paper.specs.Tables.{rowPart}
 use Rattle.paper.specs.Calls.{readerRow, readerNext}
 use Rattle.bytes.specs.Part.{OwnFrom}
@@ -46,16 +46,15 @@ module _ (f : Format) (t : List ℕ) (at : ℕ) where
 abbrev part : RefT (List ℕ) → ℕ → ℕ → RefT (List ℕ)
 part t i j = record { ptr = (t .ptr .0, i + t .ptr .1); name = t .name; now = take (j - i) (drop i (now t)) }
 
-pub row-handed : (t : RefT (List ℕ)) (at : ℕ) → at < whole (rowBytes base) (now t) → (p : RefT (List ℕ))
-    → now p ≡ take (rowBytes base) (drop (rowBytes base * at) (now t)) → OwnFrom t (rowBytes base * at) p → Handed t at p
-row-handed t at lt p is own = (
-  is ∙ sym (readerRow-row base (now t) at lt),
-  (own .0, omega (arith, own .1, readerStart-row base (now t) at lt)),
+pub row-handed : (f : Format) (t : RefT (List ℕ)) (at : ℕ) → at < whole (rowBytes f) (now t) → (p : RefT (List ℕ))
+    → now p ≡ take (rowBytes f) (drop (rowBytes f * at) (now t)) → OwnFrom t (rowBytes f * at) p → Handed f t at p
+row-handed f t at lt p is own = (
+  is ∙ sym (readerRow-row f (now t) at lt),
+  (own .0, omega (arith, own .1, readerStart-row f (now t) at lt)),
 )
 
-pub end-handed : (t : RefT (List ℕ)) (at : ℕ) → whole (rowBytes base) (now t) ≤ at → Handed t at (part t 0 0)
-unfolding base
-end-handed t at le = (sym (readerRow-end base (now t) at le), (refl, omega (arith, readerStart-end base (now t) at le)))
+pub end-handed : (f : Format) (t : RefT (List ℕ)) (at : ℕ) → whole (rowBytes f) (now t) ≤ at → Handed f t at (part t 0 0)
+end-handed f t at le = (sym (readerRow-end f (now t) at le), (refl, omega (arith, readerStart-end f (now t) at le)))
 
 -- ---- the rows in order
 -- What a reader hands out in n steps, from a place on.

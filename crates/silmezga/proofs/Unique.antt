@@ -5,14 +5,19 @@ use mathlib.Core.Path.{_≡_, sym, _∙_, ap}
 use mathlib.Core.Bool.{true}
 use mathlib.Core.List.{List, map}
 use lib.ListN.{take}
-use denote.Ref.{RefT, now}
-use Rattle.paper.specs.Format.{base, mostRows, rowBytes}
+use denote.Ref.{now}
+use Rattle.paper.specs.Format.{Format, mostRows, rowBytes}
+use Rattle.paper.specs.Widths as Widths
+use Rattle.paper.specs.Widths.{formatOf}
 use Rattle.paper.specs.Verdict.{kept, missing}
 use Rattle.paper.specs.Calls.{Reply, adorn, judge}
 use Rattle.paper.specs.Links.{LinksKept}
 use Rattle.paper.specs.MadeUp.{NothingMadeUp, unshown}
 use Rattle.paper.specs.Shown.{FiguresAgree}
 use Rattle.paper.specs.Sound.{SoundSource}
+use Rattle.widths.specs.Answers.{Moves}
+use Rattle.widths.specs.declared.moves.Moved.{Moved}
+use Rattle.widths.proofs.Unique.{moves-unique}
 use Rattle.adorned.specs.Told.{told}
 use Rattle.adorned.specs.Lent.{adornedTypes}
 use Rattle.adorned.specs.declared.TypeSummary.{TypeSummary}
@@ -32,95 +37,127 @@ use Rattle.silmezga.proofs.adorn as adorn-call
 use Rattle.silmezga.proofs.judge.Reads as judge-call
 use Rattle.silmezga.proofs.reshape.Reads as reshape
 use Rattle.silmezga.proofs.summarise.Reads as summarise
+use Rattle.silmezga.proofs.widen_table.Reads as widen-table
+use Rattle.silmezga.proofs.narrow_table.Reads as narrow-table
+use Rattle.silmezga.proofs.widen_shape.Reads as widen-shape
+use Rattle.silmezga.proofs.narrow_shape.Reads as narrow-shape
 
 -- ---- examining and looking up
 pub examine-asks : Asks-nothing examine.Asked
 examine-asks κs a = tt
 
 pub examine-settled : Settles examine.Learnt (λ κs r e. r)
-examine-settled κs a r s e f = tables.examine-unique (now (a .0)) r s
+examine-settled κs a r s e f = tables.examine-unique (formatOf (a .0)) (now (a .1 .0)) r s
 
 pub look-up-asks : Asks-nothing look-up.Asked
 look-up-asks κs a = tt
 
 -- the same bytes at the same place of the caller's table
 pub look-up-settled : Settles look-up.Learnt (λ κs p e. part p)
-look-up-settled κs a p o e f x y = let u = tables.look-up-unique (a .0) (a .1 .0) p o x y in λ i. (u .0 i, u .1 i)
+look-up-settled κs a p o e f x y = let u = tables.look-up-unique (formatOf (a .0)) (a .1 .0) (a .1 .1 .0) p o x y in λ i. (u .0 i, u .1 i)
 
 pub look-up-refusal-asks : Asks-nothing look-up-refusal.Asked
 look-up-refusal-asks κs a = tt
 
 pub look-up-refusal-settled : Settles look-up-refusal.Learnt (λ κs r e. r)
-look-up-refusal-settled κs a r s e f = tables.look-up-refusal-unique (now (a .0)) (a .1 .0) r s
+look-up-refusal-settled κs a r s e f = tables.look-up-refusal-unique (formatOf (a .0)) (now (a .1 .0)) (a .1 .1 .0) r s
 
 -- ---- judging and reshaping
 pub judge-asks : Asks-nothing judge-call.Asked
 judge-asks κs a = tt
 
 pub judge-settled : Settles judge-call.Learnt (λ κs r e. r)
-judge-settled κs a r s e f = judging.judge-unique (now (a .0)) (now (a .1 .0)) r s
+judge-settled κs a r s e f = judging.judge-unique (formatOf (a .0)) (now (a .1 .0)) (now (a .1 .1 .0)) r s
 
 pub reshape-asks : Asks-nothing reshape.Asked
 reshape-asks κs a = tt
 
 -- the answer, and every lent byte and place after it
-pub reshape-settled : Settles {X = Reshaped × (List ℕ × List ℕ)} reshape.Learnt (λ κs r e. (r, (now (e .1 .1 .0), now (e .1 .1 .1 .0))))
+pub reshape-settled : Settles {X = Reshaped × (List ℕ × List ℕ)} reshape.Learnt (λ κs r e. (r, (now (e .1 .1 .1 .0), now (e .1 .1 .1 .1 .0))))
 reshape-settled κs a r s e f x y =
     let u = reshaping.reshape-unique x y in
     λ i. (u .0 i, (u .1 i, u .2 i))
 
 -- demand 3: where the reshape is accepted and the verdict on the same table and shape is 0, what the call leaves keeps the links
 pub reshape-keeps-links : (κs : _) (a : _) (r : Reshaped) (e : _) → reshape.Learnt κs a r e
-    → r .number ≡ 0 → judge base (now (a .0)) (now (a .1 .0)) .rest .verdict ≡ kept
-    → LinksKept base (now (a .0)) (now (a .1 .0)) (take (r .lines * rowBytes base) (now (e .1 .1 .0))) (take (r .lines) (now (e .1 .1 .1 .0)))
+    → r .number ≡ 0 → judge (formatOf (a .0)) (now (a .1 .0)) (now (a .1 .1 .0)) .rest .verdict ≡ kept
+    → LinksKept (formatOf (a .0)) (now (a .1 .0)) (now (a .1 .1 .0)) (take (r .lines * rowBytes (formatOf (a .0))) (now (e .1 .1 .1 .0))) (take (r .lines) (now (e .1 .1 .1 .1 .0)))
 reshape-keeps-links κs a r e x = reshaping.links-promised x
 
 -- where the reshape is accepted and the second answer on the same table and shape is yes, nothing is made up in what the call leaves
 pub reshape-makes-nothing-up : (κs : _) (a : _) (r : Reshaped) (e : _) → reshape.Learnt κs a r e
-    → r .number ≡ 0 → judge base (now (a .0)) (now (a .1 .0)) .rest .noneApart ≡ true
-    → NothingMadeUp base (now (a .0)) (now (a .1 .0)) (take (r .lines * rowBytes base) (now (e .1 .1 .0))) (take (r .lines) (now (e .1 .1 .1 .0)))
+    → r .number ≡ 0 → judge (formatOf (a .0)) (now (a .1 .0)) (now (a .1 .1 .0)) .rest .noneApart ≡ true
+    → NothingMadeUp (formatOf (a .0)) (now (a .1 .0)) (now (a .1 .1 .0)) (take (r .lines * rowBytes (formatOf (a .0))) (now (e .1 .1 .1 .0))) (take (r .lines) (now (e .1 .1 .1 .1 .0)))
 reshape-makes-nothing-up κs a r e x = reshaping.none-made-up-promised x
 
 -- where the reshape is accepted and verdict 1 names an entry and a row, no line that the call leaves is of that entry and row
 pub reshape-leaves-out-named : (κs : _) (a : _) (r : Reshaped) (e : _) → reshape.Learnt κs a r e
-    → r .number ≡ 0 → (n i : ℕ) → judge base (now (a .0)) (now (a .1 .0)) .rest .verdict ≡ missing n i
-    → unshown n i (take (r .lines) (now (e .1 .1 .1 .0))) ≡ true
+    → r .number ≡ 0 → (n i : ℕ) → judge (formatOf (a .0)) (now (a .1 .0)) (now (a .1 .1 .0)) .rest .verdict ≡ missing n i
+    → unshown n i (take (r .lines) (now (e .1 .1 .1 .1 .0))) ≡ true
 reshape-leaves-out-named κs a r e x = reshaping.named-unshown-promised x
 
 -- where the reshape is accepted with at most 1,024 lines, what the call leaves is a sound source
 pub reshape-leaves-source : (κs : _) (a : _) (r : Reshaped) (e : _) → reshape.Learnt κs a r e → r .number ≡ 0 → r .lines ≤ mostRows
-    → SoundSource base (now (a .1 .0)) (take (r .lines * rowBytes base) (now (e .1 .1 .0))) (r .lines)
+    → SoundSource (formatOf (a .0)) (now (a .1 .1 .0)) (take (r .lines * rowBytes (formatOf (a .0))) (now (e .1 .1 .1 .0))) (r .lines)
 reshape-leaves-source κs a r e x = reshaping.sound-promised x
 
 pub summarise-asks : Asks-nothing summarise.Asked
 summarise-asks κs a = tt
 
 pub summarise-settled : Settles summarise.Learnt (λ κs r e. r)
-summarise-settled κs a r s e f = reshaping.summarise-unique (now (a .0)) (now (a .1 .0)) r s
+summarise-settled κs a r s e f = reshaping.summarise-unique (formatOf (a .0)) (now (a .1 .0)) (now (a .1 .1 .0)) r s
 
 -- the figures of each entry agree: its different rows are no more than its lines, nor than the rows of its type, and its other lines are copies
 pub summarise-agrees : (κs : _) (a : _) (r : Summary) (e : _) → summarise.Learnt κs a r e → (n : ℕ) → FiguresAgree (summarised r .rest) n
-summarise-agrees κs a r e x = reshaping.figures-agree (now (a .0)) (now (a .1 .0)) r x
+summarise-agrees κs a r e x = reshaping.figures-agree (formatOf (a .0)) (now (a .1 .0)) (now (a .1 .1 .0)) r x
 
 -- where the verdict on the same table and shape is 0, every row of an entry's type is shown
 pub summarise-shows-all : (κs : _) (a : _) (r : Summary) (e : _) → summarise.Learnt κs a r e
-    → judge base (now (a .0)) (now (a .1 .0)) .rest .verdict ≡ kept → r .different ≡ r .rows
-summarise-shows-all κs a r e x = reshaping.all-shown (now (a .0)) (now (a .1 .0)) r x
+    → judge (formatOf (a .0)) (now (a .1 .0)) (now (a .1 .1 .0)) .rest .verdict ≡ kept → r .different ≡ r .rows
+summarise-shows-all κs a r e x = reshaping.all-shown (formatOf (a .0)) (now (a .1 .0)) (now (a .1 .1 .0)) r x
 
 -- ---- adorning: the answer, and every lent summary after it
-pub adorn-unique : (t : List ℕ) (before after₁ after₂ : List TypeSummary) (a b : AdornedTypes)
-    → adornedTypes a ≡ adorn base t (map told before) .reply → adornedTypes b ≡ adorn base t (map told before) .reply
-    → map told after₁ ≡ adorn base t (map told before) .summaries → map told after₂ ≡ adorn base t (map told before) .summaries
+pub adorn-unique : (f : Format) (t : List ℕ) (before after₁ after₂ : List TypeSummary) (a b : AdornedTypes)
+    → adornedTypes a ≡ adorn f t (map told before) .reply → adornedTypes b ≡ adorn f t (map told before) .reply
+    → map told after₁ ≡ adorn f t (map told before) .summaries → map told after₂ ≡ adorn f t (map told before) .summaries
     → (a ≡ b) × (after₁ ≡ after₂)
-adorn-unique t before after₁ after₂ a b ea eb la lb =
+adorn-unique f t before after₁ after₂ a b ea eb la lb =
     let same : a ≡ b = ap {B = AdornedTypes} (λ (r : Reply ℕ). record { number = r .number; place = r .place; types = r .rest }) (ea ∙ sym eb) in
     (same, told-same after₁ after₂ (la ∙ sym lb))
 
 pub adorn-asks : Walk-asks-nothing adorn-call.ended (λ M 𝓤 H. adorn-call.clauses 𝓤 H)
 adorn-asks M 𝓤 H A mem run κs a g = nothing 𝓤
 
-pub adorn-settled : Walk-settles adorn-call.ended (λ M 𝓤 H. adorn-call.clauses 𝓤 H) {X = AdornedTypes × List TypeSummary} (λ κs r e. (r, now (e .1 .0)))
+pub adorn-settled : Walk-settles adorn-call.ended (λ M 𝓤 H. adorn-call.clauses 𝓤 H) {X = AdornedTypes × List TypeSummary} (λ κs r e. (r, now (e .1 .1 .0)))
 adorn-settled M 𝓤 H A mem run κs a g r s e f =
     two-clauses 𝓤 _ _ _ _ (λ x₀ x₁ y₀ y₁.
-    let u = adorn-unique (now (a .0)) (now (a .1 .0)) (now (e .1 .0)) (now (f .1 .0)) r s x₀ y₀ x₁ y₁ in
+    let u = adorn-unique (formatOf (a .0)) (now (a .1 .0)) (now (a .1 .1 .0)) (now (e .1 .1 .0)) (now (f .1 .1 .0)) r s x₀ y₀ x₁ y₁ in
     λ i. (u .0 i, u .1 i))
+
+-- ---- widening and narrowing: the answer, and every lent byte after it
+pub moved-settled : (m : Widths.Moved) (r s : Moved) (new₁ new₂ : List ℕ) → Moves m r new₁ → Moves m s new₂ → _≡_ {A = Moved × List ℕ} (r, new₁) (s, new₂)
+moved-settled m r s new₁ new₂ x y = let u = moves-unique m r s new₁ new₂ x y in λ i. (u .0 i, u .1 i)
+
+pub widen-table-asks : Asks-nothing widen-table.Asked
+widen-table-asks κs a = tt
+
+pub widen-table-settled : Settles {X = Moved × List ℕ} widen-table.Learnt (λ κs r e. (r, now (e .1 .0)))
+widen-table-settled κs a r s e f = moved-settled _ r s _ _
+
+pub narrow-table-asks : Asks-nothing narrow-table.Asked
+narrow-table-asks κs a = tt
+
+pub narrow-table-settled : Settles {X = Moved × List ℕ} narrow-table.Learnt (λ κs r e. (r, now (e .1 .0)))
+narrow-table-settled κs a r s e f = moved-settled _ r s _ _
+
+pub widen-shape-asks : Asks-nothing widen-shape.Asked
+widen-shape-asks κs a = tt
+
+pub widen-shape-settled : Settles {X = Moved × List ℕ} widen-shape.Learnt (λ κs r e. (r, now (e .1 .0)))
+widen-shape-settled κs a r s e f = moved-settled _ r s _ _
+
+pub narrow-shape-asks : Asks-nothing narrow-shape.Asked
+narrow-shape-asks κs a = tt
+
+pub narrow-shape-settled : Settles {X = Moved × List ℕ} narrow-shape.Learnt (λ κs r e. (r, now (e .1 .0)))
+narrow-shape-settled κs a r s e f = moved-settled _ r s _ _

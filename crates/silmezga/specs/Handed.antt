@@ -5,7 +5,7 @@ use mathlib.Core.Bool.{true, false}
 use mathlib.Core.List.{List}
 use lib.Dec.{ltb}
 use denote.Ref.{RefT, now}
-use Rattle.paper.specs.Format.{Format, base, rowBytes, whole}
+use Rattle.paper.specs.Format.{Format, rowBytes, whole}
 use Rattle.paper.specs.Calls.{readerRow}
 use Rattle.bytes.specs.Part.{OwnFrom}
 
@@ -14,5 +14,5 @@ unfoldable pub readerStart : Format → List ℕ → ℕ → ℕ
 readerStart f b at = elim (ltb at (whole (rowBytes f) b)) [ true ↦ rowBytes f * at | false ↦ 0 ]
 
 -- What a reader at a place of the lent table t hands out: the row's bytes, in t's own memory, from that byte of t on.
-abbrev pub Handed : RefT (List ℕ) → ℕ → RefT (List ℕ) → Type 0
-Handed t at p = (now p ≡ readerRow base (now t) at) × OwnFrom t (readerStart base (now t) at) p
+abbrev pub Handed : Format → RefT (List ℕ) → ℕ → RefT (List ℕ) → Type 0
+Handed f t at p = (now p ≡ readerRow f (now t) at) × OwnFrom t (readerStart f (now t) at) p

@@ -5,7 +5,7 @@ use mathlib.Core.Path.{_≡_, sym, _∙_, ap, ap₂}
 use mathlib.Core.List.{List, [], _∷_, _++_}
 use lib.ListN.{length, take, drop}
 use Rattle.paper.specs.Lists.{padded}
-use Rattle.paper.specs.Format.{base, whole}
+use Rattle.paper.specs.Format.{Format, mostRows, rowBytes, whole}
 use Rattle.paper.specs.Tables.{rows}
 use Rattle.paper.specs.Verdict.{Judgement}
 use Rattle.paper.specs.Calls.{given, Reply, tests1-3, lookUp}
@@ -23,38 +23,36 @@ use Rattle.silmezga_c.specs.Told.{LooksUp, asNumber, fourNumbers}
 use Rattle.silmezga_c.specs.declared.LookedUp.{LookedUp}
 
 -- ---- look-up
-module _ (t : List ℕ) (i : ℕ) where
+module _ (f : Format) (t : List ℕ) (i : ℕ) where
   -- refused, the number and the place are told, and no part
-  pub told-refused : (k p : ℕ) (r : LookedUp) → (k ≡ 0 → ⊥) → lookUp base t i ≡ record { number = k; place = p; rest = [] }
-      → (r .number ≡ k) × (r .place ≡ p) × (r .start ≡ 0) × (r .length ≡ 0) → LooksUp t i r
+  pub told-refused : (k p : ℕ) (r : LookedUp) → (k ≡ 0 → ⊥) → lookUp f t i ≡ record { number = k; place = p; rest = [] }
+      → (r .number ≡ k) × (r .place ≡ p) × (r .start ≡ 0) × (r .length ≡ 0) → LooksUp f t i r
   told-refused k p r ne e h =
-      let number : lookUp base t i .number ≡ k = ap (λ (x : Reply (List ℕ)). x .number) e in
-      let rest : lookUp base t i .rest ≡ [] = ap (λ (x : Reply (List ℕ)). x .rest) e in
+      let number : lookUp f t i .number ≡ k = ap (λ (x : Reply (List ℕ)). x .number) e in
+      let rest : lookUp f t i .rest ≡ [] = ap (λ (x : Reply (List ℕ)). x .rest) e in
       record {
         number-is = h .0 ∙ sym number;
         place-is = h .1 ∙ sym (ap (λ (x : Reply (List ℕ)). x .place) e);
-        start-is = h .2 ∙ sym (refused-start k i ne) ∙ ap (λ n. startOf n i) (sym number);
+        start-is = h .2 ∙ sym (refused-start f k i ne) ∙ ap (λ n. startOf f n i) (sym number);
         length-is = h .3 ∙ ap length (sym rest);
         part-is = ap (λ n. take n (drop (r .start) t)) (h .3) ∙ sym rest;
       }
 
-  module _ (g : tests1-3 base t ≡ given (rows base t)) (lt : i < whole 24 t) where
-    pub start-small : 24 * i ≤ 24576
-    unfolding base
-    start-small = omega (arith, passed1-3 base t (rows base t) g .2, row-in 24 i t lt)
+  module _ (g : tests1-3 f t ≡ given (rows f t)) (lt : i < whole (rowBytes f) t) where
+    pub start-small : rowBytes f * i ≤ mostRows * rowBytes f
+    start-small = omega (arith, passed1-3 f t (rows f t) g .2, row-in (rowBytes f) i t lt)
 
     -- a row that is there starts after those before it
-    pub told-row : LooksUp t i (record { number = 0; place = 0; start = 24 * i; length = 24 })
-    unfolding base
+    pub told-row : LooksUp f t i (record { number = 0; place = 0; start = rowBytes f * i; length = rowBytes f })
     told-row =
-        let e = lookUp-row base t i g lt in
-        let number : lookUp base t i .number ≡ 0 = ap (λ (x : Reply (List ℕ)). x .number) e in
-        let rest : lookUp base t i .rest ≡ take 24 (drop (24 * i) t) = ap (λ (x : Reply (List ℕ)). x .rest) e in
+        let e = lookUp-row f t i g lt in
+        let number : lookUp f t i .number ≡ 0 = ap (λ (x : Reply (List ℕ)). x .number) e in
+        let rest : lookUp f t i .rest ≡ take (rowBytes f) (drop (rowBytes f * i) t) = ap (λ (x : Reply (List ℕ)). x .rest) e in
         record {
           number-is = sym number;
           place-is = sym (ap (λ (x : Reply (List ℕ)). x .place) e);
-          start-is = ap (λ n. startOf n i) (sym number);
-          length-is = sym (record-length t 24 i (row-in 24 i t lt)) ∙ ap length (sym rest);
+          start-is = ap (λ n. startOf f n i) (sym number);
+          length-is = sym (record-length t (rowBytes f) i (row-in (rowBytes f) i t lt)) ∙ ap length (sym rest);
           part-is = sym rest;
         }
 

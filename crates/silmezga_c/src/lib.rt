@@ -1,28 +1,42 @@
 // The calls for programs in C and Rust: the same calls and the same promises as `silmezga`'s, under C's calling convention. What C cannot
-// take is told in numbers: the verdict as its number and two values, the second answer as 1 or 0, and a row's own bytes as the place in the
-// caller's table where they stand. `include/silmezga.h` declares what is exported here. None asks anything of its caller beyond slices that are there.
+// take is told in numbers: the width as its levels, the verdict as its number and two values, the second answer as 1 or 0, and a row's own
+// bytes as the place in the caller's table where they stand. An enum of C may hold any number: 8 is eight levels, and every other number six. `include/silmezga.h` declares what is exported here. None asks anything of its caller beyond slices that are there.
 use adorned::TypeSummary;
 use adorned::lent::AdornedTypes;
 use reshaping::reshape::Reshaped;
 use reshaping::summarise::Summary;
+use silmezga::Moved;
 use silmezga::Verdict;
+use silmezga::Width;
 use tables::table::Examined;
 ghost use mathlib.Core.Path.{_≡_};
 ghost use mathlib.Core.List.{[], _∷_, map};
-ghost use Rattle.paper.specs.Format.{base};
+ghost use Rattle.paper.specs.Format.{base, eight};
+ghost use Rattle.paper.specs.Widths.{moveTable, moveShape};
 ghost use Rattle.paper.specs.Calls.{examine, adorn, judge, summarise};
 ghost use Rattle.tables.specs.Reply.{examined};
 ghost use Rattle.adorned.specs.Told.{told};
 ghost use Rattle.adorned.specs.Lent.{adornedTypes};
 ghost use Rattle.reshaping.specs.Reshaped.{Reshapes, summarised};
-ghost use Rattle.silmezga_c.specs.Told.{LooksUp, asNumber, inFour, fourNumbers};
+ghost use Rattle.widths.specs.Answers.{Moves};
+ghost use Rattle.silmezga_c.specs.Told.{widthOf, formatNumbered, LooksUp, asNumber, inFour, fourNumbers};
+
+// The width that a number names.
+fn width_of(number: u32) -> Width
+    ensures { λ r. ⌜ r ≡ widthOf number ⌝ }
+{
+    if number == 8 {
+        return Width::Eight;
+    }
+    Width::Six
+}
 
 // Refusals 1 to 3, or the count of rows.
 #[no_mangle]
-pub extern "C" fn silmezga_examine(table: &[u8]) -> Examined
-    ensures { λ r. ⌜ examined r ≡ examine base (now (table .entry)) ⌝ }
+pub extern "C" fn silmezga_examine(width: u32, table: &[u8]) -> Examined
+    ensures { λ r. ⌜ examined r ≡ examine (formatNumbered width) (now (table .entry)) ⌝ }
 {
-    silmezga::examine(table)
+    silmezga::examine(width_of(width), table)
 }
 
 // What looking up a row answers: a refusal, or where the row's own bytes start in the table, and how many they are.
@@ -47,10 +61,11 @@ fn no_row(number: usize, place: usize) -> LookedUp
 
 // Refusals 1 to 3, then 11, or where the row stands.
 #[no_mangle]
-pub extern "C" fn silmezga_look_up(table: &[u8], row: usize) -> LookedUp
-    ensures { λ r. ⌜ LooksUp (now (table .entry)) row r ⌝ }
+pub extern "C" fn silmezga_look_up(width: u32, table: &[u8], row: usize) -> LookedUp
+    ensures { λ r. ⌜ LooksUp (formatNumbered width) (now (table .entry)) row r ⌝ }
 {
-    let e = silmezga::examine(table);
+    let w = width_of(width);
+    let e = silmezga::examine(w, table);
     let number = e.number;
     let place = e.place;
     let rows = e.rows;
@@ -60,22 +75,27 @@ pub extern "C" fn silmezga_look_up(table: &[u8], row: usize) -> LookedUp
     if rows <= row {
         return no_row(11, row);
     }
+    let length = bytes::row_bytes(paper::format_of(w));
     LookedUp {
         number: 0,
         place: 0,
-        start: 24 * row,
-        length: 24,
+        start: length * row,
+        length: length,
     }
 }
 
 // Refusals 1 to 4, then 10, or the count of types, with one summary a type at the front of what was lent; what lies past them stays as it
 // was.
 #[no_mangle]
-pub extern "C" fn silmezga_adorn(table: &[u8], summaries: &mut [TypeSummary]) -> AdornedTypes
-    ensures { λ r. ⌜ adornedTypes r ≡ adorn base (now (table .entry)) (map told (now (summaries .entry))) .reply ⌝ }
-    ensures { λ _. ⌜ map told (now (summaries .exit)) ≡ adorn base (now (table .entry)) (map told (now (summaries .entry))) .summaries ⌝ }
+pub extern "C" fn silmezga_adorn(
+    width: u32,
+    table: &[u8],
+    summaries: &mut [TypeSummary],
+) -> AdornedTypes
+    ensures { λ r. ⌜ adornedTypes r ≡ adorn (formatNumbered width) (now (table .entry)) (map told (now (summaries .entry))) .reply ⌝ }
+    ensures { λ _. ⌜ map told (now (summaries .exit)) ≡ adorn (formatNumbered width) (now (table .entry)) (map told (now (summaries .entry))) .summaries ⌝ }
 {
-    silmezga::adorn(table, summaries)
+    silmezga::adorn(width_of(width), table, summaries)
 }
 
 // What judging answers: a refusal, or document 01's number of the verdict and its two values, zeros for verdict 0, and the second answer, 1
@@ -122,10 +142,10 @@ fn as_number(yes: bool) -> usize
 
 // Refusals 1 to 7, or the verdict and the second answer in numbers.
 #[no_mangle]
-pub extern "C" fn silmezga_judge(table: &[u8], shape: &[u8]) -> JudgedNumbers
-    ensures { λ r. ⌜ inFour r ≡ fourNumbers (judge base (now (table .entry)) (now (shape .entry))) ⌝ }
+pub extern "C" fn silmezga_judge(width: u32, table: &[u8], shape: &[u8]) -> JudgedNumbers
+    ensures { λ r. ⌜ inFour r ≡ fourNumbers (judge (formatNumbered width) (now (table .entry)) (now (shape .entry))) ⌝ }
 {
-    let j = silmezga::judge(table, shape);
+    let j = silmezga::judge(width_of(width), table, shape);
     let number = j.number;
     let place = j.place;
     let verdict = j.verdict;
@@ -144,20 +164,56 @@ pub extern "C" fn silmezga_judge(table: &[u8], shape: &[u8]) -> JudgedNumbers
 // table of at most 1,024 lines is a sound source: no call refuses it with 1 to 4.
 #[no_mangle]
 pub extern "C" fn silmezga_reshape(
+    width: u32,
     table: &[u8],
     shape: &[u8],
     new: &mut [u8],
     sources: &mut [u32],
 ) -> Reshaped
-    ensures { λ r. ⌜ Reshapes (now (table .entry)) (now (shape .entry)) (now (new .entry)) (now (sources .entry)) r (now (new .exit)) (now (sources .exit)) ⌝ }
+    ensures { λ r. ⌜ Reshapes (formatNumbered width) (now (table .entry)) (now (shape .entry)) (now (new .entry)) (now (sources .entry)) r (now (new .exit)) (now (sources .exit)) ⌝ }
 {
-    silmezga::reshape(table, shape, new, sources)
+    silmezga::reshape(width_of(width), table, shape, new, sources)
 }
 
 // Refusals 1 to 8, with room for 4,096 lines, or for each of 16 entries its lines, source rows, copies and different source rows.
 #[no_mangle]
-pub extern "C" fn silmezga_summarise(table: &[u8], shape: &[u8]) -> Summary
-    ensures { λ r. ⌜ summarised r ≡ summarise base (now (table .entry)) (now (shape .entry)) ⌝ }
+pub extern "C" fn silmezga_summarise(width: u32, table: &[u8], shape: &[u8]) -> Summary
+    ensures { λ r. ⌜ summarised r ≡ summarise (formatNumbered width) (now (table .entry)) (now (shape .entry)) ⌝ }
 {
-    silmezga::summarise(table, shape)
+    silmezga::summarise(width_of(width), table, shape)
+}
+
+// Refusals 1 to 3, then 29, or the count of rows, with the table of eight levels at the front of what was lent; what lies past it stays as it was.
+#[no_mangle]
+pub extern "C" fn silmezga_widen_table(table: &[u8], new: &mut [u8]) -> Moved
+    ensures { λ r. ⌜ Moves (moveTable base eight (now (table .entry)) (now (new .entry))) r (now (new .exit)) ⌝ }
+{
+    silmezga::widen_table(table, new)
+}
+
+// Refusals 1 to 3, then 24, then 29, or the count of rows, with the table of six levels at the front of what was lent; what lies past it
+// stays as it was.
+#[no_mangle]
+pub extern "C" fn silmezga_narrow_table(table: &[u8], new: &mut [u8]) -> Moved
+    ensures { λ r. ⌜ Moves (moveTable eight base (now (table .entry)) (now (new .entry))) r (now (new .exit)) ⌝ }
+{
+    silmezga::narrow_table(table, new)
+}
+
+// Refusals 5 and 6, then 29, or the count of entries, with the shape of eight levels at the front of what was lent; what lies past it stays as
+// it was.
+#[no_mangle]
+pub extern "C" fn silmezga_widen_shape(shape: &[u8], new: &mut [u8]) -> Moved
+    ensures { λ r. ⌜ Moves (moveShape base eight (now (shape .entry)) (now (new .entry))) r (now (new .exit)) ⌝ }
+{
+    silmezga::widen_shape(shape, new)
+}
+
+// Refusals 5 and 6, then 24, then 29, or the count of entries, with the shape of six levels at the front of what was lent; what lies past it
+// stays as it was.
+#[no_mangle]
+pub extern "C" fn silmezga_narrow_shape(shape: &[u8], new: &mut [u8]) -> Moved
+    ensures { λ r. ⌜ Moves (moveShape eight base (now (shape .entry)) (now (new .entry))) r (now (new .exit)) ⌝ }
+{
+    silmezga::narrow_shape(shape, new)
 }

@@ -1,17 +1,21 @@
 -- `silmezga_c::silmezga_judge` meets its contract. Assumes nothing.
 use Prim.Native.Nat.{ℕ}
-use mathlib.Core.Path.{_≡_, _∙_}
+use mathlib.Core.Path.{_≡_, _∙_, subst}
 use mathlib.Core.List.{List, [], _∷_, _++_}
 use Rattle.paper.specs.Lists.{padded}
-use Rattle.paper.specs.Format.{base}
+use Rattle.paper.specs.Widths.{formatOf}
 use Rattle.paper.specs.Calls.{Reply, judge}
 use Rattle.judging.specs.Told.{numbersOf}
+use Rattle.judging.specs.Judged.{judged, inNumbers}
 use Rattle.judging.specs.declared.verdict.Verdict.{Verdict}
-use Rattle.silmezga_c.specs.Told.{fourNumbers}
+use Rattle.silmezga_c.specs.Told.{formatNumbered, fourNumbers}
 use Rattle.silmezga_c.proofs.Told.{in-four}
 use borrow.Author.Needs.{needs}
 use Rattle.silmezga_c.proofs.silmezga_judge.Statement.{statement}
 use Rattle.silmezga_c.proofs.silmezga_judge.Tie as tie
+
+abbrev begun : tie.After-as-number → tie.Start
+begun c = c .before .before .before .before .before
 
 -- what is told of a verdict, where the second answer is a number
 abbrev numbers : tie.After-as-number → Verdict → Reply (List ℕ)
@@ -21,11 +25,16 @@ numbers c v =
 
 -- told of the verdict that judging gave, it is what the contract says
 told : (c : tie.After-as-number) {v : Verdict} → c .before .judge .result .verdict ≡ v
-    → let a = c .before .before .before .before .args in numbers c v ≡ fourNumbers (judge base (a .table .now) (a .shape .now))
+    → let a = begun c .args in numbers c v ≡ fourNumbers (judge (formatNumbered (a .width)) (a .table .now) (a .shape .now))
 told c e =
-    let a = c .before .before .before .before .args in
-    let j = c .before .judge in
-    in-four (j .result) (judge base (a .table .now) (a .shape .now)) (j .ensures) e (c .as-number .ensures)
+    let a = begun c .args in
+    let k = c .before in
+    let j = k .judge in
+    let e′ = subst (λ w. judged (j .result) ≡ inNumbers (judge (formatOf w) (a .table .now) (a .shape .now))) (k .before .width-of .ensures) (j .ensures) in
+    in-four (j .result) (judge (formatNumbered (a .width)) (a .table .now) (a .shape .now)) e′ e (c .as-number .ensures)
+
+width-of-requires : tie.Need-width-of-requires
+width-of-requires c κs = search needs
 
 judge-requires : tie.Need-judge-requires
 judge-requires c κs = search needs
@@ -73,6 +82,7 @@ pub silmezga-judge-spec : {M : Type 1} → statement M
 silmezga-judge-spec =
     tie.close
     (tie.spec
+    width-of-requires
     judge-requires
     as-number-requires
     enum-told

@@ -1,5 +1,7 @@
--- `next` meets its contract: a walk of its MIR, by hand. The struct is taken apart, `place_after` is called on the table and the place, and a struct is made anew of the table and the number that it returned. All that the proof knows of `place_after` is that it meets its contract.
--- The struct is Copy: what it owns is had three times. One copy is kept whole for the exit, of another what the table owns goes to the callee, beside the lifetime's token, which comes back, and the third, with the facts of the new number in the place of the old one's, is what the result owns.
+-- `next` meets its contract: a walk of its MIR, by hand. The struct is taken apart, `place_after` is called on the width, the table and the place, and a struct
+-- is made anew of the table, the number that it returned and the width. All that the proof knows of `place_after` is that it meets its contract.
+-- The struct is Copy: what it owns is had three times. One copy is kept whole for the exit, of another what the table owns goes to the callee, beside the
+-- lifetime's token, which comes back, and the third, with the facts of the new number in the place of the old one's, is what the result owns.
 -- Assumes nothing.
 use mathlib.Core.Path.{_≡_, refl, ap}
 use Prim.Native.Nat.{ℕ, _<_, _^_}
@@ -26,7 +28,6 @@ use denote.RattleType.{RattleType}
 use denote.Laws.{Is, shows}
 use denote.Plain.{uint-makes, uint-lawful}
 use denote.Builtin.{usize}
-use denote.Ref.{now}
 use denote.Signature.{namedLft}
 use denote.Steps.{only, owned, peeks, heard, nothing}
 use denote.Struct.Laws as LL
@@ -39,10 +40,8 @@ use denote.Triple.Table.{entered, cited}
 use denote.Triple.Walked.{says, Stays, stay-none, walkOf, goes-none, Walks, ends-at, walked, walk-meets}
 use denote.Exit.{yes}
 use denote.Triple.Clauses.{ensured, lasts}
-use Rattle.paper.specs.Format.{base as base-format}
-use Rattle.paper.specs.Calls.{readerNext}
 use Rattle.silmezga.specs.declared.reader.Reader.{Reader}
-use Rattle.silmezga.proofs.ReaderHeld.{D, L, fields, cell, Held, apart}
+use Rattle.silmezga.proofs.ReaderHeld.{tag, D, L, fields, word, cell, Held, width-typed, apart, reader, onward}
 use Rattle.silmezga.proofs.reader.Reader as T
 use Rattle.silmezga.proofs.reader.Reader.Laws as T′
 use Rattle.silmezga.proofs.reader.place_after as place-after
@@ -68,10 +67,10 @@ module _ {M : Type 1} (𝓤 : URA M) (H : Heap 𝓤) (A : Atoms 𝓤) (mem : Mem
 
 module _ {M : Type 1} (𝓤 : URA M) (H : Heap 𝓤) (A : Atoms 𝓤) (W : Given 𝓤 H A) (mem : Memory → SProp 𝓤) (run : Routine → Fun 𝓤) (κ : Lft) (q : Share) (d : Reader) where
   abbrev mach : Val
-  mach = T′.lowered d
+  mach = word κ d
 
   abbrev found : ℕ
-  found = readerNext base-format (now (d .table)) (d .at)
+  found = onward d .at
 
   abbrev Post : Val → SProp 𝓤
   Post = walkOf 𝓤 H A next.ended stayed (next.clauses 𝓤 H A mem run) .post (((κ, tt), (q, tt), tt, (d, tt), (mach ∷ [], tt)), tt)
@@ -81,22 +80,22 @@ module _ {M : Type 1} (𝓤 : URA M) (H : Heap 𝓤) (A : Atoms 𝓤) (W : Given
 
   -- what the callee is passed
   abbrev passed : Vals place-after.signature (κ, tt)
-  passed = (cell (d .table) ∷ [], (vint w64 (d .at) ∷ [], tt))
+  passed = (tag (d .width) ∷ [], (cell (d .table) ∷ [], (vint w64 (d .at) ∷ [], tt)))
 
   abbrev to : PlaceAfter 𝓤 H A mem run .Ghost
-  to = (((κ, tt), (q, tt), tt, (d .table, (d .at, tt)), passed), tt)
+  to = (((κ, tt), (q, tt), tt, (d .width, (d .table, (d .at, tt))), passed), tt)
 
   -- of the callee's `ensured`, the clause alone: it has no `&mut`, so what is said of last values is dropped
-  said : (r : ℕ) → ent 𝓤 (ensured 𝓤 H A place-after.ended (place-after.clauses 𝓤 H A mem run) (κ, tt) (d .table, (d .at, tt)) tt r) (fact 𝓤 (r ≡ found))
-  said r = exE 𝓤 _ (λ ws. snd∗ 𝓤 (sem 𝓤 H A (lasts place-after.ended (κ, tt) (d .table, (d .at, tt)) ws)) (fact 𝓤 (r ≡ found)))
+  said : (r : ℕ) → ent 𝓤 (ensured 𝓤 H A place-after.ended (place-after.clauses 𝓤 H A mem run) (κ, tt) (d .width, (d .table, (d .at, tt))) tt r) (fact 𝓤 (r ≡ found))
+  said r = exE 𝓤 _ (λ ws. snd∗ 𝓤 (sem 𝓤 H A (lasts place-after.ended (κ, tt) (d .width, (d .table, (d .at, tt))) ws)) (fact 𝓤 (r ≡ found)))
 
   abbrev d′ : ℕ → Reader
-  d′ r = record { table = d .table; at = r }
+  d′ r = reader (d .width) (d .table) r
 
-  exits : (r : ℕ) → r ≡ found → r < 2 ^ 64 → ent 𝓤 (⋆ 𝓤 H A ((‵ (flft κ q) ⊛ ‵ ftrue) ∷ ‵ Own ∷ [])) (Post (T′.lowered (d′ r)))
+  exits : (r : ℕ) → r ≡ found → r < 2 ^ 64 → ent 𝓤 (⋆ 𝓤 H A ((‵ (flft κ q) ⊛ ‵ ftrue) ∷ ‵ Own ∷ [])) (Post (word κ (d′ r)))
   exits r e fits =
       qed W ((‵ (flft κ q) ⊛ ‵ ftrue) ∷ ‵ Own ∷ []) ∵
-      suffices ! _ (ends-at 𝓤 H A next.ended stayed (next.clauses 𝓤 H A mem run) W (((κ, tt), (q, tt), tt, (d, tt), (mach ∷ [], tt)), tt) (T′.lowered (d′ r)) (d′ r) (tt, tt) (tt, tt)) $ says ! (refl, e) $
+      suffices ! _ (ends-at 𝓤 H A next.ended stayed (next.clauses 𝓤 H A mem run) W (((κ, tt), (q, tt), tt, (d, tt), (mach ∷ [], tt)), tt) (word κ (d′ r)) (d′ r) (tt, tt) (tt, tt)) $ says ! (refl, e, refl) $
       frame ! $ use1 W (‵ Own ⊛ ‵ Own) (LL.copy (D κ) (T′.the-copy (namedLft 1 0 tt (κ, tt))) 𝓤 H A W .twice d (mach ∷ [])) $ split ! $ nothing ! $ move ! (1 ∷ 0 ∷ []) $ fjoin ! $ frame ! $
       -- [what the struct owns]: the number's facts take the place of the old one's
       owned ! usize (Is usize) (uint-makes 𝓤 H A W w64) r _ (refl, fits) $ move ! (1 ∷ 0 ∷ []) $ by ! (own-put 𝓤 H A W (D κ) (L κ) 1 (fields κ d) r mach)
@@ -105,20 +104,24 @@ module _ {M : Type 1} (𝓤 : URA M) (H : Heap 𝓤) (A : Atoms 𝓤) (W : Given
     walk : Holds (hasTy (T′.mir (named 0)) mach) × WT mach → ent 𝓤 (onEntry 𝓤 H A next.signature (κ, tt) (q, tt) (d, tt) (mach ∷ [], tt)) (WpFn 𝓤 H C Λ code.function (mach ∷ []) Post)
     walk wt =
         qed W (raw (onEntry 𝓤 H A next.signature (κ, tt) (q, tt) (d, tt) (mach ∷ [], tt)) ∷ []) ∵ enter ! C Λ code.function (mach ∷ []) _ $
-        alloc1 ! (λ l₀. alloc1 ! (λ l₁. alloc1 ! (λ l₂. alloc1 ! (λ l₃. alloc1 ! (λ l₄. alloc1 ! (λ l₅. alloc0 ! $ params1 ! $ pass1 ! (init ! 8 refl wt) $ pass0 ! $
-        assigns ! (of-opd ! (load ! (from ! (fld ! refl (stop !))) (look-in ! 8 (sub ! 0 refl (whole !))))) (from ! (stop !)) (init ! 4 refl (tt, wt .1 .0)) $
-        assigns ! (of-opd ! (load ! (from ! (fld ! refl (stop !))) (look-in ! 8 (sub ! 1 refl (whole !))))) (from ! (stop !)) (init ! 2 refl (tt, wt .1 .1 .0)) $
-        move ! (12 ∷ []) $ use1 W (raw (PlaceAfter 𝓤 H A mem run .pre to) ⊛ ‵ Own) (apart 𝓤 H A κ q W d (wt .1 .1 .0 .fits)) $ split ! $
-        calls-at ! fm (PlaceAfter 𝓤 H A mem run) known to (and-then ! (load ! (from ! (stop !)) (look ! 6 refl)) (and-then ! (load ! (from ! (stop !)) (look ! 4 refl)) (no-more !))) (λ u.
-        use1 W (later (some (λ (r : ℕ). ((‵ (flft κ q) ⊛ ‵ ftrue) ⊛ ‵ (usize .own r (u ∷ []))) ⊛ raw (ensured 𝓤 H A place-after.ended (place-after.clauses 𝓤 H A mem run) (κ, tt) (d .table, (d .at, tt)) tt r)))) (id⊢ 𝓤 _) $ await ! tt $ pick ! (λ r.
+        alloc1 ! (λ l₀. alloc1 ! (λ l₁. alloc1 ! (λ l₂. alloc1 ! (λ l₃. alloc1 ! (λ l₄. alloc1 ! (λ l₅. alloc1 ! (λ l₆. alloc1 ! (λ l₇. alloc0 ! $ params1 ! $ pass1 ! (init ! 12 refl wt) $ pass0 ! $
+        assigns ! (of-opd ! (load ! (from ! (fld ! refl (stop !))) (look-in ! 12 (sub ! 2 refl (whole !))))) (from ! (stop !)) (init ! 8 refl (width-typed 𝓤 H A W (d .width))) $
+        assigns ! (of-opd ! (load ! (from ! (fld ! refl (stop !))) (look-in ! 12 (sub ! 0 refl (whole !))))) (from ! (stop !)) (init ! 6 refl (tt, wt .1 .0)) $
+        assigns ! (of-opd ! (load ! (from ! (fld ! refl (stop !))) (look-in ! 12 (sub ! 1 refl (whole !))))) (from ! (stop !)) (init ! 4 refl (tt, wt .1 .1 .0)) $
+        move ! (16 ∷ []) $ use1 W (raw (PlaceAfter 𝓤 H A mem run .pre to) ⊛ ‵ Own) (apart 𝓤 H A κ q W d (wt .1 .1 .0 .fits)) $ split ! $
+        calls-at ! fm (PlaceAfter 𝓤 H A mem run) known to (and-then ! (load ! (from ! (stop !)) (look ! 10 refl)) (and-then ! (load ! (from ! (stop !)) (look ! 8 refl)) (and-then ! (load ! (from ! (stop !)) (look ! 6 refl)) (no-more !)))) (λ u.
+        use1 W (later (some (λ (r : ℕ). ((‵ (flft κ q) ⊛ ‵ ftrue) ⊛ ‵ (usize .own r (u ∷ []))) ⊛ raw (ensured 𝓤 H A place-after.ended (place-after.clauses 𝓤 H A mem run) (κ, tt) (d .width, (d .table, (d .at, tt))) tt r)))) (id⊢ 𝓤 _) $ await ! tt $ pick ! (λ r.
         split ! $ move ! (1 ∷ []) $ use1 W (raw (fact 𝓤 (r ≡ found))) (said r) $ heard ! (r ≡ found) (λ e. split ! $ move ! (1 ∷ []) $
         peeks ! usize (Is usize) (shows 𝓤 H A usize) r (u ∷ []) (λ is. drop ! $
-        -- [the token; what the struct owns; _5; …; _4; …; _3; …; room for _2; …; _1; …; room for _0; …]
-        land ! (from ! (stop !)) (init ! 8 refl (uint-lawful 𝓤 H A W w64 .typed r _ is .0)) $ rewrite ! 8 (λ (x : Val). ‵ (fat fullShare (tyInt w64) l₂ 0 x)) (ap only (is .0)) refl $
-        assigns ! (of-opd ! (load ! (from ! (fld ! refl (stop !))) (look-in ! 10 (sub ! 0 refl (whole !))))) (from ! (stop !)) (init ! 2 refl (tt, wt .1 .0)) $
-        assigns ! (agg ! (and-then ! (load ! (from ! (stop !)) (look ! 2 refl)) (and-then ! (load ! (from ! (stop !)) (look ! 8 refl)) (no-more !)))) (from ! (stop !)) (init ! 12 refl (tt, (wt .1 .0, (record { fits = is .1 }, tt)))) $
-        returns ! (look ! 12 refl) $ forget ! 2 refl $ forget ! 4 refl $ forget ! 6 refl $ forget ! 8 refl $ forget ! 10 refl $ forget ! 12 refl $
-        move ! (12 ∷ 13 ∷ []) $ free1 ! $ move ! (10 ∷ 11 ∷ []) $ free1 ! $ move ! (8 ∷ 9 ∷ []) $ free1 ! $ move ! (6 ∷ 7 ∷ []) $ free1 ! $ move ! (4 ∷ 5 ∷ []) $ free1 ! $ move ! (2 ∷ 3 ∷ []) $ free1 ! $ free0 ! $ by ! (exits r e (is .1))))))))))))
+        -- [the token; what the struct owns; room for _7; …; room for _6; …; _5; …; _4; …; _3; …; room for _2; …; _1; …; room for _0; …]
+        land ! (from ! (stop !)) (init ! 12 refl (uint-lawful 𝓤 H A W w64 .typed r _ is .0)) $ rewrite ! 12 (λ (x : Val). ‵ (fat fullShare (tyInt w64) l₂ 0 x)) (ap only (is .0)) refl $
+        assigns ! (of-opd ! (load ! (from ! (fld ! refl (stop !))) (look-in ! 14 (sub ! 0 refl (whole !))))) (from ! (stop !)) (init ! 4 refl (tt, wt .1 .0)) $
+        assigns ! (of-opd ! (load ! (from ! (fld ! refl (stop !))) (look-in ! 14 (sub ! 2 refl (whole !))))) (from ! (stop !)) (init ! 2 refl (width-typed 𝓤 H A W (d .width))) $
+        assigns ! (agg ! (and-then ! (load ! (from ! (stop !)) (look ! 4 refl)) (and-then ! (load ! (from ! (stop !)) (look ! 12 refl)) (and-then ! (load ! (from ! (stop !)) (look ! 2 refl)) (no-more !))))) (from ! (stop !))
+        (init ! 16 refl (wt .0, (wt .1 .0, (record { fits = is .1 }, wt .1 .1 .1)))) $
+        returns ! (look ! 16 refl) $ forget ! 2 refl $ forget ! 4 refl $ forget ! 6 refl $ forget ! 8 refl $ forget ! 10 refl $ forget ! 12 refl $ forget ! 14 refl $ forget ! 16 refl $
+        move ! (16 ∷ 17 ∷ []) $ free1 ! $ move ! (14 ∷ 15 ∷ []) $ free1 ! $ move ! (12 ∷ 13 ∷ []) $ free1 ! $ move ! (10 ∷ 11 ∷ []) $ free1 ! $
+        move ! (8 ∷ 9 ∷ []) $ free1 ! $ move ! (6 ∷ 7 ∷ []) $ free1 ! $ move ! (4 ∷ 5 ∷ []) $ free1 ! $ move ! (2 ∷ 3 ∷ []) $ free1 ! $ free0 ! $ by ! (exits r e (is .1))))))))))))))
 
 module _ {M : Type 1} (𝓤 : URA M) (H : Heap 𝓤) (A : Atoms 𝓤) (W : Given 𝓤 H A) (mem : Memory → SProp 𝓤) (run : Routine → Fun 𝓤) where
   next-walks : (C : Calls 𝓤 H) (Λ : Loops 𝓤 H) → FmC 𝓤 H (W .laws) C → Triple 𝓤 (C #place-after) (PlaceAfter 𝓤 H A mem run)

@@ -1,0 +1,33 @@
+-- `silmezga::reshape` meets its contract. Assumes nothing.
+use mathlib.Core.Path.{subst}
+use Rattle.reshaping.specs.Reshaped.{Reshapes}
+use Rattle.bytes.proofs.Laws.{format-served}
+use borrow.Author.Needs.{needs}
+use Rattle.silmezga.proofs.reshape.Statement.{statement}
+use Rattle.silmezga.proofs.reshape.Tie as tie
+
+format-of-requires : tie.Need-format-of-requires
+format-of-requires c κs = search needs
+
+reshape-requires : tie.Need-reshape-requires
+reshape-requires c κs =
+    let k = c .before .before in
+    format-served _ (k .before .before .before .before .before .args .width) (k .format-of .ensures)
+
+same-length : tie.Need-same-length
+same-length c = search needs
+
+same-length-2 : tie.Need-same-length-2
+same-length-2 c = search needs
+
+returns : tie.Need-returns
+returns c =
+    let r = c .before .before .before .before in
+    let k = r .before .before .before in
+    let a = k .before .before .before .before .before .args in
+    let left = r .reshape .last .1 .1 .1 in
+    subst (λ f. Reshapes f (a .table .now) (a .shape .now) (a .new .now) (a .sources .now) (r .reshape .result) (left .0) (left .1 .0))
+    (k .format-of .ensures) (r .reshape .ensures)
+
+pub reshape-spec : {M : Type 1} → statement M
+reshape-spec = tie.close (tie.spec format-of-requires reshape-requires same-length same-length-2 returns)

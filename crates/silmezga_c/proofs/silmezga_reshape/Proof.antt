@@ -1,0 +1,31 @@
+-- `silmezga_c::silmezga_reshape` meets its contract. Assumes nothing.
+use mathlib.Core.Path.{subst}
+use Rattle.paper.specs.Widths.{formatOf}
+use Rattle.reshaping.specs.Reshaped.{Reshapes}
+use borrow.Author.Needs.{needs}
+use Rattle.silmezga_c.proofs.silmezga_reshape.Statement.{statement}
+use Rattle.silmezga_c.proofs.silmezga_reshape.Tie as tie
+
+width-of-requires : tie.Need-width-of-requires
+width-of-requires c κs = search needs
+
+reshape-requires : tie.Need-reshape-requires
+reshape-requires c κs = search needs
+
+same-length : tie.Need-same-length
+same-length c = search needs
+
+same-length-2 : tie.Need-same-length-2
+same-length-2 c = search needs
+
+returns : tie.Need-returns
+returns c =
+    let r = c .before .before .before .before in
+    let k = r .before .before .before in
+    let a = k .before .before .before .before .before .args in
+    let left = r .reshape .last .1 .1 .1 in
+    subst (λ w. Reshapes (formatOf w) (a .table .now) (a .shape .now) (a .new .now) (a .sources .now) (r .reshape .result) (left .0) (left .1 .0))
+    (k .width-of .ensures) (r .reshape .ensures)
+
+pub silmezga-reshape-spec : {M : Type 1} → statement M
+silmezga-reshape-spec = tie.close (tie.spec width-of-requires reshape-requires same-length same-length-2 returns)

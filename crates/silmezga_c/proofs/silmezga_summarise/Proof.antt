@@ -1,0 +1,23 @@
+-- `silmezga_c::silmezga_summarise` meets its contract. Assumes nothing.
+use mathlib.Core.Path.{_≡_, subst}
+use Rattle.paper.specs.Widths.{formatOf}
+use Rattle.paper.specs.Calls as Calls
+use Rattle.reshaping.specs.Reshaped.{summarised}
+use borrow.Author.Needs.{needs}
+use Rattle.silmezga_c.proofs.silmezga_summarise.Statement.{statement}
+use Rattle.silmezga_c.proofs.silmezga_summarise.Tie as tie
+
+width-of-requires : tie.Need-width-of-requires
+width-of-requires c κs = search needs
+
+summarise-requires : tie.Need-summarise-requires
+summarise-requires c κs = search needs
+
+returns : tie.Need-returns
+returns c =
+    let a = c .before .before .before .before .args in
+    subst (λ w. summarised (c .summarise .result) ≡ Calls.summarise (formatOf w) (a .table .now) (a .shape .now))
+    (c .before .width-of .ensures) (c .summarise .ensures)
+
+pub silmezga-summarise-spec : {M : Type 1} → statement M
+silmezga-summarise-spec = tie.close (tie.spec width-of-requires summarise-requires returns)
