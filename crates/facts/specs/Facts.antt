@@ -1,11 +1,10 @@
 -- What is reported of a row or an entry that an answer names. Assumes nothing.
 use Prim.Native.Nat.{ℕ}
 use mathlib.Core.List.{List, [], _∷_, map}
-use lib.ListN.{take}
 use Rattle.paper.specs.Lists.{joined}
-use Rattle.paper.specs.Format.{base, signed}
+use Rattle.paper.specs.Format.{Format, byte, word, signed}
 use Rattle.paper.specs.Tables.{rowOf, dewey}
-use Rattle.paper.specs.Shapes.{entryOf}
+use Rattle.paper.specs.Shapes.{entryOf, named}
 use Rattle.listing.specs.Text.{ascii, space, decimal, signedText, followed}
 use Rattle.listing.specs.Names.{nameText}
 use Rattle.listing.specs.Listing.{lined, deweyText}
@@ -14,69 +13,67 @@ use Rattle.listing.specs.Listing.{lined, deweyText}
 unfoldable pub joinedLine : List (List ℕ) → List ℕ
 joinedLine ps = lined (joined ps)
 
--- the names of the first n labels that an entry's record holds, a space before each
-unfoldable pub namesText : ℕ → List ℕ → List ℕ
-namesText n entry = followed space (map nameText (take n (entryOf base entry .labels)))
+-- the names of labels, a space before each
+unfoldable pub namesText : List ℕ → List ℕ
+namesText ks = followed space (map nameText ks)
 
 -- the type that an entry's record holds: as many of its labels as it is long, from the root down
-unfoldable pub labelsText : List ℕ → List ℕ
-labelsText entry = namesText (entryOf base entry .size) entry
+unfoldable pub labelsText : Format → List ℕ → List ℕ
+labelsText f entry = namesText (named (entryOf f entry))
 
 -- an entry's number and the labels of its type
-unfoldable pub entryText : ℕ → List ℕ → List ℕ
-entryText e entry = joinedLine (ascii "entry " ∷ decimal e ∷ ascii ":" ∷ labelsText entry ∷ [])
+unfoldable pub entryText : Format → ℕ → List ℕ → List ℕ
+entryText f e entry = joinedLine (ascii "entry " ∷ decimal e ∷ ascii ":" ∷ labelsText f entry ∷ [])
 
 -- a row's number, its Dewey number, the labels of its type, which is held as an entry's record holds it, and its value
-unfoldable pub rowText : ℕ → List ℕ → List ℕ → List ℕ
-rowText r row held =
-    let fields = rowOf base row in
+unfoldable pub rowText : Format → ℕ → List ℕ → List ℕ → List ℕ
+rowText f r row held =
+    let fields = rowOf f row in
     joinedLine
     (ascii "row "
     ∷ decimal r
     ∷ ascii ": "
     ∷ deweyText (dewey fields)
     ∷ ascii ","
-    ∷ labelsText held
+    ∷ labelsText f held
     ∷ ascii ", value "
     ∷ signedText (signed (fields .value))
     ∷ [])
 
--- the fields that a row has before its Dewey number
+-- the fields that a row has before its Dewey number, at either width
 unfoldable pub rowHead : ℕ → List ℕ → List ℕ
 rowHead r row =
-    let fields = rowOf base row in
     joined
     (ascii "row "
     ∷ decimal r
     ∷ ascii ": level "
-    ∷ decimal (fields .level)
+    ∷ decimal (byte row 0)
     ∷ ascii ", zero byte "
-    ∷ decimal (fields .spare)
+    ∷ decimal (byte row 1)
     ∷ ascii ", label "
-    ∷ decimal (fields .label)
+    ∷ decimal (word row 2)
     ∷ [])
 
 -- every field of a row, whether or not it keeps the rules
-unfoldable pub rowFields : ℕ → List ℕ → List ℕ
-rowFields r row =
-    let fields = rowOf base row in
+unfoldable pub rowFields : Format → ℕ → List ℕ → List ℕ
+rowFields f r row =
+    let fields = rowOf f row in
     joinedLine (rowHead r row ∷ ascii ", number " ∷ deweyText (fields .components) ∷ ascii ", value " ∷ signedText (signed (fields .value)) ∷ [])
 
--- the fields that an entry has before its labels
+-- the fields that an entry has before its labels, at either width
 unfoldable pub entryHead : ℕ → List ℕ → List ℕ
 entryHead e entry =
-    let fields = entryOf base entry in
     joined
     (ascii "entry "
     ∷ decimal e
     ∷ ascii ": level "
-    ∷ decimal (fields .level)
+    ∷ decimal (byte entry 0)
     ∷ ascii ", length of its type "
-    ∷ decimal (fields .size)
+    ∷ decimal (byte entry 1)
     ∷ ascii ", zero bytes "
-    ∷ decimal (fields .spare)
+    ∷ decimal (word entry 2)
     ∷ [])
 
 -- every field of an entry, whether or not it keeps the rules
-unfoldable pub entryFields : ℕ → List ℕ → List ℕ
-entryFields e entry = joinedLine (entryHead e entry ∷ ascii ", labels " ∷ deweyText (entryOf base entry .labels) ∷ [])
+unfoldable pub entryFields : Format → ℕ → List ℕ → List ℕ
+entryFields f e entry = joinedLine (entryHead e entry ∷ ascii ", labels " ∷ deweyText (entryOf f entry .labels) ∷ [])

@@ -2,6 +2,7 @@
 use Prim.Native.Nat.{ℕ, _-_, _^_}
 use mathlib.Core.Path.{_≡_, refl}
 use mathlib.Core.List.{List, [], _∷_, map}
+use Rattle.paper.specs.Format.{base, eight}
 use Rattle.paper.specs.Opened.{opened}
 use Rattle.paper.specs.Samples.{row, entry, portfolio, lessee, lease, asset}
 use Rattle.listing.specs.Text.{ascii, digitsIn, decimal, signedText, followed, parted}
@@ -13,23 +14,35 @@ use Rattle.facts.specs.Facts.{joinedLine, namesText, labelsText, entryTe
 wrongEntry : List ℕ
 wrongEntry = 7 ∷ 2 ∷ 1 ∷ 2 ∷ 1 ∷ 0 ∷ 21 ∷ 0 ∷ 231 ∷ 3 ∷ 0 ∷ 0 ∷ 0 ∷ 0 ∷ 0 ∷ 1 ∷ []
 
+-- an entry of eight labels, and a row on level 8 whose value stands after eight components
+wideEntry : List ℕ
+wideEntry = 8 ∷ 8 ∷ 0 ∷ 0 ∷ 1 ∷ 0 ∷ 2 ∷ 0 ∷ 3 ∷ 0 ∷ 3 ∷ 0 ∷ 3 ∷ 0 ∷ 3 ∷ 0 ∷ 3 ∷ 0 ∷ 231 ∷ 3 ∷ []
+
+wideRow : List ℕ
+wideRow = 8 ∷ 0 ∷ 4 ∷ 0 ∷ 1 ∷ 0 ∷ 2 ∷ 0 ∷ 3 ∷ 0 ∷ 4 ∷ 0 ∷ 5 ∷ 0 ∷ 6 ∷ 0 ∷ 7 ∷ 0 ∷ 0 ∷ 1 ∷ 9 ∷ 0 ∷ 0 ∷ 0 ∷ 0 ∷ 0 ∷ 0 ∷ 0 ∷ []
+
 -- what the definitions say, beside what is to be reported
 pub samples : List (List ℕ × List ℕ)
 samples =
-    (entryText 1 (entry 2 lease), ascii "entry 1: portfolio lessee lease\n")
-    ∷ (entryText 15 (entry 1 (21 ∷ 999 ∷ [])), ascii "entry 15: 21 999\n")
-    ∷ (entryText 0 wrongEntry, ascii "entry 0: portfolio 21\n")
-    ∷ (rowText 8 (row (1 ∷ 2 ∷ 1 ∷ []) 3 800) (entry 1 lease), ascii "row 8: 1.2.1, portfolio lessee lease, value 800\n")
-    ∷ (rowText 0 (row (1 ∷ []) 1 (2 ^ 64 - 1)) (entry 1 portfolio), ascii "row 0: 1, portfolio, value -1\n")
+    (entryText base 1 (entry 2 lease), ascii "entry 1: portfolio lessee lease\n")
+    ∷ (entryText base 15 (entry 1 (21 ∷ 999 ∷ [])), ascii "entry 15: 21 999\n")
+    ∷ (entryText base 0 wrongEntry, ascii "entry 0: portfolio 21\n")
+    ∷ (rowText base 8 (row (1 ∷ 2 ∷ 1 ∷ []) 3 800) (entry 1 lease), ascii "row 8: 1.2.1, portfolio lessee lease, value 800\n")
+    ∷ (rowText base 0 (row (1 ∷ []) 1 (2 ^ 64 - 1)) (entry 1 portfolio), ascii "row 0: 1, portfolio, value -1\n")
     ∷ (
-      rowFields 3 (9 ∷ 4 ∷ 5 ∷ 1 ∷ 0 ∷ 0 ∷ 2 ∷ 1 ∷ 0 ∷ 0 ∷ 0 ∷ 0 ∷ 0 ∷ 0 ∷ 7 ∷ 0 ∷ 1 ∷ 0 ∷ 0 ∷ 0 ∷ 0 ∷ 0 ∷ 0 ∷ 128 ∷ []),
+      rowFields base 3 (9 ∷ 4 ∷ 5 ∷ 1 ∷ 0 ∷ 0 ∷ 2 ∷ 1 ∷ 0 ∷ 0 ∷ 0 ∷ 0 ∷ 0 ∷ 0 ∷ 7 ∷ 0 ∷ 1 ∷ 0 ∷ 0 ∷ 0 ∷ 0 ∷ 0 ∷ 0 ∷ 128 ∷ []),
       ascii "row 3: level 9, zero byte 4, label 261, number 0.258.0.0.0.7, value -9223372036854775807\n",
     )
-    ∷ (entryFields 2 wrongEntry, ascii "entry 2: level 7, length of its type 2, zero bytes 513, labels 1.21.999.0.0.256\n")
+    ∷ (entryFields base 2 wrongEntry, ascii "entry 2: level 7, length of its type 2, zero bytes 513, labels 1.21.999.0.0.256\n")
+    -- wide ones
+    ∷ (entryText eight 3 wideEntry, ascii "entry 3: portfolio lessee lease lease lease lease lease 999\n")
+    ∷ (rowText eight 9 wideRow wideEntry, ascii "row 9: 1.2.3.4.5.6.7.256, portfolio lessee lease lease lease lease lease 999, value 9\n")
+    ∷ (rowFields eight 9 wideRow, ascii "row 9: level 8, zero byte 0, label 4, number 1.2.3.4.5.6.7.256, value 9\n")
+    ∷ (entryFields eight 3 wideEntry, ascii "entry 3: level 8, length of its type 8, zero bytes 0, labels 1.2.3.3.3.3.3.999\n")
     ∷ []
 
 -- every sample is reported as it should be
 pub samples-hold : map (λ (p : List ℕ × List ℕ). p .0) samples ≡ map (λ (p : List ℕ × List ℕ). p .1) samples
-unfolding opened row entry portfolio lessee lease asset digitsIn decimal signedText followed parted names nameOf nameText deweyText
-    joinedLine namesText labelsText entryText rowText rowHead rowFields entryHead entryFields wrongEntry samples
+unfolding opened eight row entry portfolio lessee lease asset digitsIn decimal signedText followed parted names nameOf nameText deweyText
+    joinedLine namesText labelsText entryText rowText rowHead rowFields entryHead entryFields wrongEntry wideEntry wideRow samples
 samples-hold = refl

@@ -1,25 +1,26 @@
 // An entry of a shape: its type by label names, or its fields as they stand.
-use listing::line::put_further;
+use listing::line::put_list;
 use listing::names::put_name;
 use listing::put::put_byte;
 use listing::put::put_bytes;
 use listing::put::put_number;
+use paper::Format;
 use tables::row::smaller;
 ghost use mathlib.Core.Path.{_≡_};
 ghost use mathlib.Core.List.{_++_};
-ghost use Prim.Native.Nat.{_+_, _≤_};
+ghost use Prim.Native.Nat.{_+_, _*_, _≤_};
 ghost use lib.ListN.{length};
 ghost use Rattle.io.specs.Counts.{Counts};
-ghost use Rattle.paper.specs.Format.{words};
+ghost use Rattle.paper.specs.Format.{entryBytes, words};
+ghost use Rattle.bytes.specs.Served.{Served, mostLevels};
 ghost use Rattle.listing.specs.Text.{decimal};
-ghost use Rattle.listing.specs.Listing.{deweyText};
 ghost use Rattle.listing.specs.Put.{Put};
 ghost use Rattle.facts.specs.Facts.{namesText, labelsText, entryText, entryHead, entryFields};
 
 // The names of the first n labels of an entry's record, a space before each.
 fn put_names(out: &mut [u8], at: usize, entry: &[u8], n: usize) -> usize
-    requires { ⌜ (at + 126 ≤ length (now out)) × (length (now entry) ≡ 16) × (n ≤ 6) ⌝ }
-    ensures { λ r. ⌜ Put (now (out .entry)) at (namesText n (now (entry .entry))) (now (out .exit)) r × (r ≤ at + 126) ⌝ }
+    requires { ⌜ (at + 168 ≤ length (now out)) × (4 + 2 * n ≤ length (now entry)) × (n ≤ mostLevels) ⌝ }
+    ensures { λ r. ⌜ Put (now (out .entry)) at (namesText (words n (now (entry .entry)) 4)) (now (out .exit)) r × (r ≤ at + 168) ⌝ }
 {
     let mut p = at;
     let mut k = 0;
@@ -32,11 +33,12 @@ fn put_names(out: &mut [u8], at: usize, entry: &[u8], n: usize) -> usize
 }
 
 // The names of the labels of an entry's type.
-pub fn put_labels(out: &mut [u8], at: usize, entry: &[u8]) -> usize
-    requires { ⌜ (at + 126 ≤ length (now out)) × (length (now entry) ≡ 16) ⌝ }
-    ensures { λ r. ⌜ Put (now (out .entry)) at (labelsText (now (entry .entry))) (now (out .exit)) r × (r ≤ at + 126) ⌝ }
+pub fn put_labels(out: &mut [u8], at: usize, entry: &[u8], f: Format) -> usize
+    requires { ⌜ Served f ⌝ }
+    requires { ⌜ (at + 168 ≤ length (now out)) × (entryBytes f ≤ length (now entry)) ⌝ }
+    ensures { λ r. ⌜ Put (now (out .entry)) at (labelsText f (now (entry .entry))) (now (out .exit)) r × (r ≤ at + 168) ⌝ }
 {
-    let n = smaller(bytes::wide(entry[1]), 6);
+    let n = smaller(bytes::wide(entry[1]), f.levels);
     put_names(out, at, entry, n)
 }
 
@@ -49,30 +51,22 @@ pub fn put_named(out: &mut [u8], at: usize, text: &[u8], n: usize) -> usize
     put_number(out, p, n)
 }
 
-// The six numbers that a record holds from byte 4 on, a dot between them.
-pub fn put_six(out: &mut [u8], at: usize, held: &[u8]) -> usize
-    requires { ⌜ (at + 125 ≤ length (now out)) × (16 ≤ length (now held)) ⌝ }
-    ensures { λ r. ⌜ Put (now (out .entry)) at (deweyText (words 6 (now (held .entry)) 4)) (now (out .exit)) r × (r ≤ at + 125) ⌝ }
-{
-    let first = put_number(out, at, bytes::word(held, 4));
-    put_further(out, first, held, 5)
-}
-
 // An entry's number and the labels of its type, at the front of the buffer.
-pub fn put_entry(out: &mut [u8; 512], e: usize, entry: &[u8]) -> usize
-    requires { ⌜ length (now entry) ≡ 16 ⌝ }
-    ensures { λ r. ⌜ Put (now (out .entry)) 0 (entryText e (now (entry .entry))) (now (out .exit)) r ⌝ }
+pub fn put_entry(out: &mut [u8; 512], e: usize, entry: &[u8], f: Format) -> usize
+    requires { ⌜ Served f ⌝ }
+    requires { ⌜ length (now entry) ≡ entryBytes f ⌝ }
+    ensures { λ r. ⌜ Put (now (out .entry)) 0 (entryText f e (now (entry .entry))) (now (out .exit)) r ⌝ }
     ensures { λ r. ⌜ Counts r (now (out .exit)) ⌝ }
 {
     let number = put_named(out, 0, b"entry ", e);
     let gap = put_byte(out, number, b':');
-    let labels = put_labels(out, gap, entry);
+    let labels = put_labels(out, gap, entry, f);
     put_byte(out, labels, b'\n')
 }
 
 // The fields that an entry has before its labels, at the front of the buffer.
 fn put_entry_head(out: &mut [u8; 512], e: usize, entry: &[u8]) -> usize
-    requires { ⌜ length (now entry) ≡ 16 ⌝ }
+    requires { ⌜ 4 ≤ length (now entry) ⌝ }
     ensures { λ r. ⌜ Put (now (out .entry)) 0 (entryHead e (now (entry .entry))) (now (out .exit)) r × (r ≤ 128) ⌝ }
 {
     let number = put_named(out, 0, b"entry ", e);
@@ -82,13 +76,14 @@ fn put_entry_head(out: &mut [u8; 512], e: usize, entry: &[u8]) -> usize
 }
 
 // An entry's fields as they stand, at the front of the buffer.
-pub fn put_entry_fields(out: &mut [u8; 512], e: usize, entry: &[u8]) -> usize
-    requires { ⌜ length (now entry) ≡ 16 ⌝ }
-    ensures { λ r. ⌜ Put (now (out .entry)) 0 (entryFields e (now (entry .entry))) (now (out .exit)) r ⌝ }
+pub fn put_entry_fields(out: &mut [u8; 512], e: usize, entry: &[u8], f: Format) -> usize
+    requires { ⌜ Served f ⌝ }
+    requires { ⌜ length (now entry) ≡ entryBytes f ⌝ }
+    ensures { λ r. ⌜ Put (now (out .entry)) 0 (entryFields f e (now (entry .entry))) (now (out .exit)) r ⌝ }
     ensures { λ r. ⌜ Counts r (now (out .exit)) ⌝ }
 {
     let head = put_entry_head(out, e, entry);
     let word = put_bytes(out, head, b", labels ");
-    let labels = put_six(out, word, entry);
+    let labels = put_list(out, word, entry, f.levels);
     put_byte(out, labels, b'\n')
 }

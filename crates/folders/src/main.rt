@@ -24,11 +24,22 @@ fn put_path(path: &mut [u8; 128], folder: &[u8], file: &[u8]) -> usize
 }
 
 fn print_in(folder: &[u8], word: &[u8]) -> bool {
+    let mut source8 = [0u8; 128];
+    let mut shape8 = [0u8; 128];
     let mut source = [0u8; 128];
     let mut shape = [0u8; 128];
+    let n8 = put_path(&mut source8, folder, b"source8.tab");
+    let m8 = put_path(&mut shape8, folder, b"shape8.tab");
     let n = put_path(&mut source, folder, b"source.tab");
     let m = put_path(&mut shape, folder, b"shape.tab");
-    print_screen(&source[..n], &shape[..m], screen_named(word), STDOUT_FILENO)
+    print_screen(
+        &source8[..n8],
+        &shape8[..m8],
+        &source[..n],
+        &shape[..m],
+        screen_named(word),
+        STDOUT_FILENO,
+    )
 }
 
 fn print_heading(folder: &[u8]) -> bool {

@@ -1,6 +1,7 @@
-// The program: prints a screen of `source.tab` and `shape.tab` in the working directory. Without a word it prints the listing, which is
-// document 01's program. The command `./intake` gives it a word for the screen, and has reported to it, on a channel of its own, what a
-// listing's first line names and, last, that everything was written: a program in Rattle can give no status.
+// The program: prints a screen of `source8.tab` and `shape8.tab` in the working directory where the first of them opens, and else of
+// `source.tab` and `shape.tab`. Without a word it prints the listing, which is document 01's program. The command `./intake` gives it a word
+// for the screen, and has reported to it, on a channel of its own, what a listing's first line names and, last, that everything was written:
+// a program in Rattle can give no status.
 use printing::out::report_whole;
 use printing::screen::print_screen;
 use printing::screen::screen_named;
@@ -12,7 +13,14 @@ fn main() {
     let mut word = [0u8; 16];
     let n = os::arg(1, &mut word);
     let screen = screen_named(&word[..n]);
-    let done = print_screen(b"source.tab", b"shape.tab", screen, REPORT);
+    let done = print_screen(
+        b"source8.tab",
+        b"shape8.tab",
+        b"source.tab",
+        b"shape.tab",
+        screen,
+        REPORT,
+    );
     if n == 0 {
         return;
     }

@@ -1,66 +1,66 @@
--- The parts of a Dewey number as text. Assumes nothing.
-use Prim.Native.Nat.{ℕ, zero, suc, _+_, _*_, _-_, _≤_, _<_, min}
+-- The numbers that a record holds, and a Dewey number, as text. Assumes nothing.
+use Prim.Native.Nat.{ℕ, zero, suc, _+_, _*_, _-_, _≤_, min}
 use native.Mathlib.Numerals.{add-one}
 use native.Mathlib.Omega.{arith}
 use mathlib.Core.Path.{_≡_, refl, sym, _∙_, ap}
-use mathlib.Core.Bool.{Bool, true, false}
-use mathlib.Core.List.{List, [], _∷_, _++_, map, append-nil, append-assoc}
-use borrow.Author.Tests.{leb-true, leb-false}
-use lib.Dec.{leb}
-use lib.ListN.{length, getD, take}
-use lib.Seq.{take-all}
+use mathlib.Core.List.{List, [], _∷_, _++_, map, append-nil}
+use lib.ListN.{take}
 use Rattle.paper.specs.Format.{word, words}
-use Rattle.paper.proofs.Tables.{length-words}
-use Rattle.tables.proofs.Laws.{words-at}
+use Rattle.paper.proofs.Lists.{map-append, join-append}
 use Rattle.listing.specs.Text.{dot, decimal, followed, parted}
 use Rattle.listing.specs.Listing.{deweyText}
 use Rattle.listing.specs.Put.{Put}
 use Rattle.listing.proofs.Putting.{put-then, put-as}
 
--- One number more, with its byte before it; `said` is the text of a number.
-pub followed-more : (said : ℕ → List ℕ) (c : ℕ) (xs : List ℕ) (k : ℕ) → k < length xs
-    → followed c (map said (take (k + 1) xs)) ≡ followed c (map said (take k xs)) ++ (c ∷ said (getD xs k 0))
-unfolding followed
-followed-more said c xs k lt = rw (add-one k) (go xs k lt)
-  where
-    go : (xs : List ℕ) (k : ℕ) → k < length xs
-        → followed c (map said (take (suc k) xs)) ≡ followed c (map said (take k xs)) ++ (c ∷ said (getD xs k 0))
-    go [] k lt = absurd (omega arith)
-    go (x ∷ xs) zero lt = append-nil (c ∷ said x)
-    go (x ∷ xs) (suc k) lt =
-        ap (λ l. (c ∷ said x) ++ l) (go xs k (omega arith))
-        ∙ sym (append-assoc (c ∷ said x) (followed c (map said (take k xs))) (c ∷ said (getD xs k 0)))
+-- ---- the numbers that a record holds from a byte on
+-- One number more.
+words-more : (k : ℕ) (b : List ℕ) (i : ℕ) → words (suc k) b i ≡ words k b i ++ (word b (i + 2 * k) ∷ [])
+words-more zero b i = ap (λ n. word b n ∷ []) (omega arith)
+words-more (suc k) b i =
+    let place : suc (suc i) + 2 * k ≡ i + 2 * suc k = omega arith in
+    ap (λ ws. word b i ∷ ws) (words-more k b (suc (suc i)) ∙ ap (λ n. words k b (suc (suc i)) ++ (word b n ∷ [])) place)
 
--- the first k of n numbers that a record holds from a byte on, the byte c before each
-abbrev pub leading : (ℕ → List ℕ) → ℕ → ℕ → List ℕ → ℕ → ℕ → List ℕ
-leading said c n b from k = followed c (map said (take k (words n b from)))
+-- Of n numbers there are no more than n to take.
+pub take-words : (l n m : ℕ) (b : List ℕ) (i : ℕ) → m ≡ min l n → take l (words n b i) ≡ words m b i
+take-words zero n zero b i e = refl
+take-words (suc l) zero zero b i e = refl
+take-words (suc l) (suc n) (suc m) b i e = ap (λ ws. word b i ∷ ws) (take-words l n m b (suc (suc i)) (omega arith))
+take-words zero n (suc m) b i e = absurd (omega arith)
+take-words (suc l) zero (suc m) b i e = absurd (omega arith)
+take-words (suc l) (suc n) zero b i e = absurd (omega arith)
+
+-- the first k of them, the byte c before each; `said` is the text of a number
+abbrev pub leading : (ℕ → List ℕ) → ℕ → List ℕ → ℕ → ℕ → List ℕ
+leading said c b from k = followed c (map said (words k b from))
 
 -- The next of them is put.
-pub leading-put : {l l' l'' : List ℕ} {at i j : ℕ} (said : ℕ → List ℕ) (c n : ℕ) (b : List ℕ) (from k x : ℕ) → k < n → x ≡ word b (from + 2 * k)
-    → Put l at (leading said c n b from k) l' i → Put l' i (c ∷ said x) l'' j → Put l at (leading said c n b from (k + 1)) l'' j
-leading-put said c n b from k x lt e before next =
-    let more = followed-more said c (words n b from) k (omega (arith, length-words n b from)) in
-    put-as (put-then before next) (sym (more ∙ ap (λ y. leading said c n b from k ++ (c ∷ said y)) (words-at n b from k lt ∙ sym e)))
+pub leading-put : {l l' l'' : List ℕ} {at i j : ℕ} (said : ℕ → List ℕ) (c : ℕ) (b : List ℕ) (from k x : ℕ) → x ≡ word b (from + 2 * k)
+    → Put l at (leading said c b from k) l' i → Put l' i (c ∷ said x) l'' j → Put l at (leading said c b from (k + 1)) l'' j
+unfolding followed
+leading-put said c b from k x e before next =
+    let y = word b (from + 2 * k) in
+    let ws = words k b from in
+    let more : leading said c b from (k + 1) ≡ leading said c b from k ++ (c ∷ said y) =
+    ap (leading said c b from) (add-one k)
+    ∙ ap (λ l. followed c (map said l)) (words-more k b from)
+    ∙ ap (followed c) (map-append said ws (y ∷ []))
+    ∙ join-append (λ q. c ∷ q) (map said ws) (said y ∷ [])
+    ∙ ap (λ l. leading said c b from k ++ l) (append-nil (c ∷ said y)) in
+    put-as (put-then before next) (sym (more ∙ ap (λ z. leading said c b from k ++ (c ∷ said z)) (sym e)))
 
--- A Dewey number is its first component, and the others with a dot before each.
-pub dewey-parts : (l n w : ℕ) (ws : List ℕ) → length ws ≡ 5 → n ≡ min l 6 → 1 ≤ n
-    → decimal w ++ followed dot (map decimal (take (n - 1) ws)) ≡ deweyText (take l (w ∷ ws))
-unfolding parted deweyText
-dewey-parts zero n w ws e en le = absurd (omega arith)
-dewey-parts (suc m) n w ws e en le = by-test (leb m 5) refl
-  where
-    by-test : (b : Bool) → leb m 5 ≡ b → decimal w ++ followed dot (map decimal (take (n - 1) ws)) ≡ deweyText (take (suc m) (w ∷ ws))
-    by-test true t = let few : n - 1 ≡ m = omega (arith, leb-true m 5 t) in rw few refl
-    by-test false t =
-        let all : take (n - 1) ws ≡ ws = take-all (n - 1) ws (omega (arith, leb-false m 5 t)) in
-        ap (λ l. decimal w ++ followed dot (map decimal l)) (all ∙ sym (take-all m ws (omega (arith, leb-false m 5 t))))
-
--- A row of level 0 has no components.
-pub no-components : (l n : ℕ) (ws : List ℕ) → n ≡ min l 6 → n ≡ 0 → [] ≡ deweyText (take l ws)
-unfolding parted deweyText
-no-components zero n ws en none = refl
-no-components (suc l) n ws en none = absurd (omega arith)
-
--- the first k components after the first
+-- ---- as text
+-- the first k numbers after the first, a dot before each
 abbrev pub further : ℕ → List ℕ → List ℕ
-further k row = leading decimal dot 5 row 6 k
+further k held = leading decimal dot held 6 k
+
+-- They stand after the first.
+pub list-parts : (n : ℕ) (held : List ℕ) → 1 ≤ n → decimal (word held 4) ++ further (n - 1) held ≡ deweyText (words n held 4)
+unfolding parted deweyText
+list-parts zero held le = absurd (omega arith)
+list-parts (suc m) held le = let less : suc m - 1 ≡ m = omega arith in ap (λ k. decimal (word held 4) ++ further k held) less
+
+-- No numbers are no text.
+pub no-numbers : (n : ℕ) (held : List ℕ) → n ≡ 0 → [] ≡ deweyText (words n held 4)
+unfolding parted deweyText
+no-numbers zero held none = refl
+no-numbers (suc n) held none = absurd (omega arith)

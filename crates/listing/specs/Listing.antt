@@ -4,7 +4,7 @@ use mathlib.Core.Bool.{true, false}
 use mathlib.Core.List.{List, [], _∷_, _++_, map}
 use lib.Dec.{eqb}
 use lib.ListN.{take, drop}
-use Rattle.paper.specs.Format.{base, rowBytes, signed}
+use Rattle.paper.specs.Format.{Format, rowBytes, signed}
 use Rattle.paper.specs.Tables.{rowOf, dewey}
 use Rattle.paper.specs.NewTable.{entryUnit}
 use Rattle.paper.specs.Verdict.{Judgement, verdictNumbers}
@@ -29,9 +29,9 @@ unfoldable pub deweyText : List ℕ → List ℕ
 deweyText d = parted dot (map decimal d)
 
 -- a line: Dewey number, entry, label name, source row, value; the source is entry × 65,536 + source row
-unfoldable pub lineText : List ℕ → ℕ → List ℕ
-lineText row source =
-    let r = rowOf base row in
+unfoldable pub lineText : Format → List ℕ → ℕ → List ℕ
+lineText f row source =
+    let r = rowOf f row in
     lined
     (parted space
     (deweyText (dewey r)
@@ -42,15 +42,15 @@ lineText row source =
     ∷ []))
 
 -- a line each, of a table's first records and their sources
-unfoldable pub linesText : List ℕ → List ℕ → List ℕ
-linesText table [] = []
-linesText table (source ∷ sources) = lineText (take (rowBytes base) table) source ++ linesText (drop (rowBytes base) table) sources
+unfoldable pub linesText : Format → List ℕ → List ℕ → List ℕ
+linesText f table [] = []
+linesText f table (source ∷ sources) = lineText f (take (rowBytes f) table) source ++ linesText f (drop (rowBytes f) table) sources
 
 -- `refused N P`, or `verdict` with its numbers and then a line each; the second answer is not printed
-unfoldable pub listingText : Reply Judgement → Reshaping → List ℕ
-listingText judged reshaped =
+unfoldable pub listingText : Format → Reply Judgement → Reshaping → List ℕ
+listingText f judged reshaped =
     let r = reshaped .reply in
     elim (eqb (r .number) 0) [
-      | true ↦ verdictText (verdictNumbers (judged .rest .verdict)) ++ linesText (reshaped .table) (take (r .rest) (reshaped .sources))
+      | true ↦ verdictText (verdictNumbers (judged .rest .verdict)) ++ linesText f (reshaped .table) (take (r .rest) (reshaped .sources))
       | false ↦ refusedText (r .number) (r .place)
     ]

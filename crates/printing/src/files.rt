@@ -13,12 +13,11 @@ fn at_end(file: i32) -> bool {
     libc::read(file, &mut more) == 0
 }
 
-// Reads a file, no further than the buffer. A file that can't be opened counts as empty; one that was opened and can't be read to its end
-// is not good, so that a part of it never passes for the whole.
-pub fn read_file(path: &[u8], buffer: &mut [u8]) -> Read
+// Reads the file of this name that was opened, no further than the buffer. One that could not be opened counts as empty; one that can't be
+// read to its end is not good, so that a part of it never passes for the whole.
+pub fn read_open(file: i32, path: &[u8], buffer: &mut [u8]) -> Read
     ensures { λ r. ⌜ Counts (r .bytes) (now (buffer .exit)) ⌝ }
 {
-    let file = os::open_read(path);
     if file < 0 {
         return Read {
             bytes: 0,

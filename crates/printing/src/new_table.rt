@@ -2,13 +2,20 @@
 use crate::out::print;
 use crate::report::report_refused;
 use crate::report::report_verdict;
+use crate::width::served;
 use listing::answers::put_refused;
 use listing::answers::put_verdict;
 use listing::line::put_line;
+use paper::Format;
+use paper::Width;
+use silmezga::Reshaped;
 use silmezga::Verdict;
 use silmezga::reader::handed;
 ghost use mathlib.Core.Path.{_≡_};
+ghost use Prim.Native.Nat.{_≤_};
 ghost use lib.ListN.{length};
+ghost use Rattle.paper.specs.Format.{rowBytes};
+ghost use Rattle.bytes.specs.Served.{Served};
 
 // Prints a refusal, as every screen does.
 pub fn print_refused(number: usize, place: usize) -> bool {
@@ -23,26 +30,29 @@ fn print_verdict(v: Verdict) -> bool {
     print(&text[..n])
 }
 
-fn print_line(row: &[u8], source: u32) -> bool
-    requires { ⌜ length (now row) ≡ 24 ⌝ }
+fn print_line(row: &[u8], f: Format, source: u32) -> bool
+    requires { ⌜ Served f ⌝ }
+    requires { ⌜ length (now row) ≡ rowBytes f ⌝ }
 {
     let mut text = [0u8; 256];
-    let n = put_line(&mut text, row, source);
+    let n = put_line(&mut text, row, f, source);
     print(&text[..n])
 }
 
 // The lines of a new table, in order, each written as soon as its text is made.
-fn print_lines(table: &[u8], sources: &[u32], lines: usize) -> bool {
+fn print_lines(width: Width, table: &[u8], sources: &[u32], lines: usize) -> bool {
     if sources.len() < lines {
         return false;
     }
+    let f = served(width);
+    let w = bytes::row_bytes(f);
     let mut i = 0;
     while i < lines {
-        let row = handed(table, i);
-        if row.len() != 24 {
+        let row = handed(width, table, i);
+        if row.len() != w {
             return false;
         }
-        if !print_line(row, sources[i]) {
+        if !print_line(row, f, sources[i]) {
             return false;
         }
         i += 1;
@@ -50,38 +60,55 @@ fn print_lines(table: &[u8], sources: &[u32], lines: usize) -> bool {
     true
 }
 
+// Reshapes a table into the front of what is lent, with room for 1,024 lines of its width.
+fn reshape_into(
+    width: Width,
+    source: &[u8],
+    shape: &[u8],
+    table: &mut [u8],
+    sources: &mut [u32],
+) -> Reshaped
+    requires { ⌜ 28672 ≤ length (now table) ⌝ }
+{
+    let room = 1024 * bytes::row_bytes(served(width));
+    silmezga::reshape(width, source, shape, &mut table[..room], sources)
+}
+
 // Reshapes a table into what is lent, prints the listing, and reports the answer.
 fn print_reshaped(
+    width: Width,
     source: &[u8],
     shape: &[u8],
     table: &mut [u8],
     sources: &mut [u32],
     channel: i32,
-) -> bool {
-    let r = silmezga::reshape(source, shape, table, sources);
+) -> bool
+    requires { ⌜ 28672 ≤ length (now table) ⌝ }
+{
+    let r = reshape_into(width, source, shape, table, sources);
     let number = r.number;
     let place = r.place;
     if number != 0 {
         if !print_refused(number, place) {
             return false;
         }
-        return report_refused(channel, source, shape, number, place);
+        return report_refused(channel, width, source, shape, number, place);
     }
-    let j = silmezga::judge(source, shape);
+    let j = silmezga::judge(width, source, shape);
     let v = j.verdict;
     let none = j.none_apart;
     if !print_verdict(v) {
         return false;
     }
-    if !report_verdict(channel, source, shape, v, none) {
+    if !report_verdict(channel, width, source, shape, v, none) {
         return false;
     }
-    print_lines(table, sources, r.lines)
+    print_lines(width, table, sources, r.lines)
 }
 
 // Prints the listing of a table and a shape, with room for 1,024 lines. The answer and what it names are reported on the channel.
-pub fn print_listing(source: &[u8], shape: &[u8], channel: i32) -> bool {
-    let mut new = [0u8; 24576];
+pub fn print_listing(width: Width, source: &[u8], shape: &[u8], channel: i32) -> bool {
+    let mut new = [0u8; 28672];
     let mut sources = [0u32; 1024];
-    print_reshaped(source, shape, &mut new, &mut sources, channel)
+    print_reshaped(width, source, shape, &mut new, &mut sources, channel)
 }

@@ -1,8 +1,10 @@
 // The types of a table, as an indented tree: below a type those whose parent it is, in the order of their first rows.
 use crate::new_table::print_refused;
 use crate::out::print;
+use crate::width::served;
 use adorned::TypeSummary;
 use adorned::adorn_by_value;
+use paper::Width;
 use screens::summary::put_type;
 use tables::row::smaller;
 
@@ -26,7 +28,7 @@ fn after(all: [TypeSummary; 64], count: usize, k: usize) -> usize {
         return child;
     }
     let mut at = k;
-    let mut left: usize = 6;
+    let mut left: usize = 8;
     while 0 < left {
         if 64 <= at {
             return count;
@@ -49,7 +51,7 @@ fn print_type(all: [TypeSummary; 64], k: usize) -> bool {
     }
     let s = all[k];
     let level = s.level;
-    if 6 < level {
+    if 8 < level {
         return false;
     }
     let parent = s.parent;
@@ -76,8 +78,8 @@ fn print_tree(all: [TypeSummary; 64], count: usize) -> bool {
 }
 
 // Prints the refusal of adorning, or the tree. The figures are those that `adorn` stores in what it is lent.
-pub fn print_types(table: &[u8]) -> bool {
-    let a = adorn_by_value(table, 64);
+pub fn print_types(width: Width, table: &[u8]) -> bool {
+    let a = adorn_by_value(table, served(width), 64);
     let number = a.number;
     let place = a.place;
     if number != 0 {

@@ -32,6 +32,9 @@ samples =
       ascii "          18446744073709551615 18446744073709551615: 18446744073709551615 lines, 18446744073709551615 rows"
           ++ ascii ", 18446744073709551615 copies, 18446744073709551615 different rows\n",
     )
+    -- level 8
+    ∷ (figuresText 8 15 4 2 1 1 1, ascii "              15 asset: 2 lines, 1 row, 1 copy, 1 different row\n")
+    ∷ (typeOf 4 8 3 0 2 3, ascii "              asset 3 rows, 0..2 under a lease\n")
     -- a root type, of one row and of more
     ∷ (typeOf 1 1 1 1 1 0, ascii "portfolio 1 row\n")
     ∷ (typeOf 2 1 12 12 12 4, ascii "lessee 12 rows\n")

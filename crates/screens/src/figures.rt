@@ -8,6 +8,7 @@ use listing::put::put_number;
 ghost use Prim.Native.Nat.{_+_, _≤_};
 ghost use lib.ListN.{length};
 ghost use Rattle.io.specs.Counts.{Counts};
+ghost use Rattle.bytes.specs.Served.{mostLevels};
 ghost use Rattle.listing.specs.Put.{Put};
 ghost use Rattle.screens.specs.Screens.{countsText, figuresText};
 
@@ -48,7 +49,7 @@ pub fn put_figures(
     label: usize,
     f: Figures,
 ) -> usize
-    requires { ⌜ level ≤ 6 ⌝ }
+    requires { ⌜ level ≤ mostLevels ⌝ }
     ensures { λ r. ⌜ Put (now (out .entry)) 0 (figuresText level entry label (f .lines) (f .rows) (f .copies) (f .different)) (now (out .exit)) r ⌝ }
     ensures { λ r. ⌜ Counts r (now (out .exit)) ⌝ }
 {

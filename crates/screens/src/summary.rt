@@ -10,14 +10,15 @@ use listing::put::put_number;
 ghost use Prim.Native.Nat.{_+_, _≤_};
 ghost use lib.ListN.{length};
 ghost use Rattle.io.specs.Counts.{Counts};
+ghost use Rattle.bytes.specs.Served.{mostLevels};
 ghost use Rattle.adorned.specs.Told.{told};
 ghost use Rattle.listing.specs.Put.{Put};
 ghost use Rattle.screens.specs.Screens.{rowsText, underText, typeText};
 
 // The type's name and rows.
 fn put_rows(out: &mut [u8], at: usize, s: TypeSummary) -> usize
-    requires { ⌜ (at + 58 ≤ length (now out)) × (s .level ≤ 6) ⌝ }
-    ensures { λ r. ⌜ Put (now (out .entry)) at (rowsText (told s)) (now (out .exit)) r × (r ≤ at + 58) ⌝ }
+    requires { ⌜ (at + 62 ≤ length (now out)) × (s .level ≤ mostLevels) ⌝ }
+    ensures { λ r. ⌜ Put (now (out .entry)) at (rowsText (told s)) (now (out .exit)) r × (r ≤ at + 62) ⌝ }
 {
     let indent = put_indent(out, at, s.level);
     let name = put_name(out, indent, s.label);
@@ -40,7 +41,7 @@ fn put_under(out: &mut [u8], at: usize, least: usize, greatest: usize, above: us
 
 // The line of a type, at the front of the buffer; a root type stands under none.
 pub fn put_type(out: &mut [u8; 256], s: TypeSummary, above: usize) -> usize
-    requires { ⌜ s .level ≤ 6 ⌝ }
+    requires { ⌜ s .level ≤ mostLevels ⌝ }
     ensures { λ r. ⌜ Put (now (out .entry)) 0 (typeText (told s) above) (now (out .exit)) r ⌝ }
     ensures { λ r. ⌜ Counts r (now (out .exit)) ⌝ }
 {

@@ -8,6 +8,7 @@ ghost use mathlib.Core.Path.{_≡_};
 ghost use Prim.Native.Nat.{_+_, _≤_};
 ghost use lib.ListN.{length};
 ghost use Rattle.paper.specs.Lists.{firstOr};
+ghost use Rattle.bytes.specs.Served.{mostLevels};
 ghost use Rattle.listing.specs.Names.{nameText};
 ghost use Rattle.listing.specs.Put.{Put};
 ghost use Rattle.screens.specs.Screens.{counted, indent, vowel, article, withArticle};
@@ -28,8 +29,8 @@ pub fn put_counted(out: &mut [u8], at: usize, n: usize, one: &[u8], more: &[u8])
 
 // Two spaces for each level below the first.
 pub fn put_indent(out: &mut [u8], at: usize, level: usize) -> usize
-    requires { ⌜ (at + 10 ≤ length (now out)) × (level ≤ 6) ⌝ }
-    ensures { λ r. ⌜ Put (now (out .entry)) at (indent level) (now (out .exit)) r × (r ≤ at + 10) ⌝ }
+    requires { ⌜ (at + 14 ≤ length (now out)) × (level ≤ mostLevels) ⌝ }
+    ensures { λ r. ⌜ Put (now (out .entry)) at (indent level) (now (out .exit)) r × (r ≤ at + 14) ⌝ }
 {
     let mut p = at;
     let mut l = 1;

@@ -1,6 +1,5 @@
 -- `entry::put_entry_fields`: the first fields, the labels, and the end of the line. Assumes nothing.
 use Rattle.io.proofs.Counting.{counts}
-use Rattle.paper.specs.Format.{base}
 use Rattle.paper.specs.Shapes.{entryOf}
 use Rattle.listing.proofs.Putting.{put-then, put-last}
 use Rattle.facts.specs.Facts.{joinedLine, entryFields}
@@ -18,19 +17,19 @@ slice-aggregate-put-bytes c = search needs
 put-bytes-requires : tie.Need-put-bytes-requires
 put-bytes-requires c κs = search needs
 
-put-six-requires : tie.Need-put-six-requires
-put-six-requires c κs = search needs
+put-list-requires : tie.Need-put-list-requires
+put-list-requires c κs = search needs
 
 put-byte-requires : tie.Need-put-byte-requires
 put-byte-requires c κs = search needs
 
 returns : tie.Need-returns
-unfolding base entryOf joinedLine entryFields
+unfolding entryOf joinedLine entryFields
 returns c =
     let l = c .before .before in
     let w = l .before .before in
     let head = w .before .before .before in
-    let labels = put-then (w .put-bytes .ensures) (put-last (l .put-six .ensures .0)) in
+    let labels = put-then (w .put-bytes .ensures) (put-last (l .put-list .ensures .0)) in
     let whole = put-then (put-then (head .put-entry-head .ensures .0) labels) (c .put-byte .ensures) in
     (whole, counts (c .put-byte .result) (c .put-byte .last .0) (room (put-byte-requires (c .before) (c .put-byte .lifetimes)) (c .put-byte .ensures)))
 
@@ -41,6 +40,6 @@ put-entry-fields-spec =
     put-entry-head-requires
     slice-aggregate-put-bytes
     put-bytes-requires
-    put-six-requires
+    put-list-requires
     put-byte-requires
     returns)

@@ -1,8 +1,6 @@
 -- `entry::put_entry_head`: the entry's fields, one after the other. Assumes nothing.
 use Prim.Native.Nat.{_≤_}
 use native.Mathlib.Omega.{arith}
-use Rattle.paper.specs.Format.{base}
-use Rattle.paper.specs.Shapes.{entryOf}
 use Rattle.listing.specs.Text.{ascii}
 use Rattle.listing.proofs.Putting.{put-then, put-last}
 use Rattle.facts.specs.Facts.{entryHead}
@@ -51,7 +49,7 @@ put-named-requires-4 : tie.Need-put-named-requires-4
 put-named-requires-4 c κs = search needs
 
 returns : tie.Need-returns
-unfolding base entryOf entryHead
+unfolding entryHead
 returns c =
     let word = c .before in
     let third = word .before .before .before in

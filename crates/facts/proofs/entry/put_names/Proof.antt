@@ -4,8 +4,6 @@ use native.Mathlib.Omega.{arith}
 use mathlib.Core.Path.{_≡_, refl, ap}
 use mathlib.Core.List.{List}
 use lib.ListN.{length}
-use Rattle.paper.specs.Format.{base}
-use Rattle.paper.specs.Shapes.{entryOf}
 use Rattle.listing.specs.Text.{space, followed}
 use Rattle.listing.specs.Names.{nameText}
 use Rattle.listing.specs.Put.{Put}
@@ -20,7 +18,7 @@ use Rattle.facts.proofs.entry.put_names.Tie as tie
 
 -- the names of the first k labels of an entry's record
 abbrev names : List ℕ → ℕ → List ℕ
-names entry k = leading nameText space 6 entry 4 k
+names entry k = leading nameText space entry 4 k
 
 abbrev Inv-loop : tie.InvT-loop
 Inv-loop out₀ at entry n p₀ k₀ out p k = (k ≤ n) × (p ≤ at + 21 * k) × (length out ≡ length out₀) × Put out₀ at (names entry k) out p
@@ -60,7 +58,7 @@ loop-again c =
     let b = w .before .before .before .before in
     let l = b .before .before .before in
     let entry = l .before .before .before .args .entry .now in
-    let said = leading-put nameText space 6 entry 4 (l .loop .k) (w .word .result) (omega arith) (w .word .ensures .0) in
+    let said = leading-put nameText space entry 4 (l .loop .k) (w .word .result) (w .word .ensures .0) in
     let put = said (l .loop .inv .3) (put-then (b .put-byte .ensures) (n .put-name .ensures .0)) in
     (omega arith, omega (arith, n .put-name .ensures .1, b .put-byte .ensures .ends), as-long put, put)
 
@@ -68,7 +66,7 @@ same-length : tie.Need-same-length Inv-loop μ-loop
 same-length c = search needs
 
 returns : tie.Need-returns Inv-loop μ-loop
-unfolding base entryOf namesText
+unfolding namesText
 returns c =
     let l = c .before in
     let all : l .loop .k ≡ l .before .before .before .args .n = omega arith in

@@ -1,4 +1,6 @@
 -- `row::put_row`: the parts, one after the other. Assumes nothing.
+use Prim.Native.Nat.{_≤_}
+use native.Mathlib.Omega.{arith}
 use Rattle.io.proofs.Counting.{counts}
 use Rattle.listing.proofs.Putting.{put-then, put-last}
 use Rattle.facts.specs.Facts.{joinedLine, rowText}
@@ -35,7 +37,16 @@ put-bytes-requires-2 : tie.Need-put-bytes-requires-2
 put-bytes-requires-2 c κs = search needs
 
 put-value-requires : tie.Need-put-value-requires
-put-value-requires c κs = search needs
+put-value-requires c κs =
+    let w = c .before in
+    let l = w .before .before .before in
+    let m = l .before .before in
+    let d = m .before .before in
+    let t = d .before .before in
+    let n = t .before .before .before in
+    let s = n .before .before .before .before .before in
+    let near : d .put-dewey .result ≤ 193 = omega (arith, n .put-named .ensures .1, t .put-bytes .ensures .ends, d .put-dewey .ensures .1) in
+    (s .pre .0, (omega (arith, near, m .put-byte .ensures .ends, l .put-labels .ensures .1, w .put-bytes2 .ensures .ends), s .pre .1 .0))
 
 put-byte-requires-2 : tie.Need-put-byte-requires-2
 put-byte-requires-2 c κs = search needs

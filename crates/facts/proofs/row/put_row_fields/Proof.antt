@@ -1,6 +1,5 @@
 -- `row::put_row_fields`: the first fields, the components, the value, and the end of the line. Assumes nothing.
 use Rattle.io.proofs.Counting.{counts}
-use Rattle.paper.specs.Format.{base}
 use Rattle.paper.specs.Tables.{rowOf}
 use Rattle.listing.proofs.Putting.{put-then, put-last}
 use Rattle.facts.specs.Facts.{joinedLine, rowFields}
@@ -18,8 +17,8 @@ slice-aggregate-put-bytes c = search needs
 put-bytes-requires : tie.Need-put-bytes-requires
 put-bytes-requires c κs = search needs
 
-put-six-requires : tie.Need-put-six-requires
-put-six-requires c κs = search needs
+put-list-requires : tie.Need-put-list-requires
+put-list-requires c κs = search needs
 
 slice-aggregate-put-bytes-2 : tie.Need-slice-aggregate-put-bytes-2
 slice-aggregate-put-bytes-2 c = search needs
@@ -34,7 +33,7 @@ put-byte-requires : tie.Need-put-byte-requires
 put-byte-requires c κs = search needs
 
 returns : tie.Need-returns
-unfolding base rowOf joinedLine rowFields
+unfolding rowOf joinedLine rowFields
 returns c =
     let v = c .before .before in
     let w2 = v .before .before in
@@ -42,7 +41,7 @@ returns c =
     let w = l .before .before in
     let head = w .before .before .before in
     let value = put-then (w2 .put-bytes2 .ensures) (put-last (v .put-value .ensures .0)) in
-    let list = put-then (w .put-bytes .ensures) (put-then (l .put-six .ensures .0) value) in
+    let list = put-then (w .put-bytes .ensures) (put-then (l .put-list .ensures .0) value) in
     let whole = put-then (put-then (head .put-row-head .ensures .0) list) (c .put-byte .ensures) in
     (whole, counts (c .put-byte .result) (c .put-byte .last .0) (room (put-byte-requires (c .before) (c .put-byte .lifetimes)) (c .put-byte .ensures)))
 
@@ -53,7 +52,7 @@ put-row-fields-spec =
     put-row-head-requires
     slice-aggregate-put-bytes
     put-bytes-requires
-    put-six-requires
+    put-list-requires
     slice-aggregate-put-bytes-2
     put-bytes-requires-2
     put-value-requires

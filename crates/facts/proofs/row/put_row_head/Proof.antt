@@ -1,8 +1,6 @@
 -- `row::put_row_head`: the row's fields, one after the other. Assumes nothing.
 use Prim.Native.Nat.{_≤_}
 use native.Mathlib.Omega.{arith}
-use Rattle.paper.specs.Format.{base}
-use Rattle.paper.specs.Tables.{rowOf}
 use Rattle.listing.specs.Text.{ascii}
 use Rattle.listing.proofs.Putting.{put-then, put-last}
 use Rattle.facts.specs.Facts.{rowHead}
@@ -51,7 +49,7 @@ put-named-requires-4 : tie.Need-put-named-requires-4
 put-named-requires-4 c κs = search needs
 
 returns : tie.Need-returns
-unfolding base rowOf rowHead
+unfolding rowHead
 returns c =
     let word = c .before in
     let third = word .before .before .before in

@@ -12,10 +12,10 @@ use Rattle.listing.proofs.line.put_further.Statement.{statement}
 use Rattle.listing.proofs.line.put_further.Tie as tie
 
 abbrev Inv-loop : tie.InvT-loop
-Inv-loop out₀ at row n p₀ k₀ out p k = (k ≤ n) × (p ≤ at + 21 * k) × (length out ≡ length out₀) × Put out₀ at (further k row) out p
+Inv-loop out₀ at held n p₀ k₀ out p k = (k ≤ n) × (p ≤ at + 21 * k) × (length out ≡ length out₀) × Put out₀ at (further k held) out p
 
 abbrev μ-loop : tie.MeasureT-loop
-μ-loop out₀ at row n p₀ k₀ out p k = n - k
+μ-loop out₀ at held n p₀ k₀ out p k = n - k
 
 loop-holds : tie.Need-loop-holds Inv-loop μ-loop
 unfolding followed
@@ -44,8 +44,8 @@ loop-again c =
     let a = c .before .before in
     let w = a .before in
     let l = w .before .before .before in
-    let row = l .before .before .before .args .row .now in
-    let said = leading-put decimal dot 5 row 6 (l .loop .k) (w .word .result) (omega arith) (w .word .ensures .0) in
+    let held = l .before .before .before .args .held .now in
+    let said = leading-put decimal dot held 6 (l .loop .k) (w .word .result) (w .word .ensures .0) in
     let put = said (l .loop .inv .3) (a .put-after .ensures .0) in
     (omega arith, omega (arith, a .put-after .ensures .1), as-long put, put)
 
@@ -56,7 +56,7 @@ returns : tie.Need-returns Inv-loop μ-loop
 returns c =
     let l = c .before in
     let all : l .loop .k ≡ l .before .before .before .args .n = omega arith in
-    (put-as (l .loop .inv .3) (ap (λ k. further k (l .before .before .before .args .row .now)) all), omega arith)
+    (put-as (l .loop .inv .3) (ap (λ k. further k (l .before .before .before .args .held .now)) all), omega arith)
 
 pub put-further-spec : {M : Type 1} → statement M
 put-further-spec =

@@ -58,8 +58,8 @@ returns c =
     let origin = put-figure (o .put-after2 .ensures .0) (source % entryUnit) (omega arith) in
     let after = put-then entry (put-then name (put-then origin value)) in
     let whole = put-then (put-then (d .put-dewey .ensures .0) after) (c .put-byte3 .ensures) in
-    let from : h .put-byte .result ≤ 147 = omega (arith, d .put-dewey .ensures .1, e .put-after .ensures .1, h .put-byte .ensures .ends) in
-    let to : g .put-byte2 .result ≤ 189 = omega (arith, n .put-name .ensures .1, o .put-after2 .ensures .1, g .put-byte2 .ensures .ends) in
+    let from : h .put-byte .result ≤ 189 = omega (arith, d .put-dewey .ensures .1, e .put-after .ensures .1, h .put-byte .ensures .ends) in
+    let to : g .put-byte2 .result ≤ 231 = omega (arith, n .put-name .ensures .1, o .put-after2 .ensures .1, g .put-byte2 .ensures .ends) in
     (whole, counts (c .put-byte3 .result) (c .put-byte3 .last .0) (omega (arith, d .before .put-dewey-arg .given .0 .1, as-long whole, v .put-value .ensures .1, c .put-byte3 .ensures .ends)))
 
 pub put-line-spec : {M : Type 1} → statement M

@@ -1,12 +1,16 @@
 -- `line::put_value`: a value below 2 ^ 63 is its bits; any other is a hyphen and what is missing to 2 ^ 64. Assumes nothing.
 use native.Mathlib.Omega.{arith}
-use Rattle.paper.specs.Format.{base}
+use mathlib.Core.Path.{_∙_, ap}
+use Rattle.paper.specs.Format.{number, span}
 use Rattle.paper.specs.Tables.{rowOf}
 use Rattle.listing.proofs.Putting.{put-as}
 use Rattle.listing.proofs.Values.{not-below, below}
 use borrow.Author.Needs.{needs}
 use Rattle.listing.proofs.line.put_value.Statement.{statement}
 use Rattle.listing.proofs.line.put_value.Tie as tie
+
+entry-bytes-requires : tie.Need-entry-bytes-requires
+entry-bytes-requires c κs = search needs
 
 long-requires : tie.Need-long-requires
 long-requires c κs = search needs
@@ -27,12 +31,15 @@ same-length : tie.Need-same-length
 same-length c = search needs
 
 returns : tie.Need-returns
-unfolding base rowOf
+unfolding rowOf
 returns c =
     let n = c .before .before in
     let v = n .before .before .before in
-    let row = v .before .before .before .args .row .now in (
-      put-as (n .put-number .ensures .0) (not-below (rowOf base row .value) (v .long .result) (v .long .ensures) (omega arith)),
+    let e = v .before in
+    let a = e .before .before .before .args in
+    let row = a .row .now in
+    let is = v .long .ensures ∙ ap (λ i. number (span 8 row i)) (e .entry-bytes .ensures) in (
+      put-as (n .put-number .ensures .0) (not-below (rowOf (a .f) row .value) (v .long .result) is (omega arith)),
       omega (arith, n .put-number .ensures .1),
     )
 
@@ -40,12 +47,15 @@ same-length-2 : tie.Need-same-length-2
 same-length-2 c = search needs
 
 returns-2 : tie.Need-returns-2
-unfolding base rowOf
+unfolding rowOf
 returns-2 c =
     let n = c .before .before in
     let v = n .before .before .before in
-    let row = v .before .before .before .args .row .now in (
-      put-as (n .put-after .ensures .0) (below (rowOf base row .value) (v .long .result) (v .long .ensures) (omega arith) _ (omega arith) (omega arith)),
+    let e = v .before in
+    let a = e .before .before .before .args in
+    let row = a .row .now in
+    let is = v .long .ensures ∙ ap (λ i. number (span 8 row i)) (e .entry-bytes .ensures) in (
+      put-as (n .put-after .ensures .0) (below (rowOf (a .f) row .value) (v .long .result) is (omega arith) _ (omega arith) (omega arith)),
       n .put-after .ensures .1,
     )
 
@@ -53,6 +63,7 @@ pub put-value-spec : {M : Type 1} → statement M
 put-value-spec =
     tie.close
     (tie.spec
+    entry-bytes-requires
     long-requires
     put-number-requires
     sub-put-after

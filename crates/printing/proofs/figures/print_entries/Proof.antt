@@ -1,21 +1,29 @@
--- `figures::print_entries` is safe: the entries that are printed stand in the shape. Assumes nothing.
-use Prim.Native.Nat.{_*_, _-_, _≤_}
-use lib.ListN.{length}
+-- `figures::print_entries` is safe: each entry that is printed stands in the shape. Assumes nothing.
+use Prim.Native.Nat.{_-_, _≤_}
+use mathlib.Core.Path.{_≡_}
+use Rattle.paper.specs.Format.{entryBytes}
+use Rattle.bytes.specs.Served.{Served}
 use borrow.Author.Needs.{needs}
 use Rattle.printing.proofs.figures.print_entries.Statement.{statement}
 use Rattle.printing.proofs.figures.print_entries.Tie as tie
 
 abbrev Inv-loop : tie.InvT-loop
-Inv-loop shape lines rows copies different entries e₀ e = (e ≤ entries) × (entries ≤ 16) × (16 * entries ≤ length shape)
+Inv-loop shape f lines rows copies different w e₀ e = (e ≤ 16) × (w ≡ entryBytes f) × Served f
 
 abbrev μ-loop : tie.MeasureT-loop
-μ-loop shape lines rows copies different entries e₀ e = entries - e
+μ-loop shape f lines rows copies different w e₀ e = 16 - e
 
-smaller-requires : tie.Need-smaller-requires Inv-loop μ-loop
-smaller-requires c κs = search needs
+entry-bytes-requires : tie.Need-entry-bytes-requires Inv-loop μ-loop
+entry-bytes-requires c κs = search needs
 
 loop-holds : tie.Need-loop-holds Inv-loop μ-loop
 loop-holds c = search needs
+
+entry-at-requires : tie.Need-entry-at-requires Inv-loop μ-loop
+entry-at-requires c κs = search needs
+
+returns : tie.Need-returns Inv-loop μ-loop
+returns c = search needs
 
 mul-t16 : tie.Need-mul-t16 Inv-loop μ-loop
 mul-t16 c = search needs
@@ -41,14 +49,11 @@ mul-t28 c = search needs
 array-read-t31 : tie.Need-array-read-t31 Inv-loop μ-loop
 array-read-t31 c = search needs
 
-record-requires : tie.Need-record-requires Inv-loop μ-loop
-record-requires c κs = search needs
-
 print-entry-requires : tie.Need-print-entry-requires Inv-loop μ-loop
 print-entry-requires c κs = search needs
 
-returns : tie.Need-returns Inv-loop μ-loop
-returns c = search needs
+returns-2 : tie.Need-returns-2 Inv-loop μ-loop
+returns-2 c = search needs
 
 add-e : tie.Need-add-e Inv-loop μ-loop
 add-e c = search needs
@@ -59,8 +64,8 @@ loop-less c = search needs
 loop-again : tie.Need-loop-again Inv-loop μ-loop
 loop-again c = search needs
 
-returns-2 : tie.Need-returns-2 Inv-loop μ-loop
-returns-2 c = search needs
+returns-3 : tie.Need-returns-3 Inv-loop μ-loop
+returns-3 c = search needs
 
 pub print-entries-spec : {M : Type 1} → statement M
 print-entries-spec =
@@ -68,8 +73,10 @@ print-entries-spec =
     (tie.spec
     Inv-loop
     μ-loop
-    smaller-requires
+    entry-bytes-requires
     loop-holds
+    entry-at-requires
+    returns
     mul-t16
     array-read-t19
     mul-t20
@@ -78,10 +85,9 @@ print-entries-spec =
     array-read-t27
     mul-t28
     array-read-t31
-    record-requires
     print-entry-requires
-    returns
+    returns-2
     add-e
     loop-less
     loop-again
-    returns-2)
+    returns-3)

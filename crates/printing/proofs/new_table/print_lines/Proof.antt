@@ -1,18 +1,27 @@
 -- `new_table::print_lines` is safe: the lines that are printed have their places. Assumes nothing.
 use Prim.Native.Nat.{_-_, _≤_}
+use mathlib.Core.Path.{_≡_}
 use lib.ListN.{length}
+use Rattle.paper.specs.Format.{rowBytes}
+use Rattle.bytes.specs.Served.{Served}
 use borrow.Author.Needs.{needs}
 use Rattle.printing.proofs.new_table.print_lines.Statement.{statement}
 use Rattle.printing.proofs.new_table.print_lines.Tie as tie
 
 abbrev Inv-loop : tie.InvT-loop
-Inv-loop table sources lines i₀ i = (i ≤ lines) × (lines ≤ length sources)
+Inv-loop width table sources lines f w i₀ i = (i ≤ lines) × (lines ≤ length sources) × (w ≡ rowBytes f) × Served f
 
 abbrev μ-loop : tie.MeasureT-loop
-μ-loop table sources lines i₀ i = lines - i
+μ-loop width table sources lines f w i₀ i = lines - i
 
 returns : tie.Need-returns Inv-loop μ-loop
 returns c = search needs
+
+served-requires : tie.Need-served-requires Inv-loop μ-loop
+served-requires c κs = search needs
+
+row-bytes-requires : tie.Need-row-bytes-requires Inv-loop μ-loop
+row-bytes-requires c κs = search needs
 
 loop-holds : tie.Need-loop-holds Inv-loop μ-loop
 loop-holds c = search needs
@@ -54,6 +63,8 @@ print-lines-spec =
     Inv-loop
     μ-loop
     returns
+    served-requires
+    row-bytes-requires
     loop-holds
     handed-requires
     returns-2

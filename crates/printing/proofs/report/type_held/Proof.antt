@@ -5,10 +5,10 @@ use Rattle.printing.proofs.report.type_held.Statement.{statement}
 use Rattle.printing.proofs.report.type_held.Tie as tie
 
 abbrev Inv-loop : tie.InvT-loop
-Inv-loop table r last held₀ i₀ held i = (i ≤ last + 1) × (last ≤ 1023)
+Inv-loop width table r last held₀ i₀ held i = (i ≤ last + 1) × (last ≤ 1023)
 
 abbrev μ-loop : tie.MeasureT-loop
-μ-loop table r last held₀ i₀ held i = last + 1 - i
+μ-loop width table r last held₀ i₀ held i = last + 1 - i
 
 smaller-requires : tie.Need-smaller-requires Inv-loop μ-loop
 smaller-requires c κs = search needs

@@ -1,11 +1,11 @@
--- `types_tree::after` is safe: it goes up at most six levels. Assumes nothing.
+-- `types_tree::after` is safe: it goes up at most eight levels. Assumes nothing.
 use Prim.Native.Nat.{_≤_}
 use borrow.Author.Needs.{needs}
 use Rattle.printing.proofs.types_tree.after.Statement.{statement}
 use Rattle.printing.proofs.types_tree.after.Tie as tie
 
 abbrev Inv-loop : tie.InvT-loop
-Inv-loop count k all child at₀ left₀ at left = left ≤ 6
+Inv-loop count k all child at₀ left₀ at left = left ≤ 8
 
 abbrev μ-loop : tie.MeasureT-loop
 μ-loop count k all child at₀ left₀ at left = left

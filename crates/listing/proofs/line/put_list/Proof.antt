@@ -1,0 +1,47 @@
+-- `line::put_list`: the first number, and the others. Assumes nothing.
+use native.Mathlib.Omega.{arith}
+use mathlib.Core.Path.{_∙_, ap}
+use mathlib.Core.List.{_++_}
+use Prim.Native.Nat.{_-_}
+use Rattle.listing.specs.Text.{decimal}
+use Rattle.listing.proofs.Putting.{put-none, put-then, put-as}
+use Rattle.listing.proofs.Dewey.{further, list-parts, no-numbers}
+use borrow.Author.Needs.{needs}
+use Rattle.listing.proofs.line.put_list.Statement.{statement}
+use Rattle.listing.proofs.line.put_list.Tie as tie
+
+returns : tie.Need-returns
+returns c =
+    let a = c .before .before .before .args in
+    (put-as (put-none (a .out .now) (a .at)) (no-numbers (a .n) (a .held .now) (c .if1 .taken)), omega arith)
+
+word-requires : tie.Need-word-requires
+word-requires c κs = search needs
+
+put-number-requires : tie.Need-put-number-requires
+put-number-requires c κs = search needs
+
+sub-put-further : tie.Need-sub-put-further
+sub-put-further c = search needs
+
+put-further-requires : tie.Need-put-further-requires
+put-further-requires c κs = search needs
+
+same-length : tie.Need-same-length
+same-length c = search needs
+
+returns-2 : tie.Need-returns-2
+returns-2 c =
+    let f = c .before .before in
+    let p = f .before .before .before .before in
+    let w = p .before in
+    let a = w .before .before .before .before .before .args in
+    let whole = put-then (p .put-number .ensures .0) (f .put-further .ensures .0) in
+    let first = ap (λ x. decimal x ++ further (a .n - 1) (a .held .now)) (w .word .ensures .0) in (
+      put-as whole (first ∙ list-parts (a .n) (a .held .now) (omega arith)),
+      omega (arith, p .put-number .ensures .1, f .put-further .ensures .1),
+    )
+
+pub put-list-spec : {M : Type 1} → statement M
+put-list-spec =
+    tie.close (tie.spec returns word-requires put-number-requires sub-put-further put-further-requires same-length returns-2)

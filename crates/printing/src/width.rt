@@ -1,0 +1,23 @@
+// What a width says of the files: their format, and where the entries of a shape stand.
+use paper::Format;
+use paper::Width;
+ghost use Rattle.bytes.specs.Served.{Served};
+
+// The format of a width, which every layer below serves.
+pub fn served(width: Width) -> Format
+    ensures { λ r. ⌜ Served r ⌝ }
+{
+    paper::format_of(width)
+}
+
+// An entry's own bytes of a shape; past the last whole entry, an empty part.
+pub fn entry_at(shape: &[u8], f: Format, e: usize) -> &[u8]
+    requires { ⌜ Served f ⌝ }
+{
+    let none = 0;
+    let w = bytes::entry_bytes(f);
+    if e < shape.len() / w {
+        return bytes::record(shape, w, e);
+    }
+    &shape[none..none]
+}
