@@ -4,9 +4,9 @@ import re
 import cases
 
 
-def shape(*entries):
+def shape(*entries, levels=6):
     """Entries given as (level, type)."""
-    return b"".join(cases.entry_bytes(l, k) for l, k in entries)
+    return b"".join(cases.entry_bytes(l, k, levels) for l, k in entries)
 
 
 def with_byte(data, at, value):
@@ -27,12 +27,12 @@ def nested(text):
     return rows
 
 
-def wanted(text, rows):
+def wanted(text, rows, levels=6):
     """A shape in brackets, in which a label stands for the one type that ends with it, or, where there is none, for itself alone."""
     kinds = cases.types(rows)
     ending = {k[-1]: k for k in kinds}
     assert len(ending) == len(kinds), "two types end with one label"
-    return shape(*((len(d), ending.get(l, (l,))) for d, l in nested(text)))
+    return shape(*((len(d), ending.get(l, (l,))) for d, l in nested(text)), levels=levels)
 
 
 def children(n):

@@ -6,7 +6,7 @@ An answer by hand is what the second reshape says (`refused 7 0`), the rows that
 import cases, paper01, samples as folders
 from brackets import A, CHAIN, children, nested, shape, wanted, with_byte
 from case_draws import Draws, ordinary, with_other_byte
-from case_form import Case, reshaping, reshaping_again, total
+from case_form import Case, lines_of, reshaping, reshaping_again, total
 from case_parts import bracketed, far_more, lent, many, nested_table, room, table
 from case_samples import VALUES, expect, leases
 from case_shapes import GOOD_SHAPE, GOOD_TABLE
@@ -25,12 +25,8 @@ verdict 0
 """
 
 
-def lines_of(reply, new, _sources):
-    return new[:24 * reply[2]]
-
-
-def rows_of(lines):
-    return [(row.dewey, row.label) for row in paper01.keep_row_rules(lines, 6, 999)]
+def rows_of(lines, levels=6):
+    return [(row.dewey, row.label) for row in paper01.keep_row_rules(lines, levels, 999)]
 
 
 def said(case):
@@ -39,13 +35,15 @@ def said(case):
     if second is None:
         return ["none"]
     number, place, count = second[0]
-    return [f"refused {number} {place}"] if number else [f"{count} lines", rows_of(lines_of(*second))]
+    return [f"refused {number} {place}"] if number else [f"{count} lines", rows_of(lines_of(case, *second), case.levels)]
 
 
 def chain(first, again, hand):
     """The case with a second shape, in bytes, or in brackets and of the types of the new table."""
     first = first if first.room else lent(first)
-    case = first._replace(again=again if isinstance(again, bytes) else wanted(again, rows_of(lines_of(*reshaping(first)))))
+    if not isinstance(again, bytes):
+        again = wanted(again, rows_of(lines_of(first, *reshaping(first)), first.levels), first.levels)
+    case = first._replace(again=again)
     of_rows = not any(word in hand for word in ("refused", "lines", "none"))
     if (nested(hand) if of_rows else hand) not in said(case):
         raise SystemExit(f"table {case.table.hex()}, shape {case.shape.hex()}, then {case.again.hex()}: {hand} by hand, {said(case)} by paper01.py")
@@ -60,12 +58,12 @@ def each_again(first, answers):
 def fans():
     """A seller's tape to the other tree and on to its own, from either tape. The tape by lessee becomes the tape by asset; the tape by
     asset becomes itself again, since it has a lessee and a lease for each asset already."""
-    both = {name: (t, s) for name, t, s in folders.samples()}
-    by_lessee, by_asset = both["fans_by_lessee"], both["fans_by_asset"]
+    both = folders.by_name()
+    by_lessee, by_asset = (both[name][:2] for name in ("fans_by_lessee", "fans_by_asset"))
     there = chain(far_more(Case(*by_lessee)), by_asset[1], "1011 lines")
-    expect("the tape by lessee, reshaped", by_asset[0], lines_of(*reshaping(there)))
+    expect("the tape by lessee, reshaped", by_asset[0], lines_of(there, *reshaping(there)))
     back = chain(room(Case(*by_asset), 1011, 0, 1011), by_lessee[1], "1011 lines")
-    expect("the tape by asset, there and back", by_asset[0], lines_of(*reshaping_again(back)))
+    expect("the tape by asset, there and back", by_asset[0], lines_of(back, *reshaping_again(back)))
     return there, back
 
 
@@ -73,7 +71,7 @@ def after_p4():
     """P4, and on from there: the lessee of two leases is two rows of the new table, and no reshape makes them one again."""
     for case in (lent(leases(), 0, 0, 0), lent(leases()), far_more(leases())):
         case = chain(case, "2[3[4]]", "2[3[4 4]] 2[3[4]] 2[3]")
-        expect("P4 by lessee", P4_BY_LESSEE, folders.listing(lines_of(*reshaping(case)), case.again))
+        expect("P4 by lessee", P4_BY_LESSEE, folders.listing(lines_of(case, *reshaping(case)), case.again))
         yield case
     yield from each_again(leases(), {
         "3[2 4]": "3[2 4 4] 3[2 4] 3[2]", "3[4 2]": "3[4 4 2] 3[4 2] 3[2]", "2[4]": "2[4 4] 2[4] 2", "4[3[2]]": many("4[3[2]]", 3),
@@ -108,8 +106,8 @@ def refused_again():
 
 def most_lines():
     """1,024 lines are a source, 1,025 are none; and a second reshape to 4,096 lines and to one more."""
-    both = {name: (t, s) for name, t, s in folders.samples()}
-    full, over = Case(*both["lines_1024"]), Case(*both["lines_1025"])
+    both = folders.by_name()
+    full, over = (Case(*both[name][:2]) for name in ("lines_1024", "lines_1025"))
     own = shape((1, (1,)), (2, (1, 2)), (3, (1, 2, 1)), (4, (1, 2, 1, 2)))
     for case in (room(full, 1024, 0, 1024), far_more(full)):
         yield chain(case, own, "1024 lines")
@@ -141,7 +139,7 @@ def drawn(count=16):
         case = ordinary(rng)
         if 1 < total(case) <= paper01.MOST_ROWS:
             case = rng.choice((lent, far_more))(case)
-            rows = rows_of(lines_of(*reshaping(case)))
+            rows = rows_of(lines_of(case, *reshaping(case)))
             again = shape(*cases.shape(rng, cases.types(rows), rng.randint(2, 6), seldom=cases.scarce(rows)))
             yield case._replace(again=with_other_byte(rng, again, 16) if count % 4 == 0 else again)
             count -= 1

@@ -6,8 +6,11 @@ import functools, typing
 
 import paper01
 
-# the program's rooms: some records and places more than a reshape uses, and a summary more than there are types
-MOST_RECORDS, MOST_SUMMARIES = 4100, 65
+# the program's rooms: some records and places more than a reshape uses, a summary more than there are types, and some bytes more than a table
+MOST_RECORDS, MOST_SUMMARIES, MOST_MOVED = 4100, 65, 30000
+
+# a narrow file is widened, and a wide one narrowed
+OTHER = {6: 8, 8: 6}
 
 # what a lent summary holds before the call
 MARK = (7777,) * 6
@@ -18,38 +21,48 @@ LINES_SHOWN = 40
 
 class Case(typing.NamedTuple):
     """What a case leaves open, `filled` chooses. The room is of whole records, of bytes past them, and of places. Where there is a shape of
-    a second reshape, the case is a chain."""
+    a second reshape, the case is a chain. `moved` is the bytes lent for the table and for the shape in the other width."""
     table: bytes
     shape: bytes = b""
     row: typing.Optional[int] = None
     room: typing.Optional[typing.Tuple[int, int, int]] = None
     summaries: typing.Optional[int] = None
     again: bytes = b""
+    levels: int = 6
+    moved: typing.Optional[typing.Tuple[int, int]] = None
+
+    @property
+    def row_length(self):
+        return paper01.row_length(self.levels)
+
+    @property
+    def entry_length(self):
+        return paper01.entry_length(self.levels)
 
 
 # ---- what paper01.py says, once for each table and shape
 @functools.lru_cache(None)
-def judging(table, shape):
-    return paper01.judge(table, shape)
+def judging(table, shape, levels):
+    return paper01.judge(table, shape, levels=levels)
 
 
 @functools.lru_cache(None)
-def summary(table, shape):
-    return paper01.summarise(table, shape)
+def summary(table, shape, levels):
+    return paper01.summarise(table, shape, levels=levels)
 
 
 @functools.lru_cache(None)
-def adorning(table, lent):
-    return paper01.adorn(table, [MARK] * lent)
+def adorning(table, lent, levels):
+    return paper01.adorn(table, [MARK] * lent, levels=levels)
 
 
 def total(case):
     """The number of lines; 0 where the summary is refused."""
-    return sum(summary(case.table, case.shape)[2][0])
+    return sum(summary(case.table, case.shape, case.levels)[2][0])
 
 
 def type_count(case):
-    return adorning(case.table, MOST_SUMMARIES)[0][2]
+    return adorning(case.table, MOST_SUMMARIES, case.levels)[0][2]
 
 
 # ---- what a case leaves open
@@ -57,19 +70,28 @@ def within(low, x, high):
     return min(max(low, x), high)
 
 
+def to_move(case):
+    """The bytes that the whole records of the table and of the shape have in the other width."""
+    to = OTHER[case.levels]
+    return len(case.table) // case.row_length * paper01.row_length(to), len(case.shape) // case.entry_length * paper01.entry_length(to)
+
+
 def filled(case, at):
-    """The case with a row, a room and summaries that change from case to case: enough, just enough, and one short."""
-    row, room, summaries = case.row, case.room, case.summaries
+    """The case with a row, rooms and summaries that change from case to case: enough, just enough, and one short."""
+    row, room, summaries, moved = case.row, case.room, case.summaries, case.moved
     if row is None:
-        row = at % (len(case.table) // 24 + 2)
+        row = at % (len(case.table) // case.row_length + 2)
     if room is None:
-        n = total(case) or 4
-        records, past, places = ((1, 5, 2), (0, 0, 0), (-1, 23, 0), (0, 23, 0), (0, 0, -1), (2, 1, 30))[at % 6]
+        n, most = total(case) or 4, case.row_length - 1
+        records, past, places = ((1, 5, 2), (0, 0, 0), (-1, most, 0), (0, most, 0), (0, 0, -1), (2, 1, 30))[at % 6]
         room = within(0, n + records, MOST_RECORDS - 1), past, within(0, n + places, MOST_RECORDS)
     if summaries is None:
         n = type_count(case) or 3
         summaries = within(0, (n, n - 1, n + 1, MOST_SUMMARIES, 0, n + 2, 64)[at % 7], MOST_SUMMARIES)
-    return case._replace(row=row, room=room, summaries=summaries)
+    if moved is None:
+        more = ((0, 0), (1, 3), (-1, 0), (7, -1), (0, 20))[at % 5]
+        moved = tuple(within(0, n + k, MOST_MOVED) for n, k in zip(to_move(case), more))
+    return case._replace(row=row, room=room, summaries=summaries, moved=moved)
 
 
 # ---- how cases are written
@@ -95,11 +117,13 @@ def packed(all_cases):
     held = bytearray(65536)
     for case in all_cases:
         records, past, places = case.room
-        assert 24 * records + past <= 24 * MOST_RECORDS and places <= MOST_RECORDS and case.summaries <= MOST_SUMMARIES, "more lent than there is"
+        assert case.row_length * records + past <= case.row_length * MOST_RECORDS and places <= MOST_RECORDS, "more lent than there is"
+        assert case.summaries <= MOST_SUMMARIES and max(case.moved) <= MOST_MOVED, "more lent than there is"
         assert max(len(case.table), 2 * len(case.shape), 2 * len(case.again)) <= 32768, "more bytes than the program holds"
         made = changes(held, 0, case.table) + changes(held, 32768, case.shape) + changes(held, 49152, case.again)
         lengths = ((len(made), 2), (len(case.table), 2), (len(case.shape), 2))
-        fields = (*lengths, (case.row, 8), (records, 2), (past, 1), (case.summaries, 1), (places, 2), (len(case.again), 2))
+        fields = (*lengths, (case.row, 8), (records, 2), (past, 1), (case.summaries, 1), (places, 2), (len(case.again), 2), (case.levels, 1),
+                  *((lent, 2) for lent in case.moved))
         yield b"".join(x.to_bytes(size, "little") for x, size in fields) + b"".join(made)
 
 
@@ -112,15 +136,15 @@ def folded(total, numbers):
 
 
 @functools.lru_cache(None)
-def read(table):
+def read(table, levels):
     """The rows that the reader hands out, and the sum over all parts: at each place, two past the last row, the row there and the next."""
-    places = range(len(table) // 24 + 2)
-    parts = [paper01.hand_out(table, x) for at in places for x in (at, paper01.read_on(table, at))]
+    places = range(len(table) // paper01.row_length(levels) + 2)
+    parts = [paper01.hand_out(table, x, levels) for at in places for x in (at, paper01.read_on(table, at, levels))]
     return sum(1 for x in parts[::2] if x), functools.reduce(lambda total, x: folded(total, [len(x), *x]), parts, 1)
 
 
 def adorned(case):
-    reply, summaries = adorning(case.table, case.summaries)
+    reply, summaries = adorning(case.table, case.summaries, case.levels)
     count = reply[2]
     return [reply, *summaries[:count], *(("summary", k, *x) for k, x in enumerate(summaries) if k >= count and x != MARK)]
 
@@ -133,56 +157,75 @@ def place_before(i):
     return 1000003 + i
 
 
-def lend(records, past, places):
+def bytes_lent(count):
+    return bytes(map(byte_before, range(count)))
+
+
+def lend(levels, records, past, places):
     """The bytes and the places lent for a reshape, as they are before it."""
-    return bytes(map(byte_before, range(24 * records + past))), list(map(place_before, range(places)))
+    return bytes_lent(paper01.row_length(levels) * records + past), list(map(place_before, range(places)))
 
 
 def reshaping(case):
     """The reply, the bytes and the places that reshaping leaves."""
-    return paper01.reshape(case.table, case.shape, *lend(*case.room))
+    return paper01.reshape(case.table, case.shape, *lend(case.levels, *case.room), case.levels)
+
+
+def lines_of(case, reply, new, _sources):
+    """The lines that a reshape leaves."""
+    return new[:case.row_length * reply[2]]
 
 
 def reshaping_again(case):
     """The same of the second reshape, whose table is the lines that the first leaves; nothing where those are no source."""
-    (number, _, lines), new, _ = reshaping(case)
+    first = reshaping(case)
+    number, _, lines = first[0]
     if number == 0 and lines <= paper01.MOST_ROWS:
-        return paper01.reshape(new[:24 * lines], case.again, *lend(MOST_RECORDS, 0, MOST_RECORDS))
+        return paper01.reshape(lines_of(case, *first), case.again, *lend(case.levels, MOST_RECORDS, 0, MOST_RECORDS), case.levels)
 
 
-def reshaped(reply, new, sources):
+def reshaped(length, reply, new, sources):
     count = reply[2]
-    lines = [(new[24 * i:24 * i + 24], sources[i]) for i in range(count)]
+    lines = [(new[length * i:length * (i + 1)], sources[i]) for i in range(count)]
     if count <= LINES_SHOWN:
-        pieces = [(*(paper01.u16(b, i) for i in range(0, 24, 2)), source) for b, source in lines]
+        pieces = [(*(paper01.u16(b, i) for i in range(0, length, 2)), source) for b, source in lines]
     else:
         pieces = [("sum", folded(1, (x for b, source in lines for x in (*b, source))))]
-    pieces += [("byte", i, b) for i, b in enumerate(new) if 24 * count <= i and b != byte_before(i)]
+    pieces += [("byte", i, b) for i, b in enumerate(new) if length * count <= i and b != byte_before(i)]
     pieces += [("place", i, x) for i, x in enumerate(sources) if count <= i and x != place_before(i)]
     return [reply, *pieces]
 
 
 def chained(case):
     second = reshaping_again(case)
-    return reshaped(*second) if second else [("none",)]
+    return reshaped(case.row_length, *second) if second else [("none",)]
 
 
 def judged(case):
-    number, place, verdict, none_apart = judging(case.table, case.shape)
+    number, place, verdict, none_apart = judging(case.table, case.shape, case.levels)
     return [(number, place, *verdict, "yes" if none_apart else "no")]
 
 
 def summarised(case):
-    number, place, entries = summary(case.table, case.shape)
+    number, place, entries = summary(case.table, case.shape, case.levels)
     return [(number, place)] + [(e, *four) for e, four in enumerate(zip(*entries)) if any(four)]
+
+
+def moved(move, data, lent, levels):
+    """What widening, or narrowing, answers, and the sum over all that was lent."""
+    reply, left = move(data, bytes_lent(lent), OTHER[levels], levels)
+    return [reply, ("sum", folded(1, left))]
 
 
 def told(case):
     """The parts of a case's line, each a list of pieces."""
-    number, place, part = paper01.look_up(case.table, case.row)
+    number, place, part = paper01.look_up(case.table, case.row, case.levels)
     parts = {
-        "examining": [paper01.examine(case.table)], "reading": [read(case.table)], "look-up": [(number, place, part.hex())],
-        "adorning": adorned(case), "judging": judged(case), "reshaping": reshaped(*reshaping(case)), "summarising": summarised(case)}
+        "examining": [paper01.examine(case.table, levels=case.levels)], "reading": [read(case.table, case.levels)],
+        "look-up": [(number, place, part.hex())], "adorning": adorned(case), "judging": judged(case),
+        "reshaping": reshaped(case.row_length, *reshaping(case)), "summarising": summarised(case),
+        "moving a table": moved(paper01.move_table, case.table, case.moved[0], case.levels),
+        "moving a shape": moved(paper01.move_shape, case.shape, case.moved[1], case.levels)}
     return {**parts, "again": chained(case)} if case.again else parts
 
 

@@ -13,15 +13,15 @@ FAR = 65535
 
 
 # ---- tables
-def table(rows, values=None):
+def table(rows, values=None, levels=6):
     """Rows given as (Dewey number, label). Each value has eight bytes of its own, or the values come in turn."""
     own = (bytes((37 * i + 11 * k + 200) % 256 for k in range(8)) for i in itertools.count())
     given = (v.to_bytes(8, "little", signed=True) for v in itertools.cycle(values or [0]))
-    return b"".join(cases.row_bytes(d, l, v) for (d, l), v in zip(rows, given if values else own))
+    return b"".join(cases.row_bytes(d, l, v, levels) for (d, l), v in zip(rows, given if values else own))
 
 
-def nested_table(text):
-    return table(brackets.nested(text))
+def nested_table(text, levels=6):
+    return table(brackets.nested(text), levels=levels)
 
 
 def many(label, count):
@@ -32,10 +32,10 @@ def many(label, count):
 def said(case):
     """What judging says in the words of document 01's program, its second answer, and the lines of each entry, or the summary's refusal.
     Where it is not refused, the other figures too."""
-    number, place, verdict, none_apart = judging(case.table, case.shape)
+    number, place, verdict, none_apart = judging(case.table, case.shape, case.levels)
     judged = f"refused {number} {place}" if number else " ".join(map(str, ("verdict", *verdict)))
-    number, place, figures = summary(case.table, case.shape)
-    lines, *others = (" ".join(map(str, x[:len(case.shape) // 16])) for x in figures)
+    number, place, figures = summary(case.table, case.shape, case.levels)
+    lines, *others = (" ".join(map(str, x[:len(case.shape) // case.entry_length])) for x in figures)
     shown = [f"refused {number} {place}"] if number else [lines, *map(" ".join, zip(("rows", "copies", "different"), others))]
     return judged, "yes" if none_apart else "no", *shown
 
@@ -47,16 +47,16 @@ def by_hand(case, hand):
     return case
 
 
-def bracketed(table_text, shape_text, hand=None, values=None):
+def bracketed(table_text, shape_text, hand=None, values=None, levels=6):
     """A case from a table and a shape in brackets."""
     rows = brackets.nested(table_text)
-    case = Case(table(rows, values), brackets.wanted(shape_text, rows))
+    case = Case(table(rows, values, levels), brackets.wanted(shape_text, rows, levels), levels=levels)
     return by_hand(case, hand) if hand else case
 
 
-def each_shape(table_text, answers, values=None):
+def each_shape(table_text, answers, values=None, levels=6):
     """One table with several shapes, and the answers of each."""
-    return [bracketed(table_text, shape_text, hand, values) for shape_text, hand in answers.items()]
+    return [bracketed(table_text, shape_text, hand, values, levels) for shape_text, hand in answers.items()]
 
 
 def each_table(shape_text, answers):

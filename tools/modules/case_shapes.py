@@ -1,52 +1,55 @@
-"""Cases about shapes: document 01's rules for entries and their limits, types that no row has, and the order of all refusals."""
+"""Cases about shapes: document 01's rules for entries and their limits, types that no row has, and the order of all refusals. Those that a
+width changes are of six levels or of as many as are said."""
 import itertools
 
-from brackets import A, CHAIN, children, nested, shape, wanted, with_byte
+import paper01
+from brackets import A, children, nested, shape, wanted, with_byte
 from case_form import Case
 from case_parts import nested_table, room, table
 from case_tables import SMALL
 
 GOOD_TABLE = nested_table(A)
 GOOD_SHAPE = wanted("3[2 4]", nested(A))
-TWO_ROOTS = nested_table("1 1")
 
 
-def shape_lengths():
+def shape_lengths(levels=6):
     """Lengths of 0 to 17 entries and between; 257 entries are one where entries are counted in a byte."""
-    endless = shape((1, (1,)), *[(2, (1,))] * 256)
-    for length in (0, 1, 15, 16, 17, 24, 31, 32, 33, 240, 255, 256, 257, 264, 271, 272, 273, 512, 4112):
-        yield Case(TWO_ROOTS, endless[:length])
+    endless, e = shape((1, (1,)), *[(2, (1,))] * 256, levels=levels), paper01.entry_length(levels)
+    around = (0, 1, e - 1, e, e + 1, e + 8, 2 * e - 1, 2 * e, 2 * e + 1, 15 * e, 16 * e - 1, 16 * e, 16 * e + 1, 16 * e + 8)
+    for length in (*around, 17 * e - 1, 17 * e, 17 * e + 1, 32 * e, 257 * e):
+        yield Case(nested_table("1 1", levels), endless[:length], levels=levels)
 
 
-def at_either(entry):
+def at_either(entry, levels):
     """A shape's bytes of one entry and of two, with this one last."""
-    return entry, shape((1, (1,))) + with_byte(entry, 0, 2)
+    return entry, shape((1, (1,)), levels=levels) + with_byte(entry, 0, 2)
 
 
-def shape_fields():
+def shape_fields(levels=6):
     """Sizes and labels at their limits and past them, in the first entry and in a later one."""
-    chain = nested_table(CHAIN)
-    down = (1, 2, 3, 4, 5, 6, 7)
-    for size in range(8):
-        for s in at_either(shape((1, down[:size]))):
-            yield Case(chain, s)
+    down = tuple(range(1, levels + 2))
+    chain = table([(d, l) for d, l in zip(((1,) * k for k in down), down[:-1])], levels=levels)
+    for size in range(levels + 2):
+        for s in at_either(shape((1, down[:size]), levels=levels), levels):
+            yield Case(chain, s, levels=levels)
     # the size of another type, with the labels as they are
-    for size, said in itertools.product((1, 6), (0, 1, 2, 5, 6, 7, 255)):
-        yield Case(chain, with_byte(shape((1, down[:size])), 1, said))
-    for place, label in itertools.product((0, 5), (0, 1, 999, 1000, 65535)):
-        for s in at_either(shape((1, down[:place] + (label,) + down[place + 1:6]))):
-            yield Case(chain, s)
+    for size, said in itertools.product((1, levels), (0, 1, 2, levels - 1, levels, levels + 1, 255)):
+        yield Case(chain, with_byte(shape((1, down[:size]), levels=levels), 1, said), levels=levels)
+    for place, label in itertools.product((0, levels - 1), (0, 1, 999, 1000, 65535)):
+        for s in at_either(shape((1, down[:place] + (label,) + down[place + 1:levels]), levels=levels), levels):
+            yield Case(chain, s, levels=levels)
     for label in (0, 1, 255, 256, 999, 1000, 65535):
-        yield Case(nested_table("1 255 256 999"), shape((1, (label,))))
+        yield Case(nested_table("1 255 256 999", levels), shape((1, (label,)), levels=levels), levels=levels)
 
 
-def shape_levels():
-    """After levels 1 to k, and after a step up: every level up to 7; and one far off."""
-    for before in [*(list(range(1, k + 1)) for k in range(7)), [1, 2, 3, 4, 2]]:
-        for level in range(8):
-            yield Case(TWO_ROOTS, shape(*((l, (1,)) for l in before + [level])))
-    yield Case(TWO_ROOTS, shape((255, (1,))))
-    yield Case(TWO_ROOTS, shape((1, (1,)), (255, (1,)), (0, (1,))))
+def shape_levels(levels=6):
+    """After levels 1 to k, and after a step up: every level up to one past the last; and one far off."""
+    two_roots = nested_table("1 1", levels)
+    for before in [*(list(range(1, k + 1)) for k in range(levels + 1)), [1, 2, 3, 4, 2]]:
+        for level in range(levels + 2):
+            yield Case(two_roots, shape(*((l, (1,)) for l in before + [level]), levels=levels), levels=levels)
+    yield Case(two_roots, shape((255, (1,)), levels=levels), levels=levels)
+    yield Case(two_roots, shape((1, (1,)), (255, (1,)), (0, (1,)), levels=levels), levels=levels)
 
 
 def changed_shapes():
@@ -123,4 +126,6 @@ def raised_bytes():
 
 
 LIMITS = (shape_lengths, shape_fields, shape_levels)
+# those that are made of wide shapes too
+OF_EITHER_WIDTH = LIMITS
 OTHERS = (changed_shapes, cut_shapes, types_named, order_with_shapes, refusals, raised_bytes)

@@ -1,59 +1,67 @@
-"""Cases about tables: document 01's row rules and their limits, look-up, the number of types and their summaries."""
+"""Cases about tables: document 01's row rules and their limits, look-up, the number of types and their summaries. Those that a width changes
+are of six levels or of as many as are said."""
 import itertools
 
-import cases
+import cases, paper01
 from brackets import A, children, shape, with_byte
 from case_form import Case
 from case_parts import FAR, bracketed, nested_table, table
 
-SMALL = table([((1,), 1), ((1, 1), 258), ((1, 1, 1), 3), ((2,), 999)])
+SMALL_ROWS = (((1,), 1), ((1, 1), 258), ((1, 1, 1), 3), ((2,), 999))
+SMALL = table(SMALL_ROWS)
 SMALL_SHAPE = shape((1, (1, 258)), (2, (1,)), (2, (1, 258, 3)))
 
 
-def trees(n, names=999):
+def trees(n, names=999, levels=6):
     """A sound table of n rows, each a tree with one child, so both ways to follow are taken; the labels come round after `names`."""
-    return table([((i // 2 + 1,) + (1,) * (i % 2), i % names + 1) for i in range(n)])
+    return table([((i // 2 + 1,) + (1,) * (i % 2), i % names + 1) for i in range(n)], levels=levels)
 
 
-def look_ups():
-    """Rows at both ends of a table and past them, and rows whose place in bytes passes 64 bits: 24 × 2^61 is three times 2^64."""
-    past_64_bits = (2**32, 2**61, 2**61 + 1, 2**63, 2**64 // 24, 2**64 // 24 + 1, 2**64 - 1)
+def look_ups(levels=6):
+    """Rows at both ends of a table and past them, and rows whose place in bytes passes 64 bits: 24 × 2^61 is three times 2^64, and 28 × 2^62
+    seven times."""
+    small, row_length = table(SMALL_ROWS, levels=levels), paper01.row_length(levels)
+    past_64_bits = (2**32, 2**61, 2**61 + 1, 2**63, 2**64 // row_length, 2**64 // row_length + 1, 2**64 - 1)
     for row in (0, 1, FAR, *past_64_bits):
-        yield Case(b"", row=row)
+        yield Case(b"", row=row, levels=levels)
     for row in (0, 1, 3, 4, 5, 255, 256, FAR, *past_64_bits):
-        yield Case(SMALL, row=row)
+        yield Case(small, row=row, levels=levels)
     for row in (0, 3, FAR, *past_64_bits):
-        yield Case(with_byte(SMALL, 48, 0), row=row)
-        yield Case(SMALL[:-1], row=row)
+        yield Case(with_byte(small, 2 * row_length, 0), row=row, levels=levels)
+        yield Case(small[:-1], row=row, levels=levels)
 
 
-def most_rows():
-    full = trees(1024)
+def most_rows(levels=6):
+    full = trees(1024, levels=levels)
     for row in (0, 1023, 1024, 2**61):
-        yield Case(full, row=row)
-    yield Case(with_byte(full, 24 * 1023 + 1, 1), row=0)
-    yield Case(trees(1025), row=1024)
-    yield Case(full + b"\0", row=0)
-    yield Case(full[:-1], row=0)
-    yield Case(with_byte(full + b"\0", 0, 0), row=0)
-    yield Case(trees(1024, 64), shape((1, (63,)), (2, (63, 64))), row=1024)
+        yield Case(full, row=row, levels=levels)
+    yield Case(with_byte(full, paper01.row_length(levels) * 1023 + 1, 1), row=0, levels=levels)
+    yield Case(trees(1025, levels=levels), row=1024, levels=levels)
+    yield Case(full + b"\0", row=0, levels=levels)
+    yield Case(full[:-1], row=0, levels=levels)
+    yield Case(with_byte(full + b"\0", 0, 0), row=0, levels=levels)
+    yield Case(trees(1024, 64, levels), shape((1, (63,)), (2, (63, 64)), levels=levels), row=1024, levels=levels)
 
 
-def levels():
-    chain = [((1,) * k, k) for k in range(1, 7)]
-    seventh = with_byte(cases.row_bytes((1,) * 6, 7, bytes(8)), 0, 7)
-    deepest = shape((1, (1, 2, 3, 4, 5, 6)))
-    for row in (0, 5, 6):
-        yield Case(table(chain), deepest, row)
-        yield Case(table(chain) + seventh, deepest, row)
-    yield Case(with_byte(table(chain[:1]), 0, 7), row=0)
-    yield Case(with_byte(table(chain[:1]), 0, 0), row=0)
+def depths(levels=6):
+    """A chain of rows down to the last level, and past it."""
+    down = tuple(range(1, levels + 1))
+    chain = [((1,) * k, k) for k in down]
+    past = with_byte(cases.row_bytes((1,) * levels, 7, bytes(8), levels), 0, levels + 1)
+    deepest = shape((1, down), levels=levels)
+    first = table(chain[:1], levels=levels)
+    chain = table(chain, levels=levels)
+    for row in (0, levels - 1, levels):
+        yield Case(chain, deepest, row, levels=levels)
+        yield Case(chain + past, deepest, row, levels=levels)
+    yield Case(with_byte(first, 0, levels + 1), row=0, levels=levels)
+    yield Case(with_byte(first, 0, 0), row=0, levels=levels)
 
 
-def labels():
+def labels(levels=6):
     for label in (0, 1, 255, 256, 999, 1000, 65535):
-        yield Case(table([((1,), label)]), shape((1, (label,))), 0)
-        yield Case(table([((1,), 1), ((1, 1), label)]), shape((1, (1, label)), (2, (1,))), 1)
+        yield Case(table([((1,), label)], levels=levels), shape((1, (label,)), levels=levels), 0, levels=levels)
+        yield Case(table([((1,), 1), ((1, 1), label)], levels=levels), shape((1, (1, label)), (2, (1,)), levels=levels), 1, levels=levels)
 
 
 def most_types():
@@ -85,12 +93,12 @@ def following():
             yield Case(table([(d, 1) for d in before + (dewey,)]), shape((1, (1, 1)), (2, (1, 1, 1)), (2, (1,))), 4)
 
 
-def cuts():
+def cuts(levels=6):
     """Every length of a table of three rows."""
-    whole = table([((1,), 1), ((1, 1), 2), ((1, 2), 3)])
+    whole = table([((1,), 1), ((1, 1), 2), ((1, 2), 3)], levels=levels)
     for length in range(len(whole) + 1):
-        yield Case(whole[:length], shape((1, (1,)), (2, (1, 2))), 0)
-        yield Case(whole[:length], row=1)
+        yield Case(whole[:length], shape((1, (1,)), (2, (1, 2)), levels=levels), 0, levels=levels)
+        yield Case(whole[:length], row=1, levels=levels)
 
 
 def changed_bytes():
@@ -116,5 +124,7 @@ def counts():
     yield Case(nested_table("1[1[1 2 1] 1 2[1]] 1[2]"), shape((1, (1, 1)), (2, (1, 1, 1)), (2, (1, 2))))
 
 
-LIMITS = (most_rows, levels, labels, most_types)
+LIMITS = (most_rows, depths, labels, most_types)
+# those that are made of wide tables too
+OF_EITHER_WIDTH = (most_rows, depths, labels, look_ups, cuts)
 OTHERS = (look_ups, order_of_refusals, following, cuts, changed_bytes, summaries_lent, counts)

@@ -1,4 +1,7 @@
-"""What the program reports of an answer for ./intake --explain, and what the command says, read from docs/HELP.md: a second reading."""
+"""What the program reports of an answer for ./intake --explain, and what the command says, read from docs/HELP.md: a second reading.
+
+`levels` is 6 for narrow files and 8 for wide ones.
+"""
 import pathlib, re, struct
 
 import paper01, samples, table_text
@@ -6,15 +9,19 @@ import paper01, samples, table_text
 PAGE = pathlib.Path(__file__).resolve().parents[2] / "docs" / "HELP.md"
 
 
-def fields_of_row(table, at):
-    """Level, zero byte, label, the six components, value."""
-    level, zero, label, *components, value = struct.unpack_from("<BBH6Hq", table, table_text.ROW * at)
+def unpacked(form, held, at):
+    return struct.unpack_from(form, held, struct.calcsize(form) * at)
+
+
+def fields_of_row(table, at, levels):
+    """Level, zero byte, label, a component for each level, value."""
+    level, zero, label, *components, value = unpacked(f"<BBH{levels}Hq", table, at)
     return level, zero, label, components, value
 
 
-def fields_of_entry(shape, at):
-    """Level, length of the type, zero bytes, the six labels."""
-    level, size, zero, *labels = struct.unpack_from("<BBH6H", shape, table_text.ENTRY * at)
+def fields_of_entry(shape, at, levels):
+    """Level, length of the type, zero bytes, a label for each level."""
+    level, size, zero, *labels = unpacked(f"<BBH{levels}H", shape, at)
     return level, size, zero, labels
 
 
@@ -22,28 +29,28 @@ def names(labels):
     return " ".join(map(table_text.name, labels))
 
 
-def row(table, _shape, at):
+def row(table, _shape, at, levels):
     """A sound row: the labels from the root down are those of the rows whose Dewey numbers begin its own."""
-    fields = [fields_of_row(table, i) for i in range(at + 1)]
+    fields = [fields_of_row(table, i, levels) for i in range(at + 1)]
     deweys = [components[:level] for level, _, _, components, _ in fields]
     own = deweys[at]
     labels = [fields[deweys.index(own[:n])][2] for n in range(1, len(own) + 1)]
     return [f"row {at}: {table_text.dotted(own)}, {names(labels)}, value {fields[at][4]}"]
 
 
-def broken_row(table, shape, at):
-    level, zero, label, components, value = fields_of_row(table, at)
+def broken_row(table, shape, at, levels):
+    level, zero, label, components, value = fields_of_row(table, at, levels)
     own = f"row {at}: level {level}, zero byte {zero}, label {label}, number {table_text.dotted(components)}, value {value}"
-    return (row(table, shape, at - 1) if at else []) + [own]
+    return (row(table, shape, at - 1, levels) if at else []) + [own]
 
 
-def entry(_table, shape, at):
-    _, size, _, labels = fields_of_entry(shape, at)
+def entry(_table, shape, at, levels):
+    _, size, _, labels = fields_of_entry(shape, at, levels)
     return [f"entry {at}: {names(labels[:size])}"]
 
 
-def broken_entry(_table, shape, at):
-    level, size, zero, labels = fields_of_entry(shape, at)
+def broken_entry(_table, shape, at, levels):
+    level, size, zero, labels = fields_of_entry(shape, at, levels)
     return [f"entry {at}: level {level}, length of its type {size}, zero bytes {zero}, labels {table_text.dotted(labels)}"]
 
 
@@ -54,24 +61,24 @@ NAMED = {
 }
 
 
-def facts(table, shape, answer):
+def facts(table, shape, answer, levels):
     """What an answer names, a line each."""
     kind, places = " ".join(answer.split(" ")[:2]), answer.split(" ")[2:]
-    return [line for tell, place in zip(NAMED.get(kind, ()), places) for line in tell(table, shape, int(place))]
+    return [line for tell, place in zip(NAMED.get(kind, ()), places) for line in tell(table, shape, int(place), levels)]
 
 
-def second(table, shape, answer):
+def second(table, shape, answer, levels):
     """The second answer in the program's words, in a list; none beside a refusal."""
     if answer.startswith("refused"):
         return []
-    *_, none_apart = paper01.judge(table, shape)
+    *_, none_apart = paper01.judge(table, shape, levels=levels)
     return ["none apart" if none_apart else "some apart"]
 
 
-def reported(table, shape):
+def reported(table, shape, levels=6):
     """The answer, what it names, and the second answer, a line each."""
-    answer = samples.listing(table, shape).split("\n")[0]
-    return [answer, *facts(table, shape, answer), *second(table, shape, answer)]
+    answer = samples.listing(table, shape, levels=levels).split("\n")[0]
+    return [answer, *facts(table, shape, answer, levels), *second(table, shape, answer, levels)]
 
 
 def helped(answer):
@@ -91,10 +98,10 @@ def tried_seconds():
     return re.findall(r"(?m)^\| (\w+) \| (\S.*?) \| `(verdict .*?)` \| `((?:none|some) apart)` \|", PAGE.read_text())
 
 
-def explained(table, shape):
+def explained(table, shape, levels=6):
     """What ./intake --explain says on standard error."""
-    answer = reported(table, shape)[0]
-    found = [helped(each) for each in (answer, *second(table, shape, answer))]
-    lines = [answer, f"What it means: {found[0][0]}", *(f"  {fact}" for fact in facts(table, shape, answer))]
+    answer = reported(table, shape, levels)[0]
+    found = [helped(each) for each in (answer, *second(table, shape, answer, levels))]
+    lines = [answer, f"What it means: {found[0][0]}", *(f"  {fact}" for fact in facts(table, shape, answer, levels))]
     lines += [f"Second answer: {means}" for means, _ in found[1:]]
     return "\n".join([*lines, f"What to do next: {' '.join(then for _, then in found)}"]) + "\n"

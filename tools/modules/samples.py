@@ -4,8 +4,8 @@ import pathlib
 import paper01, table_text
 
 FOLDER = pathlib.Path(__file__).resolve().parents[2] / "samples"
-# what the program reads of each file at most, and its room for lines
-MOST_TABLE, MOST_SHAPE, ROOM = 24577, 257, 1024
+# the program's room for lines
+ROOM = 1024
 # the words of a summary's figures, for one and for several
 FIGURES = ("line", "lines"), ("row", "rows"), ("copy", "copies"), ("different row", "different rows")
 
@@ -14,19 +14,36 @@ def folders():
     return sorted(path.parent for path in FOLDER.glob("*/listing"))
 
 
+def read(folder):
+    """The table, the shape and the levels that the program reads: the wide files where there is a wide table, and none of the others then."""
+    mark, levels = ("8", table_text.WIDE) if (folder / "source8.tab").exists() else ("", table_text.NARROW)
+    files = (folder / f"{name}{mark}.tab" for name in ("source", "shape"))
+    return *(file.read_bytes() if file.exists() else b"" for file in files), levels
+
+
 def samples():
-    """(name, table, shape) of each folder."""
+    """(name, table, shape, levels) of each folder."""
     for folder in folders():
-        yield folder.name, (folder / "source.tab").read_bytes(), (folder / "shape.tab").read_bytes()
+        yield folder.name, *read(folder)
 
 
-def listing(table, shape):
+def by_name():
+    """The table, the shape and the levels of each folder, by its name."""
+    return {name: sample for name, *sample in samples()}
+
+
+def cut(table, shape, levels):
+    """As much of each file as the program reads: a byte more than it may have."""
+    return table[:table_text.a_table(levels).size + 1], shape[:table_text.a_shape(levels).size + 1]
+
+
+def listing(table, shape, levels=table_text.NARROW):
     """What the program prints."""
-    table, shape = table[:MOST_TABLE], shape[:MOST_SHAPE]
-    (number, place, _), _, _ = paper01.reshape(table, shape, bytes(table_text.ROW * ROOM), [0] * ROOM)
+    table, shape = cut(table, shape, levels)
+    (number, place, _), _, _ = paper01.reshape(table, shape, bytes(paper01.row_length(levels) * ROOM), [0] * ROOM, levels)
     if number:
         return f"refused {number} {place}\n"
-    work = paper01.Work(table, shape)
+    work = paper01.Work(table, shape, levels)
     lines = [" ".join(map(str, ("verdict", *work.verdict())))]
     for entry, row, dewey in work.lines(ROOM):
         value = int.from_bytes(work.rows[row].value, "little", signed=True)
@@ -38,22 +55,22 @@ def counted(number, one, several):
     return f"{number} {one if number == 1 else several}"
 
 
-def summary(table, shape):
+def summary(table, shape, levels=table_text.NARROW):
     """A line for each entry, indented by its level: its number and label, lines, source rows, copies and different rows."""
-    number, place, figures = paper01.summarise(table, shape)
+    number, place, figures = paper01.summarise(table, shape, levels=levels)
     if number:
         return f"refused {number} {place}\n"
     text = ""
-    for at, (entry, *four) in enumerate(zip(paper01.read_shape(shape), *figures)):
+    for at, (entry, *four) in enumerate(zip(paper01.read_shape(shape, levels), *figures)):
         said = (counted(figure, *words) for figure, words in zip(four, FIGURES))
         text += f"{'  ' * (entry.level - 1)}{at} {table_text.name(entry.type[-1])}: {', '.join(said)}\n"
     return text
 
 
-def types(table):
+def types(table, levels=table_text.NARROW):
     """A line for each type, indented by its level and with the types beneath it behind: its label and rows, and how many of them a row of
     the type above has at least and at most."""
-    (number, place, count), found = paper01.adorn(table, [None] * paper01.MOST_TYPES)
+    (number, place, count), found = paper01.adorn(table, [None] * paper01.MOST_TYPES, levels=levels)
     if number:
         return f"refused {number} {place}\n"
 

@@ -2,17 +2,17 @@
 
 A row is a label and a value (0 where none is said), `lease 200`. An entry is a type, `/portfolio/lessee/lease`. A level is two spaces
 or one tab; what follows a # is passed over, and so is a line that says nothing. Dewey numbers come from the position. Records are
-written by cases.py; limits are those of paper01.py.
+written by cases.py; limits are those of paper01.py. A file is narrow, with six levels, or wide, with eight: `levels` says which.
 """
 import re, sys, typing
 
 import cases, paper01
-from paper01 import MOST_ENTRIES, MOST_LINES, MOST_ROWS, u16
+from paper01 import MOST_ENTRIES, MOST_LINES, MOST_ROWS, entry_length, row_length, u16
 
 NAMES = ("portfolio lessee lease asset payment meter guarantor invoice site insurance deposit vendor schedule residual tax service "
          "reading contact currency document").split()
-LEVELS, LABELS = 6, 999
-ROW, ENTRY, PLACE = 24, 16, 4
+NARROW, WIDE = 6, 8
+LABELS, PLACE = 999, 4
 LEAST_VALUE, GREATEST_VALUE = -2**63, 2**63 - 1
 
 
@@ -22,9 +22,18 @@ class Most(typing.NamedTuple):
     why: str
 
 
-A_TABLE = Most(ROW * MOST_ROWS, f"a table has at most {MOST_ROWS:,} rows (a new one, with its source list, {MOST_LINES:,})")
-A_SHAPE = Most(ENTRY * MOST_ENTRIES, f"a shape has at most {MOST_ENTRIES} entries")
-A_NEW_TABLE = Most(ROW * MOST_LINES, f"a new table has at most {MOST_LINES:,} lines")
+def a_table(levels):
+    return Most(row_length(levels) * MOST_ROWS, f"a table has at most {MOST_ROWS:,} rows (a new one, with its source list, {MOST_LINES:,})")
+
+
+def a_shape(levels):
+    return Most(entry_length(levels) * MOST_ENTRIES, f"a shape has at most {MOST_ENTRIES} entries")
+
+
+def a_new_table(levels):
+    return Most(row_length(levels) * MOST_LINES, f"a new table has at most {MOST_LINES:,} lines")
+
+
 A_SOURCE_LIST = Most(PLACE * MOST_LINES, f"a source list has at most {MOST_LINES:,} places")
 A_TEXT = Most(2**20, "no more is read of a text")
 
@@ -75,11 +84,11 @@ def read_value(line, word):
     return number
 
 
-def read_type(line, word, kinds):
+def read_type(line, word, kinds, levels):
     """A type from its labels: all of them where there is a slash or no table, and otherwise the last."""
     labels = tuple(read_label(line, part) for part in word[word.startswith("/"):].split("/"))
-    if len(labels) > LEVELS:
-        raise Wrong(line, f"{word} has {len(labels)} labels: a type has at most {LEVELS}")
+    if len(labels) > levels:
+        raise Wrong(line, f"{word} has {len(labels)} labels: a type has at most {levels}{or_wide(levels)}")
     if "/" in word or kinds is None:
         return labels
     ending = [k for k in kinds if k[-1] == labels[0]]
@@ -91,6 +100,11 @@ def read_type(line, word, kinds):
 
 
 # ---- from text
+def or_wide(levels):
+    """What is said beside a limit of narrow files that wide ones do not have."""
+    return f", and {WIDE} in a wide file" if levels == NARROW else ""
+
+
 def read_level(line, said):
     indent = said[:len(said) - len(said.lstrip())]
     if not re.fullmatch("(\t|  )*", indent):
@@ -98,7 +112,7 @@ def read_level(line, said):
     return len(indent.replace("  ", "\t")) + 1
 
 
-def items(text):
+def items(text, levels):
     """The line number, level and words of each line that says something."""
     before = 0
     for line, words in enumerate(text.split("\n"), 1):
@@ -108,38 +122,38 @@ def items(text):
         level = read_level(line, said)
         if level > before + 1:
             raise Wrong(line, f"the indent is too deep: level {level}, where {before + 1} is the deepest that can follow")
-        if level > LEVELS:
-            raise Wrong(line, f"more than {LEVELS} levels")
+        if level > levels:
+            raise Wrong(line, f"more than {levels} levels{or_wide(levels)}")
         yield line, level, said.split()
         before = level
 
 
-def table_from(text):
+def table_from(text, levels=NARROW):
     """The bytes of a table."""
     rows, dewey = [], ()
-    for line, level, words in items(text):
+    for line, level, words in items(text, levels):
         if len(rows) == MOST_ROWS:
             raise Wrong(line, f"more than {MOST_ROWS:,} rows")
         if len(words) > 2:
             raise Wrong(line, f'a row is a label and a value, and "{words[2]}" is neither')
         label, value = read_label(line, words[0]), read_value(line, (words + ["0"])[1])
         dewey = dewey[:level - 1] + ((dewey + (0,) * level)[level - 1] + 1,)
-        rows.append(cases.row_bytes(dewey, label, value.to_bytes(8, "little", signed=True)))
+        rows.append(cases.row_bytes(dewey, label, value.to_bytes(8, "little", signed=True), levels))
     return b"".join(rows)
 
 
-def shape_from(text, kinds=None, plain=lambda line, label: None):
+def shape_from(text, kinds=None, plain=lambda line, label: None, levels=NARROW):
     """The bytes of a shape. Where the types of a table are given, a type may be named by its last label alone; otherwise `plain` is told
     of each label without a slash, which is then a type of one label."""
     entries = []
-    for line, level, words in items(text):
+    for line, level, words in items(text, levels):
         if len(entries) == MOST_ENTRIES:
             raise Wrong(line, f"more than {MOST_ENTRIES} entries")
         if entries and level == 1:
             raise Wrong(line, "a shape is one tree: every entry but the first is indented")
         if len(words) > 1:
             raise Wrong(line, f'an entry is a type, and "{words[1]}" is one word too many')
-        entries.append(cases.entry_bytes(level, read_type(line, words[0], kinds)))
+        entries.append(cases.entry_bytes(level, read_type(line, words[0], kinds, levels), levels))
         if kinds is None and "/" not in words[0]:
             plain(line, words[0])
     if not entries:
@@ -148,8 +162,8 @@ def shape_from(text, kinds=None, plain=lambda line, label: None):
 
 
 # ---- from bytes: what is sound, then what is wrong with the rest, or None
-def components(record):
-    return tuple(u16(record, 4 + 2 * k) for k in range(LEVELS))
+def components(record, levels):
+    return tuple(u16(record, 4 + 2 * k) for k in range(levels))
 
 
 def dotted(dewey):
@@ -160,11 +174,11 @@ def follows(dewey, before):
     return dewey == before + (1,) or any(dewey == before[:k] + (before[k] + 1,) for k in range(len(before)))
 
 
-def row_fault(record, before):
+def row_fault(record, before, levels):
     """The row rule that a record breaks after a row of the Dewey number `before`, () for none."""
-    level, label, numbers = record[0], u16(record, 2), components(record)
-    if not 1 <= level <= LEVELS:
-        return f"its level is {level}, and levels are 1 to {LEVELS}"
+    level, label, numbers = record[0], u16(record, 2), components(record, levels)
+    if not 1 <= level <= levels:
+        return f"its level is {level}, and levels are 1 to {levels}"
     if record[1]:
         return f"its byte 1 is {record[1]}, and must be zero"
     if not 1 <= label <= LABELS:
@@ -177,13 +191,13 @@ def row_fault(record, before):
     return None
 
 
-def entry_fault(record, before):
+def entry_fault(record, before, levels):
     """The rule that a shape's record breaks after an entry of the level `before`, 0 for none."""
-    level, size, names = record[0], record[1], components(record)
-    if not 1 <= level <= LEVELS:
-        return f"its level is {level}, and levels are 1 to {LEVELS}"
-    if not 1 <= size <= LEVELS:
-        return f"its type has the length {size}, and lengths are 1 to {LEVELS}"
+    level, size, names = record[0], record[1], components(record, levels)
+    if not 1 <= level <= levels:
+        return f"its level is {level}, and levels are 1 to {levels}"
+    if not 1 <= size <= levels:
+        return f"its type has the length {size}, and lengths are 1 to {levels}"
     if u16(record, 2):
         return "its bytes 2 and 3 must be zero"
     if not all(1 <= label <= LABELS for label in names[:size]):
@@ -207,35 +221,35 @@ def cut_off(data, width, what):
     return f"the last {len(data) % width} bytes are no whole {what} of {width} bytes" if len(data) % width else None
 
 
-def rows_of(data):
+def rows_of(data, levels):
     """(Dewey number, label, value) of each row before the first that breaks a rule."""
-    rows, before = [], ()
-    for i in range(len(data) // ROW):
-        record = data[ROW * i:ROW * (i + 1)]
-        fault = row_fault(record, before)
+    rows, before, length = [], (), row_length(levels)
+    for i in range(len(data) // length):
+        record = data[length * i:length * (i + 1)]
+        fault = row_fault(record, before, levels)
         if fault:
             return rows, f"row {i} breaks a rule: {fault}"
-        before = components(record)[:record[0]]
-        rows.append((before, u16(record, 2), int.from_bytes(record[16:], "little", signed=True)))
-    return rows, cut_off(data, ROW, "row")
+        before = components(record, levels)[:record[0]]
+        rows.append((before, u16(record, 2), int.from_bytes(record[-8:], "little", signed=True)))
+    return rows, cut_off(data, length, "row")
 
 
-def entries_of(data):
+def entries_of(data, levels):
     """(level, type) of each entry before the first that breaks a rule."""
-    entries, before = [], 0
-    for i in range(len(data) // ENTRY):
-        record = data[ENTRY * i:ENTRY * (i + 1)]
-        fault = entry_fault(record, before)
+    entries, before, length = [], 0, entry_length(levels)
+    for i in range(len(data) // length):
+        record = data[length * i:length * (i + 1)]
+        fault = entry_fault(record, before, levels)
         if fault:
             return entries, f"entry {i} breaks a rule: {fault}"
         before = record[0]
-        entries.append((before, components(record)[:record[1]]))
-    return entries, cut_off(data, ENTRY, "entry")
+        entries.append((before, components(record, levels)[:record[1]]))
+    return entries, cut_off(data, length, "entry")
 
 
-def kinds_of(data):
+def kinds_of(data, levels=NARROW):
     """The types of a table, for naming them in a shape."""
-    return cases.types([(dewey, label) for dewey, label, _ in rows_of(data)[0]])
+    return cases.types([(dewey, label) for dewey, label, _ in rows_of(data, levels)[0]])
 
 
 # ---- to text
@@ -243,10 +257,10 @@ def item(level, said, remarks):
     return "  " * (level - 1) + said + ("  # " + ", ".join(remarks) if remarks else "") + "\n"
 
 
-def show_table(data, numbers=False, sources=None):
+def show_table(data, numbers=False, sources=None, levels=NARROW):
     """A table as text, and what is wrong with it. With a source list it is a new table, and each line says its entry and source row."""
-    most = A_TABLE if sources is None else A_NEW_TABLE
-    rows, fault = rows_of(data[:most.size])
+    most = a_table(levels) if sources is None else a_new_table(levels)
+    rows, fault = rows_of(data[:most.size], levels)
     marks = [int.from_bytes(sources[PLACE * i:PLACE * (i + 1)], "little") for i in range(len(sources) // PLACE)] if sources else []
     lines = []
     for i, (dewey, label, value) in enumerate(rows):
@@ -258,13 +272,27 @@ def show_table(data, numbers=False, sources=None):
     return "".join(lines), too_long(data, most) or fault
 
 
-def show_shape(data, numbers=False):
+def show_shape(data, numbers=False, levels=NARROW):
     """A shape as text, and what is wrong with it."""
-    entries, fault = entries_of(data[:A_SHAPE.size])
+    most = a_shape(levels)
+    entries, fault = entries_of(data[:most.size], levels)
     if not data:
         fault = f"no entry: a shape has 1 to {MOST_ENTRIES}"
     lines = [item(level, path(kind), [f"entry {i}"] if numbers else []) for i, (level, kind) in enumerate(entries)]
-    return "".join(lines), too_long(data, A_SHAPE) or fault
+    return "".join(lines), too_long(data, most) or fault
+
+
+# ---- the width, for the commands
+def add_width(words):
+    """The words that say a width."""
+    one = words.add_mutually_exclusive_group()
+    one.add_argument("--wide", dest="levels", action="store_const", const=WIDE, help=f"{WIDE} levels; said by a file's name that ends with 8.tab too")
+    one.add_argument("--narrow", dest="levels", action="store_const", const=NARROW, help=f"{NARROW} levels, whatever the file's name is")
+
+
+def levels_said(said, *files):
+    """The levels that were said, or else those that the names of the files say."""
+    return said.levels or (WIDE if any(file.endswith("8.tab") for file in files if file) else NARROW)
 
 
 # ---- files, for the commands; "-" is standard input or output

@@ -29,6 +29,7 @@ class Called(InFolder):
 class Bench(InFolder):
     """bench/run, with a toolchain and a compiler that are made up here, writes its page only when it is told to."""
     TAPES = "book", "fan", "sixteen", "64 types", "random", "one tree", "siblings", "many lines", "vain searches"
+    DEEP = "eight levels", "siblings on 8"
     CALLS = "examine", "judge", "reshape", "summarise"
 
     def setUp(self):
@@ -36,8 +37,10 @@ class Bench(InFolder):
         for file in ("bench/run", "bench/report.py", "tools/modules/x86_64.sh"):
             self.program(file, (ROOT / file).read_text())
         self.page = self.put("docs/BENCH.md", "as it was\n")
-        measured = itertools.product(self.TAPES, (128, 256, 512, 1024), self.CALLS)
-        figures = "".join(f"{tape}\t{n}\t{call}\t{n}\t{2 * n}\t{n}\tanswer\n" for tape, n, call in measured)
+        narrow = itertools.product(self.TAPES, ["narrow"], (128, 256, 512, 1024), self.CALLS)
+        wide = itertools.product(self.TAPES + self.DEEP, ["wide"], [1024], self.CALLS)
+        figures = "".join(f"{tape}\t{width}\t{n}\t{call}\t{n}\t{2 * n}\t{n}\tanswer\n" for tape, width, n, call in (*narrow, *wide))
+        figures += "book\tnarrow\t1024\twiden\t1\t-\t2\tanswer\nbook\twide\t1024\tnarrow\t1\t-\t4\tanswer\n"
         self.program("driver", f"#!/bin/sh\ncat <<'END'\n{figures}END\n")
         self.program("bin/uname", "#!/bin/sh\necho x86_64\n")
         self.program("bin/rt", "#!/bin/sh\n")
@@ -54,6 +57,8 @@ class Bench(InFolder):
         status, printed, said = self.bench()
         self.assertEqual((status, said, self.page.read_text()), (0, "", "as it was\n"))
         self.assertIn("## Hostile tables", printed)
+        self.assertIn("| book | widen | 1 ns | 2 ns | 0.50× |", printed)
+        self.assertIn("| book | narrow | 1 ns | 4 ns | 0.25× |", printed)
         self.assertEqual(self.bench("--write"), (0, printed, ""))
         self.assertTrue(self.page.read_text().startswith("# Bench\n\nWritten by `bench/run --write`;"))
         self.assertIn(printed[printed.index("## Bars"):].strip(), self.page.read_text())

@@ -1,5 +1,5 @@
-"""Tests of the second answer and of the figures in paper01.py, and of what is promised of a new table and of a summary, on the second
-reading's own lines."""
+"""Tests of the second answer, of the figures and of widening and narrowing in paper01.py, and of what is promised of a new table, of a summary
+and of a widened file, on the second reading's own answers."""
 import collections, itertools, random, unittest, unittest.mock
 
 import brackets, cases, paper01, promises
@@ -161,3 +161,68 @@ class Second(unittest.TestCase):
             self.assertEqual(work.none_apart(), 2 not in earned)
             if work.verdict()[0] != 1:
                 self.assertEqual(work.verdict()[0], next(filter(None, earned), 0))
+
+
+class Widths(unittest.TestCase):
+    A_WIDE = bracketed(brackets.A, "3[2 4]", levels=8)
+    DEEP = bracketed("1[2[3[4[5[6[7[8]]]]]]]", "8[7]", levels=8)
+
+    def test_by_hand(self):
+        """A row of each width, byte by byte; an entry; what lies past them stays."""
+        narrow = bytes([2, 0, 1, 2, 1, 0, 5, 0]) + bytes(8) + bytes(range(8))
+        wide = bytes([2, 0, 1, 2, 1, 0, 5, 0]) + bytes(12) + bytes(range(8))
+        first = bytes([1, 0, 1, 0, 1, 0]) + bytes(10) + bytes(8), bytes([1, 0, 1, 0, 1, 0]) + bytes(14) + bytes(8)
+        rows = [b"".join((one, *(brackets.with_byte(two, 6, k) for k in range(1, 6)))) for one, two in zip(first, (narrow, wide))]
+        self.assertEqual(paper01.move_table(rows[0], b"\7" * 170, 8), ((0, 0, 6), rows[1] + b"\7\7"))
+        self.assertEqual(paper01.move_table(rows[1], b"\7" * 144, 6, 8), ((0, 0, 6), rows[0]))
+        entries = bytes([1, 2, 0, 0, 9, 0, 7, 1]) + bytes(8), bytes([1, 2, 0, 0, 9, 0, 7, 1]) + bytes(12)
+        self.assertEqual(paper01.move_shape(entries[0], b"\7" * 21, 8), ((0, 0, 1), entries[1] + b"\7"))
+        self.assertEqual(paper01.move_shape(entries[1], b"\7" * 17, 6, 8), ((0, 0, 1), entries[0] + b"\7"))
+
+    def test_refused(self):
+        """Nothing lent changes; 24 comes after 3 and 6, and before 29."""
+        table, shape = self.DEEP.table, self.DEEP.shape
+        chain = brackets.shape(*((level, (1,)) for level in range(1, 9)), levels=8)
+        for call, data, lent, to, levels, wanted in (
+                (paper01.move_table, table, b"", 6, 8, (24, 6, 0)), (paper01.move_table, table + table, b"", 6, 8, (3, 8, 0)),
+                (paper01.move_table, table[:-1], b"", 6, 8, (2, 0, 0)), (paper01.move_table, bytes(28 * 1025), b"", 6, 8, (1, 0, 0)),
+                (paper01.move_table, b"", b"\7", 6, 8, (0, 0, 0)), (paper01.move_shape, b"", b"\7", 6, 8, (5, 0, 0)),
+                (paper01.move_shape, shape, b"\7", 6, 8, (24, 0, 0)), (paper01.move_shape, chain, b"\7" * 999, 6, 8, (24, 6, 0)),
+                (paper01.move_shape, shape + shape, b"\7", 6, 8, (6, 2, 0)), (paper01.move_shape, chain[:120], b"\7" * 95, 6, 8, (29, 0, 0)),
+                (paper01.move_table, self.A_WIDE.table, b"\7" * 215, 6, 8, (29, 0, 0)), (paper01.move_table, table, b"", 8, 8, (29, 0, 0))):
+            self.assertEqual(call(data, lent, to, levels), (wanted, lent))
+
+    def test_drawn(self):
+        """Every promise is kept, over several numbers of levels."""
+        rng = random.Random(4)
+        for levels, to in ((6, 8), (6, 7), (5, 9), (8, 10)):
+            for _ in range(60):
+                table, shape = cases.case(rng, levels=levels)
+                self.assertEqual(list(promises.broken_widths(table, shape, levels, to)), [])
+
+    def broken_where(self, name, wrong):
+        """What is found broken of table A and P4's shape where a function of paper01.py is another."""
+        case = bracketed(brackets.A, "3[2 4]")
+        with unittest.mock.patch.object(paper01, name, wrong):
+            return set(promises.broken_widths(case.table, case.shape, 6, 8))
+
+    def test_broken_ones_are_found(self):
+        """Zeros in front; a call that answers otherwise of wide files; narrowing that forgets what it wrote."""
+        zeros = "widening does not put zeros behind the components or labels, or nothing else"
+        self.assertIn(zeros, self.broken_where("written", lambda numbers, levels: bytes(2 * (levels - len(numbers))) + bytes(2 * len(numbers))))
+        for name, words in (
+                ("examine", "a widened table is not accepted, or refused, as the table is"),
+                ("judge", "a widened table and shape have another verdict or second answer"),
+                ("summarise", "a widened table and shape have another summary")):
+            call = getattr(paper01, name)
+            self.assertEqual(self.broken_where(name, call), set())
+            self.assertEqual(self.broken_where(name, lambda *data, levels: (levels, *call(*data, levels=levels))), {words})
+        move = paper01.move_table
+
+        def forgets(data, lent, to, levels):
+            reply, left = move(data, lent, to, levels)
+            return reply, left if levels < to else lent
+
+        self.assertEqual(self.broken_where("move_table", forgets), {"narrowing a widened file does not restore it"})
+        with self.assertRaises(SystemExit), unittest.mock.patch.object(paper01, "examine", lambda data, levels: levels):
+            promises.hold_widths(b"", b"")

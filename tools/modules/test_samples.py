@@ -18,6 +18,8 @@ class Samples(unittest.TestCase):
         "lines_1024": ("verdict 2 1 3", 1024), "lines_1025": ("refused 8 0", 0),
         "labels_22a": ("verdict 0", 23), "labels_22b": ("verdict 0", 19), "cut_off": ("refused 2 0", 0), "label_1000": ("refused 6 2", 0),
         "hidden_by_1": ("verdict 1 3 8", 9), "hidden_by_3": ("verdict 3 1 3", 6),
+        "level_8": ("verdict 0", 8), "level_9": ("refused 3 8", 0), "both_widths": ("verdict 0", 8), "shape8_missing": ("refused 5 0", 0),
+        "source8_missing": ("verdict 0", 9),
     }
 
     def listed(self, name):
@@ -27,7 +29,9 @@ class Samples(unittest.TestCase):
         for name, (first, lines) in self.BY_HAND.items():
             self.assertEqual((self.listed(name).split("\n")[0], self.listed(name).count("\n") - 1), (first, lines), name)
         self.assertEqual(self.listed("p4"), P4)
-        for name, verdict in (("fans_by_lessee", 0), ("fans_by_asset", 0), ("fans_lost", 1), ("fans_made_up", 2), ("fans_missing", 3)):
+        self.assertEqual((self.listed("source8_missing"), self.listed("both_widths")), (P4, self.listed("level_8")))
+        for name, verdict in (("fans_by_lessee", 0), ("fans_by_asset", 0), ("fans_lost", 1), ("fans_made_up", 2), ("fans_missing", 3),
+                              ("subleases", 0), ("subleases_up", 1)):
             self.assertTrue(self.listed(name).startswith(f"verdict {verdict}"), name)
 
     def test_table_a(self):
@@ -39,39 +43,58 @@ class Samples(unittest.TestCase):
         """Bytes and listings are those that the texts and paper01.py give, and every folder is in the README."""
         told = (samples.FOLDER / "README.md").read_text()
         found = list(samples.samples())
-        self.assertEqual({p.name for p in samples.FOLDER.iterdir() if p.is_dir()}, {name for name, _, _ in found})
-        for name, table, shape in found:
-            folder = samples.FOLDER / name
-            self.assertEqual(samples.listing(table, shape), self.listed(name), name)
-            if (folder / "source.txt").exists():
-                self.assertEqual(table_text.table_from((folder / "source.txt").read_text()), table, name)
-            if (folder / "shape.txt").exists():
-                kinds = table_text.kinds_of(table)
-                self.assertEqual(table_text.shape_from((folder / "shape.txt").read_text(), kinds), shape, name)
+        self.assertEqual({p.name for p in samples.FOLDER.iterdir() if p.is_dir()}, {name for name, *_ in found})
+        for name, table, shape, levels in found:
+            self.assertEqual(samples.listing(table, shape, levels), self.listed(name), name)
             self.assertRegex(told, rf"\b{name}\b")
+            for mark, each in (("", 6), ("8", 8)):
+                self.hold_texts(samples.FOLDER / name, mark, each)
+
+    def hold_texts(self, folder, mark, levels):
+        """The files of a folder are those that its texts give."""
+        source, shape = (folder / f"{file}{mark}" for file in ("source", "shape"))
+        table = source.with_suffix(".tab").read_bytes() if source.with_suffix(".tab").exists() else b""
+        if source.with_suffix(".txt").exists():
+            self.assertEqual(table_text.table_from(source.with_suffix(".txt").read_text(), levels), table, folder.name)
+        if shape.with_suffix(".txt").exists():
+            made = table_text.shape_from(shape.with_suffix(".txt").read_text(), table_text.kinds_of(table, levels), levels=levels)
+            self.assertEqual(made, shape.with_suffix(".tab").read_bytes(), folder.name)
 
     # what is wrong with the tables and shapes that no text can say
-    TABLES = {"rows_1025": "at most 1,024 rows", "level_7": "row 6 breaks a rule: its level is 7", "cut_off": "the last 23 bytes are no whole row"}
-    SHAPES = {"entries_17": "at most 16 entries", "label_1000": "entry 2 breaks a rule"}
+    TABLES = {"rows_1025": "at most 1,024 rows", "level_7": "row 6 breaks a rule: its level is 7", "cut_off": "the last 23 bytes are no whole row",
+              "level_9": "row 8 breaks a rule: its level is 9"}
+    SHAPES = {"entries_17": "at most 16 entries", "label_1000": "entry 2 breaks a rule", "shape8_missing": "no entry"}
 
     def test_round_trips(self):
-        for name, table, shape in samples.samples():
-            text, fault = table_text.show_table(table)
+        for name, table, shape, levels in samples.samples():
+            text, fault = table_text.show_table(table, levels=levels)
             if name in self.TABLES:
                 self.assertIn(self.TABLES[name], fault)
             else:
-                self.assertEqual((table_text.table_from(text), fault), (table, None), name)
-            text, fault = table_text.show_shape(shape)
+                self.assertEqual((table_text.table_from(text, levels), fault), (table, None), name)
+            text, fault = table_text.show_shape(shape, levels=levels)
             if name in self.SHAPES:
                 self.assertIn(self.SHAPES[name], fault)
             else:
-                self.assertEqual((table_text.shape_from(text), fault), (shape, None), name)
-                self.assertEqual(table_text.shape_from(text, table_text.kinds_of(table)), shape, name)
+                self.assertEqual((table_text.shape_from(text, levels=levels), fault), (shape, None), name)
+                self.assertEqual(table_text.shape_from(text, table_text.kinds_of(table, levels), levels=levels), shape, name)
 
     def test_texts_are_as_made(self):
-        for name, source, shape in loaded("make_samples").texts():
-            self.assertEqual((samples.FOLDER / name / "source.txt").read_text(), source, name)
-            self.assertEqual((samples.FOLDER / name / "shape.txt").read_text(), shape, name)
+        command = loaded("make_samples")
+        for mark, several in (("", command.texts()), ("8", command.wide_texts())):
+            for name, source, shape in several:
+                self.assertEqual((samples.FOLDER / name / f"source{mark}.txt").read_text(), source, name)
+                self.assertEqual((samples.FOLDER / name / f"shape{mark}.txt").read_text(), shape, name)
+
+    def test_subleases(self):
+        """300 rows or more, rows and entries on all eight levels, and no table that six levels take."""
+        for name in ("subleases", "subleases_up"):
+            table, shape, levels = samples.by_name()[name]
+            rows = paper01.read_rows(table, levels)
+            self.assertGreater(len(rows), 300)
+            self.assertEqual({len(row.dewey) for row in rows}, set(range(1, 9)))
+            self.assertEqual(paper01.move_table(table, bytes(len(table)), 6, levels)[0][0], 24)
+        self.assertEqual([entry.level for entry in paper01.read_shape(shape, levels)], list(range(1, 9)))
 
     def test_labels(self):
         """Both folders have one table, and all labels and the values at both ends stand in their listings."""
@@ -86,27 +109,27 @@ class Samples(unittest.TestCase):
         home = ROOT / "crates/folders"
         names = sorted(folder.name for folder in samples.folders())
         self.assertEqual((home / "args").read_text().splitlines(), names)
-        files = {f"{name}/{file}" for name in names for file in ("source.tab", "shape.tab")}
+        files = {str(path.relative_to(samples.FOLDER)) for path in samples.FOLDER.glob("*/*.tab")}
         self.assertEqual({str(path.relative_to(home / "data")) for path in (home / "data").rglob("*") if not path.is_dir()}, files)
         for file in files:
             self.assertFalse((home / "data" / file).is_symlink())
             self.assertEqual((home / "data" / file).read_bytes(), (samples.FOLDER / file).read_bytes(), file)
         parts = re.split(r"(?m)^== (\w+)\n", (home / "stdout").read_text())
         self.assertEqual(parts[:2] + parts[3::2], ["", *names])
-        both = {name: (table, shape) for name, table, shape in samples.samples()}
+        both = samples.by_name()
         for name, text in zip(parts[1::2], parts[2::2]):
-            table, shape = both[name]
+            table, _, levels = both[name]
             texts = re.split("(?m)^-- (?:report|summary|types)\n", text)
             first, lines = self.listed(name).split("\n", 1)
-            report = "\n".join([first, *explained.reported(table, shape), lines])
-            self.assertEqual(texts, [self.listed(name), report, samples.summary(table, shape), samples.types(table)], name)
+            report = "\n".join([first, *explained.reported(*both[name]), lines])
+            self.assertEqual(texts, [self.listed(name), report, samples.summary(*both[name]), samples.types(table, levels)], name)
 
     def test_second_answers(self):
         """The table of docs/HELP.md that shows the second answer, which every verdict but 0 has in each way that it can."""
         tried, kinds = explained.tried_seconds(), set()
-        both = {name: (table, shape) for name, table, shape in samples.samples()}
+        both = samples.by_name()
         for name, tree, answer, second in tried:
-            table, shape = both[name]
+            table, shape, _ = both[name]
             self.assertEqual(table_text.shape_from(brackets.indented(tree), table_text.kinds_of(table)), shape, name)
             first, *_, last = explained.reported(table, shape)
             self.assertEqual((first, last), (answer, second), name)
@@ -121,13 +144,13 @@ class Samples(unittest.TestCase):
             "p6": ["verdict 2 1 2", "entry 1: portfolio lessee", "entry 2: portfolio lessee lease asset", "some apart"],
             "p7": ["verdict 3 0 2", "entry 0: portfolio lease", "entry 2: portfolio payment", "none apart"],
             "p1": ["refused 7 0", "entry 0: lease"], "cut_off": ["refused 2 0"]}
-        both = {name: (table, shape) for name, table, shape in samples.samples()}
+        both = samples.by_name()
         for name, lines in reports.items():
             self.assertEqual(explained.reported(*both[name]), lines, name)
 
     def test_explained(self):
         """The second answer stands between the facts and the advice, and a refusal is explained without it."""
-        both = {name: (table, shape) for name, table, shape in samples.samples()}
+        both = samples.by_name()
         for name, second in (("p5", "none apart"), ("p6", "some apart")):
             lines, (means, then) = explained.explained(*both[name]).split("\n"), explained.helped(second)
             self.assertEqual((lines[4], lines[6:]), (f"Second answer: {means}", [""]), name)
@@ -136,8 +159,8 @@ class Samples(unittest.TestCase):
 
     def test_fans(self):
         """The tape kept by asset is the new table of the tape kept by lessee."""
-        both = {name: (table, shape) for name, table, shape in samples.samples()}
-        (number, _, lines), new, _ = paper01.reshape(*both["fans_by_lessee"], bytes(24 * 1024), [0] * 1024)
+        both = samples.by_name()
+        (number, _, lines), new, _ = paper01.reshape(*both["fans_by_lessee"][:2], bytes(24 * 1024), [0] * 1024)
         self.assertEqual((number, new[:24 * lines]), (0, both["fans_by_asset"][0]))
 
 
@@ -234,7 +257,7 @@ portfolio 1 row
     }
 
     def test_by_hand(self):
-        both = {name: (table, shape) for name, table, shape in samples.samples()}
+        both = samples.by_name()
         for name, text in self.SUMMARIES.items():
             self.assertEqual(samples.summary(*both[name]), text, name)
         for name, text in self.TYPES.items():

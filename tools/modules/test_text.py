@@ -1,7 +1,7 @@
 """Tests of table_text.py and of the commands to_table, to_shape and show."""
 import os, random, resource, unittest
 
-import brackets, cases, paper01, samples, table_text
+import brackets, cases, paper01, promises, samples, table_text
 from table_text import Wrong
 from testing import InFolder, run
 
@@ -18,6 +18,7 @@ portfolio
 """
 A_BYTES = b"".join(cases.row_bytes(d, l, (100 * i).to_bytes(8, "little")) for i, (d, l) in enumerate(brackets.nested(brackets.A)))
 CHAIN = "".join("  " * i + f"{i + 1}\n" for i in range(6))
+WIDE_CHAIN = "".join("  " * i + f"{i + 1}\n" for i in range(8))
 
 
 def value(n):
@@ -48,6 +49,28 @@ class FromText(unittest.TestCase):
         self.assertEqual(len(table_text.table_from("1\n" * 1024)), 24576)
         self.assertEqual(len(table_text.shape_from("1\n" + "  1\n" * 15)), 256)
         self.assertEqual(len(table_text.table_from(CHAIN)), 6 * 24)
+
+    def test_wide(self):
+        """Two places more in each record, and two levels more; the other limits stay."""
+        self.assertEqual(table_text.table_from(A, 8), promises.widened_table(A_BYTES, 6, 8))
+        self.assertEqual(table_text.shape_from("/1/2\n  /1\n", levels=8), brackets.shape((1, (1, 2)), (2, (1,)), levels=8))
+        self.assertEqual(len(table_text.table_from("1\n" * 1024, 8)), 28672)
+        self.assertEqual(len(table_text.shape_from("1\n" + "  1\n" * 15, levels=8)), 320)
+        chain = table_text.table_from(WIDE_CHAIN, 8)
+        self.assertEqual(chain, b"".join(cases.row_bytes((1,) * k, k, bytes(8), 8) for k in range(1, 9)))
+        self.assertEqual(table_text.kinds_of(chain, 8)[-1], tuple(range(1, 9)))
+        deepest = "".join("  " * i + "/1/2/3/4/5/6/7/8\n" for i in range(8))
+        self.assertEqual(table_text.shape_from(deepest, levels=8), brackets.shape(*((k, tuple(range(1, 9))) for k in range(1, 9)), levels=8))
+        for text, line, what in (
+                (WIDE_CHAIN + "                9\n", 9, "more than 8 levels"), ("1\n" * 1025, 1025, "more than 1,024 rows")):
+            self.wrong(lambda t: table_text.table_from(t, 8), text, line, what)
+        for text, line, what in (
+                ("/1/2/3/4/5/6/7/8/9", 1, "a type has at most 8"), ("".join("  " * i + "/1\n" for i in range(9)), 9, "more than 8 levels"),
+                ("/1\n" + "  /1\n" * 16, 17, "more than 16 entries")):
+            self.wrong(lambda t: table_text.shape_from(t, levels=8), text, line, what)
+        # a narrow file says that there are wide ones
+        self.wrong(table_text.table_from, WIDE_CHAIN, 7, "more than 6 levels, and 8 in a wide file")
+        self.wrong(table_text.shape_from, "/1/2/3/4/5/6/7", 1, "a type has at most 6, and 8 in a wide file")
 
     def wrong(self, make, text, line, what):
         with self.assertRaises(Wrong) as caught:
@@ -111,17 +134,21 @@ class FromText(unittest.TestCase):
 class Shown(unittest.TestCase):
     def test_back(self):
         """What is sound reads back; what is not is said of the row or entry that paper01.py finds."""
-        rng, broken, sound = random.Random(1), 0, 0
+        for levels in (6, 8):
+            self.hold_drawn(random.Random(1), levels)
+
+    def hold_drawn(self, rng, levels):
+        broken, sound = 0, 0
         for _ in range(300):
-            table, shape = cases.case(rng)
+            table, shape = cases.case(rng, levels=levels)
             for data, show, read, make, refusal in (
                     (table, table_text.show_table, paper01.read_rows, table_text.table_from, 3),
                     (shape, table_text.show_shape, paper01.read_shape, table_text.shape_from, 6)):
-                text, fault = show(data)
+                text, fault = show(data, levels=levels)
                 try:
-                    read(data)
+                    read(data, levels)
                     self.assertIsNone(fault)
-                    self.assertEqual(make(text), data)
+                    self.assertEqual(make(text, levels=levels), data)
                     sound += 1
                 except paper01.Refused as no:
                     self.assertIsNotNone(fault)
@@ -185,6 +212,31 @@ class Commands(InFolder):
                          b"/portfolio/lessee/lease/asset  # entry 0\n  /portfolio/lessee/lease  # entry 1\n")
         self.assertEqual(run("to_shape", "-", "-", given=run("show", "--shape", shape)[1])[1], shape.read_bytes())
 
+    def test_wide_there_and_back(self):
+        """By a file's name, or by a word, which comes before the name."""
+        text, table, shape = self.put("a.txt", WIDE_CHAIN), self.folder / "a8.tab", self.folder / "b8.tab"
+        wide = table_text.table_from(WIDE_CHAIN, 8)
+        self.assertEqual((run("to_table", text, table), table.read_bytes()), ((0, b"", ""), wide))
+        self.assertEqual(run("to_table", "--wide", text, "-"), (0, wide, ""))
+        self.assertEqual(run("to_table", "--narrow", text, table), (1, b"", f"{text}:7: more than 6 levels, and 8 in a wide file\n"))
+        self.assertEqual(run("show", table)[1], run("show", "--wide", "-", given=wide)[1])
+        self.assertEqual(run("to_table", "--wide", "-", "-", given=run("show", table)[1])[1], wide)
+        wanted = brackets.shape((1, tuple(range(1, 9))), (2, (1,)), levels=8)
+        self.assertEqual(run("to_shape", "--table", table, "-", shape, given=b"8\n  1\n"), (0, b"", ""))
+        self.assertEqual(shape.read_bytes(), wanted)
+        # the table's name says the width of a shape that has none
+        self.assertEqual(run("to_shape", "--table", table, "-", "-", given=b"8\n  1\n")[1], wanted)
+        self.assertEqual(run("show", "--shape", "--numbers", shape)[1].splitlines()[1], b"  /portfolio  # entry 1")
+        self.assertEqual(run("show", "--narrow", table)[::2], (1, f"{table}: row 1 breaks a rule: its level is 0, and levels are 1 to 6\n"))
+        self.assertEqual(run("show", "--narrow", "--wide", table)[0], 2)
+
+    def test_wide_with_a_source_list(self):
+        (_, _, lines), new, marks = paper01.reshape(
+            table_text.table_from(WIDE_CHAIN, 8), brackets.shape((1, tuple(range(1, 9))), (2, (1,)), levels=8), bytes(56), [0, 0], 8)
+        table, sources = self.put("new8.tab", new), self.put("list", b"".join(mark.to_bytes(4, "little") for mark in marks))
+        self.assertEqual((lines, run("show", "--sources", sources, table)),
+                         (2, (0, b"invoice 0  # entry 0, source row 7\n  portfolio 0  # entry 1, source row 0\n", "")))
+
     def test_wrong(self):
         text, out = self.put("x.txt", b"lease\n  leese\n"), self.folder / "x.tab"
         status, wrote, said = run("to_table", text, out)
@@ -242,6 +294,8 @@ class Commands(InFolder):
         for words, data, past in (
                 (("show",), table_text.table_from("1\n" * 1024), "longer than 24,576 bytes"),
                 (("show", "--shape"), table_text.shape_from("/1\n" + "  /1\n" * 15), "longer than 256 bytes"),
+                (("show", "--wide"), table_text.table_from("1\n" * 1024, 8), "longer than 28,672 bytes"),
+                (("show", "--wide", "--shape"), table_text.shape_from("/1\n" + "  /1\n" * 15, levels=8), "longer than 320 bytes"),
                 (("show", "--sources", self.put("list", bytes(4 * 4096))), lines, "longer than 98,304 bytes")):
             status, shown, said = run(*words, "-", given=data)
             self.assertEqual((status, said), (0, ""), words)

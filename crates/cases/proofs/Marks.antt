@@ -5,7 +5,7 @@ use native.Mathlib.Omega.{arith}
 use mathlib.Core.Path.{_≡_, refl, _∙_, ap, ap₂}
 use mathlib.Core.List.{List, _∷_, _++_, map}
 use lib.ListN.{replicate, take, drop}
-use Rattle.paper.specs.Format.{base}
+use Rattle.paper.specs.Format.{Format}
 use Rattle.paper.specs.Adorned.{Summary}
 use Rattle.paper.specs.Calls.{adorn}
 use Rattle.paper.proofs.Lists.{map-append}
@@ -28,13 +28,13 @@ module _ {A B : Type 0} (f : A → B) (a : A) where
   rest-marks (suc n) (suc m) = let q : m - n ≡ suc m - suc n = omega arith in rest-marks n m ∙ ap (λ (k : ℕ). replicate k (f a)) q
 
 -- the answer and the places after it, from what adorning ensures of the places lent
-pub left-of : (t : List ℕ) (n : ℕ) (xs : List TypeSummary) → n ≤ 65 → xs ≡ replicate 65 mark → (r : AdornedTypes) (zs : List TypeSummary)
-    → adornedTypes r ≡ adorn base t (map told (take n xs)) .reply → map told zs ≡ adorn base t (map told (take n xs)) .summaries
-    → LeftOf t n record { number = r .number; place = r .place; types = r .types; summaries = zs ++ drop n xs }
-left-of t n xs le e r zs er es =
+pub left-of : (f : Format) (t : List ℕ) (n : ℕ) (xs : List TypeSummary) → n ≤ 65 → xs ≡ replicate 65 mark → (r : AdornedTypes) (zs : List TypeSummary)
+    → adornedTypes r ≡ adorn f t (map told (take n xs)) .reply → map told zs ≡ adorn f t (map told (take n xs)) .summaries
+    → LeftOf f t n record { number = r .number; place = r .place; types = r .types; summaries = zs ++ drop n xs }
+left-of f t n xs le e r zs er es =
     let m : map told (take n xs) ≡ replicate n (told mark) = ap (λ (l : List TypeSummary). map told (take n l)) e ∙ front-marks told mark n 65 le in
     record {
-      reply-is = er ∙ ap (λ (l : List Summary). adorn base t l .reply) m;
+      reply-is = er ∙ ap (λ (l : List Summary). adorn f t l .reply) m;
       places-are = map-append told zs (drop n xs)
-          ∙ ap₂ {C = List Summary} (λ l k. l ++ k) (es ∙ ap (λ (l : List Summary). adorn base t l .summaries) m) (ap (λ (l : List TypeSummary). map told (drop n l)) e ∙ rest-marks told mark n 65);
+          ∙ ap₂ {C = List Summary} (λ l k. l ++ k) (es ∙ ap (λ (l : List Summary). adorn f t l .summaries) m) (ap (λ (l : List TypeSummary). map told (drop n l)) e ∙ rest-marks told mark n 65);
     }

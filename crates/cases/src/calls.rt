@@ -1,4 +1,5 @@
 // The calls that answer by value, and the reader: what each prints of its part of a line.
+use crate::lent::record_bytes;
 use crate::marked::adorn_marked;
 use crate::print::folded;
 use crate::print::folded_bytes;
@@ -7,25 +8,36 @@ use crate::print::number;
 use libc::STDOUT_FILENO;
 use silmezga::TypeSummary;
 use silmezga::Verdict;
+use silmezga::Width;
 use silmezga::reader::handed;
 use silmezga::reader::handed_next;
+ghost use Prim.Native.Nat.{_+_, _*_, _≤_};
+ghost use lib.ListN.{length};
 
-pub fn print_examined(t: &[u8]) {
-    let e = silmezga::examine(t);
+pub fn print_examined(width: Width, t: &[u8]) {
+    let e = silmezga::examine(width, t);
     number(b"", e.number);
     number(b" ", e.place);
     number(b" ", e.rows);
 }
 
+// The place of each row, and two past the last.
+fn places_asked(width: Width, t: &[u8]) -> usize
+    ensures { λ r. ⌜ 2 * r ≤ length (now (t .entry)) + 4 ⌝ }
+{
+    let w = record_bytes(width);
+    t.len() / w + 2
+}
+
 // Asks the reader at each row, and at two places past the last, for the row there and for the next.
-pub fn print_read(t: &[u8]) {
-    let end = t.len() / 24 + 2;
+pub fn print_read(width: Width, t: &[u8]) {
+    let end = places_asked(width, t);
     let mut rows = 0;
     let mut sum = 1;
     let mut at = 0;
     while at < end {
-        let row = handed(t, at);
-        let after = handed_next(t, at);
+        let row = handed(width, t, at);
+        let after = handed_next(width, t, at);
         sum = folded_bytes(folded(sum, row.len()), row);
         sum = folded_bytes(folded(sum, after.len()), after);
         if row.len() == 0 {
@@ -39,12 +51,12 @@ pub fn print_read(t: &[u8]) {
     number(b" ", sum);
 }
 
-pub fn print_looked_up(t: &[u8], row: usize) {
-    let r = silmezga::look_up_refusal(t, row);
+pub fn print_looked_up(width: Width, t: &[u8], row: usize) {
+    let r = silmezga::look_up_refusal(width, t, row);
     number(b": ", r.number);
     number(b" ", r.place);
     io::write_all(STDOUT_FILENO, b" ");
-    hexadecimal(silmezga::look_up(t, row));
+    hexadecimal(silmezga::look_up(width, t, row));
 }
 
 fn print_figures(s: TypeSummary) {
@@ -89,8 +101,9 @@ fn print_summaries(all: [TypeSummary; 65], count: usize, mark: usize) {
     }
 }
 
-pub fn print_adorned(t: &[u8], lent: usize) {
-    let a = adorn_marked(t, lent);
+// By the call for C, which takes the number that says the width.
+pub fn print_adorned(said: u32, t: &[u8], lent: usize) {
+    let a = adorn_marked(said, t, lent);
     let count = a.types;
     let all = a.summaries;
     number(b": ", a.number);
@@ -124,8 +137,8 @@ fn print_second(none_apart: bool) {
     }
 }
 
-pub fn print_judged(t: &[u8], s: &[u8]) {
-    let j = silmezga::judge(t, s);
+pub fn print_judged(width: Width, t: &[u8], s: &[u8]) {
+    let j = silmezga::judge(width, t, s);
     let v = j.verdict;
     let none = j.none_apart;
     number(b": ", j.number);
@@ -145,8 +158,8 @@ fn print_entry(entry: usize, lines: usize, rows: usize, copies: usize, different
     }
 }
 
-pub fn print_summarised(t: &[u8], s: &[u8]) {
-    let r = silmezga::summarise(t, s);
+pub fn print_summarised(width: Width, t: &[u8], s: &[u8]) {
+    let r = silmezga::summarise(width, t, s);
     let lines = r.lines;
     let rows = r.rows;
     let copies = r.copies;

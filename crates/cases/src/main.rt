@@ -1,13 +1,14 @@
-// Runs the six calls and the reader on the cases of standard input, and prints a line for each, so that all that they answer and all
+// Runs all calls and the reader on the cases of standard input, and prints a line for each, so that all that they answer and all
 // that they leave in what they are lent can be compared.
 //
-// A case is a table, a shape, a row to look up, the room lent for a reshape, the number of summaries lent and the shape of a second
-// reshape, which most cases lack. It is written as what differs from the case before, since most cases change little. The table's bytes
-// are held from place 0, the shape's from 32,768 and the second shape's from 49,152, and all begin as zeros. A head of 22 bytes, least byte
-// first: the number of changes (2 bytes), the length of the table (2) and of the shape (2), the row (8), the whole records lent (2), the
-// bytes lent past them (1), the summaries lent (1), the places lent for the source list (2) and the length of the second shape (2), 0
-// where there is none. Then each change: its place (2 bytes), its length (1) and its bytes. Records are counted because the bytes of
-// 4,096 do not fit two bytes.
+// A case is a width, a table, a shape, a row to look up, the room lent for a reshape, the number of summaries lent, the shape of a second
+// reshape, which most cases lack, and the bytes lent for the table and for the shape in the other width. It is written as what differs from
+// the case before, since most cases change little. The table's bytes are held from place 0, the shape's from 32,768 and the second shape's
+// from 49,152, and all begin as zeros. A head of 27 bytes, least byte first: the number of changes (2 bytes), the length of the table (2) and
+// of the shape (2), the row (8), the whole records lent (2), the bytes lent past them (1), the summaries lent (1), the places lent for the
+// source list (2), the length of the second shape (2), 0 where there is none, the levels of the width (1), 8 or else 6, and the bytes lent for
+// the table (2) and for the shape (2) in the other width. Then each change: its place (2 bytes), its length (1) and its bytes. Records are
+// counted because the bytes of 4,096 do not fit two bytes.
 //
 // The line has a part for each call, with ": " between them, and pieces of a part have "; " between them:
 // - examining's number, place and rows;
@@ -17,58 +18,54 @@
 // - adorning's number, place and types; the six figures of each summary counted; and each other summary that is not as it was before
 //   the call, with its number;
 // - judging's number and place, document 01's number of the verdict with its values, and the second answer, `yes` or `no`;
-// - reshaping's number, place and lines; up to forty lines, each as twelve 16-bit numbers and its place of the source list, or,
+// - reshaping's number, place and lines; up to forty lines, each as 16-bit numbers and its place of the source list, or,
 //   where there are more, the sum over every byte and every place of the lines; then each lent byte and each place past the last
 //   line that is not as it was before the call, with its index;
 // - summarising's number and place, and for each entry with a figure other than 0 its lines, source rows, copies and different source
 //   rows;
+// - the number, place and count of widening the table where it is narrow, of narrowing it where it is wide, and the sum over every lent
+//   byte after it; then the same of the shape;
 // - with a second shape, what reshaping to it the lines that the case's own reshape leaves gives, in the form of reshaping's part, with
-//   98,400 bytes and 4,100 places lent; or `none`, where the case's own reshape is refused or leaves more than 1,024 lines.
+//   4,100 records and places lent; or `none`, where the case's own reshape is refused or leaves more than 1,024 lines.
 // A sum is that of `print::folded`.
 //
 // The last line says on how many cases the calls for C answer and leave what the Rattle calls do.
 pub mod alike;
+pub mod ask;
 pub mod calls;
 pub mod chain;
 pub mod lent;
 pub mod marked;
+pub mod moved;
 pub mod print;
 
+use ask::Ask;
+use ask::asked;
 use libc::STDIN_FILENO;
 use libc::STDOUT_FILENO;
-ghost use mathlib.Core.Path.{_≡_};
+use moved::File;
 ghost use Prim.Native.Nat.{_+_, _<_};
 ghost use lib.ListN.{length};
 
-// What a case asks for beside its table and its shape: the bytes lent are those of the whole records and the bytes past them.
-struct Ask {
-    row: usize,
-    bytes: usize,
-    places: usize,
-    summaries: usize,
-}
-
-fn asked(head: &[u8]) -> Ask
-    requires { ⌜ length (now head) ≡ 22 ⌝ }
-{
-    Ask {
-        row: bytes::long(head, 6),
-        bytes: 24 * bytes::word(head, 14) + bytes::wide(head[16]),
-        places: bytes::word(head, 18),
-        summaries: bytes::wide(head[17]),
-    }
+// The parts of the calls that answer by value, and of the reader.
+fn print_answers(t: &[u8], s: &[u8], ask: Ask) {
+    let width = ask.width;
+    calls::print_examined(width, t);
+    calls::print_read(width, t);
+    calls::print_looked_up(width, t, ask.row);
+    calls::print_adorned(ask.said, t, ask.summaries);
+    calls::print_judged(width, t, s);
 }
 
 // A case's line.
 fn print_case(t: &[u8], s: &[u8], again: &[u8], ask: Ask) {
-    calls::print_examined(t);
-    calls::print_read(t);
-    calls::print_looked_up(t, ask.row);
-    calls::print_adorned(t, ask.summaries);
-    calls::print_judged(t, s);
-    lent::print_reshaped(t, s, ask.bytes, ask.places);
-    calls::print_summarised(t, s);
-    chain::print_chain(t, s, again, ask.bytes, ask.places);
+    let width = ask.width;
+    print_answers(t, s, ask);
+    lent::print_reshaped(width, t, s, ask.bytes, ask.places);
+    calls::print_summarised(width, t, s);
+    moved::print_moved(File::Table, width, t, ask.for_table);
+    moved::print_moved(File::Shape, width, s, ask.for_shape);
+    chain::print_chain(width, t, s, again, ask.bytes, ask.places);
     io::write_all(STDOUT_FILENO, b"\n");
 }
 
@@ -118,12 +115,12 @@ struct Ran {
 
 // Reads a case and prints its line.
 fn run_case(held: &mut [u8]) -> Ran {
-    let mut head = [0u8; 22];
+    let mut head = [0u8; 27];
     let none = Ran {
         whole: false,
         alike: 0,
     };
-    if io::read_full(STDIN_FILENO, &mut head) < 22 {
+    if io::read_full(STDIN_FILENO, &mut head) < 27 {
         return none;
     }
     if !read_changes(held, bytes::word(&head, 0)) {
@@ -141,7 +138,7 @@ fn run_case(held: &mut [u8]) -> Ran {
     print_case(t, s, &held[49152..last], ask);
     Ran {
         whole: true,
-        alike: alike::count_alike(t, s, ask.row, ask.bytes, ask.places),
+        alike: alike::count_alike(t, s, ask),
     }
 }
 

@@ -1,9 +1,10 @@
 // Adorning into 65 places of its own, each marked, so that a program without a slice of summaries can run the call and show every place
-// after it. The call is the one for C, which runs the Rattle call.
+// after it. The call is the one for C, which takes a width as a number and runs the Rattle call.
 use silmezga::TypeSummary;
 ghost use mathlib.Core.Path.{_≡_};
 ghost use Prim.Native.Nat.{_≤_, min};
 ghost use lib.ListN.{replicate};
+ghost use Rattle.silmezga_c.specs.Told.{formatNumbered};
 ghost use Rattle.cases.specs.Marked.{mark, LeftOf};
 
 // What adorning answered, and the places after it.
@@ -29,12 +30,12 @@ fn marks() -> [TypeSummary; 65]
 }
 
 // Lends the first n places.
-fn lend(table: &[u8], n: usize) -> Left
+fn lend(said: u32, table: &[u8], n: usize) -> Left
     requires { ⌜ n ≤ 65 ⌝ }
-    ensures { λ r. ⌜ LeftOf (now (table .entry)) n r ⌝ }
+    ensures { λ r. ⌜ LeftOf (formatNumbered said) (now (table .entry)) n r ⌝ }
 {
     let mut places = marks();
-    let r = silmezga_c::silmezga_adorn(table, &mut places[..n]);
+    let r = silmezga_c::silmezga_adorn(said, table, &mut places[..n]);
     Left {
         number: r.number,
         place: r.place,
@@ -44,8 +45,8 @@ fn lend(table: &[u8], n: usize) -> Left
 }
 
 // Lends as many places as asked for, at most 65.
-pub fn adorn_marked(table: &[u8], lent: usize) -> Left
-    ensures { λ r. ⌜ LeftOf (now (table .entry)) (min lent 65) r ⌝ }
+pub fn adorn_marked(said: u32, table: &[u8], lent: usize) -> Left
+    ensures { λ r. ⌜ LeftOf (formatNumbered said) (now (table .entry)) (min lent 65) r ⌝ }
 {
-    lend(table, tables::row::smaller(lent, 65))
+    lend(said, table, tables::row::smaller(lent, 65))
 }

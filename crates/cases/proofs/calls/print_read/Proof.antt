@@ -1,17 +1,18 @@
 -- `cases::calls::print_read` is safe and ends. The invariant: no more rows than were asked for. The measure is what is left to ask for. Assumes nothing.
-use Prim.Native.Nat.{_-_, _≤_}
+use Prim.Native.Nat.{_+_, _*_, _-_, _≤_}
+use lib.ListN.{length}
 use borrow.Author.Needs.{needs}
 use Rattle.cases.proofs.calls.print_read.Statement.{statement}
 use Rattle.cases.proofs.calls.print_read.Tie as tie
 
 abbrev Inv-loop : tie.InvT-loop
-Inv-loop t end rows₀ sum₀ at₀ t7 t8 rows sum at = (at ≤ end) × (rows ≤ at)
+Inv-loop width t end rows₀ sum₀ at₀ t7 t8 rows sum at = (at ≤ end) × (rows ≤ at) × (2 * end ≤ length t + 4)
 
 abbrev μ-loop : tie.MeasureT-loop
-μ-loop t end rows₀ sum₀ at₀ t7 t8 rows sum at = end - at
+μ-loop width t end rows₀ sum₀ at₀ t7 t8 rows sum at = end - at
 
-add-end : tie.Need-add-end Inv-loop μ-loop
-add-end c = search needs
+places-asked-requires : tie.Need-places-asked-requires Inv-loop μ-loop
+places-asked-requires c κs = search needs
 
 loop-holds : tie.Need-loop-holds Inv-loop μ-loop
 loop-holds c = search needs
@@ -76,7 +77,7 @@ print-read-spec =
     (tie.spec
     Inv-loop
     μ-loop
-    add-end
+    places-asked-requires
     loop-holds
     handed-requires
     handed-next-requires

@@ -1,17 +1,31 @@
 -- `cases::chain::reshape_again` meets its contract: the lines that it takes lie within the new table, and pass 1 to 4. Assumes nothing.
-use native.Mathlib.Omega.{arith}
-use mathlib.Core.Path.{sym}
+use Prim.Native.Nat.{ℕ, _*_, _≤_}
+use mathlib.Core.Path.{_≡_, sym, subst}
+use lib.ListN.{length, take}
 use lib.Seq.{length-take-le}
 use borrow.Author.Needs.{needs}
+use Rattle.paper.specs.Tables.{rows}
+use Rattle.paper.specs.Widths.{formatOf}
+use Rattle.paper.specs.Calls.{given, tests1-4}
 use Rattle.cases.proofs.Chained.{past4}
 use Rattle.cases.proofs.chain.reshape_again.Statement.{statement}
 use Rattle.cases.proofs.chain.reshape_again.Tie as tie
 
-mul-reshape : tie.Need-mul-reshape
-mul-reshape c = search needs
+abbrev begun : tie.After-record-bytes → tie.Start
+begun c = c .before .before .before .before .before
+
+-- the lines lie within the new table
+within : (c : tie.After-record-bytes) → c .record-bytes .result * begun c .args .lines ≤ length (begun c .args .new .now)
+within c = subst (λ (w : ℕ). w * begun c .args .lines ≤ length (begun c .args .new .now)) (sym (c .record-bytes .ensures .0)) (begun c .pre .0)
+
+record-bytes-requires : tie.Need-record-bytes-requires
+record-bytes-requires c κs = search needs
+
+mul-end : tie.Need-mul-end
+mul-end c = let fits = within c in search needs
 
 slice-aggregate-reshape : tie.Need-slice-aggregate-reshape
-slice-aggregate-reshape c = sym (length-take-le _ _ (omega arith))
+slice-aggregate-reshape c = sym (length-take-le _ _ (within (c .before)))
 
 reshape-requires : tie.Need-reshape-requires
 reshape-requires c κs = search needs
@@ -25,14 +39,18 @@ same-length-2 c = search needs
 returns : tie.Need-returns
 returns c =
     let called = c .before .before .before .before in
-    let start = called .before .before .before .before .before .before .before .before in
-    past4 (called .reshape .ensures) (start .pre .1)
+    let sized = called .before .before .before .before in
+    let a = begun sized .args in
+    let f = formatOf (a .width) in
+    past4 (called .reshape .ensures) (subst (λ (w : ℕ). tests1-4 f (take (w * a .lines) (a .new .now)) ≡ given (rows f (take (w * a .lines) (a .new .now))))
+    (sym (sized .record-bytes .ensures .0)) (begun sized .pre .1))
 
 pub reshape-again-spec : {M : Type 1} → statement M
 reshape-again-spec =
     tie.close
     (tie.spec
-    mul-reshape
+    record-bytes-requires
+    mul-end
     slice-aggregate-reshape
     reshape-requires
     same-length

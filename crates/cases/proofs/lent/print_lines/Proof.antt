@@ -2,20 +2,24 @@
 use Prim.Native.Nat.{_*_, _-_, _≤_}
 use lib.ListN.{length}
 use borrow.Author.Needs.{needs}
+use Rattle.bytes.proofs.Laws.{record-in}
 use Rattle.cases.proofs.lent.print_lines.Statement.{statement}
 use Rattle.cases.proofs.lent.print_lines.Tie as tie
 
 abbrev Inv-loop : tie.InvT-loop
-Inv-loop table sources shown i₀ t5 i = (i ≤ shown) × (24 * shown ≤ length table) × (shown ≤ length sources)
+Inv-loop w table sources shown i₀ t5 i = (i ≤ shown) × (w * shown ≤ length table) × (shown ≤ length sources)
 
 abbrev μ-loop : tie.MeasureT-loop
-μ-loop table sources shown i₀ t5 i = shown - i
+μ-loop w table sources shown i₀ t5 i = shown - i
 
 loop-holds : tie.Need-loop-holds Inv-loop μ-loop
 loop-holds c = search needs
 
 record-requires : tie.Need-record-requires Inv-loop μ-loop
-record-requires c κs = search needs
+record-requires c κs =
+    let l = c .before in
+    let a = l .before .before .before .args in
+    record-in (a .w) (l .loop .i) (a .shown) (length (a .table .now)) (c .loop-test .taken) (l .loop .inv .1)
 
 print-record-requires : tie.Need-print-record-requires Inv-loop μ-loop
 print-record-requires c κs = search needs
