@@ -6,6 +6,7 @@ PROGRAMS = "Silmezga", "former", "plain"
 USUAL = "book", "fan", "sixteen", "64 types", "random", "one tree", "siblings"
 HOSTILE = "many lines", "vain searches"
 TAPES = USUAL + HOSTILE
+DEEP = "eight levels", "siblings on 8"  # wide tapes that no narrow one is like
 BARRED = tuple(tape for tape in TAPES if tape != "siblings")  # the tapes that the bars were set on
 MANY_LINES = sum(341 ** level for level in range(1, 7))
 
@@ -30,7 +31,8 @@ place of the three are held to each other; the run stops if any differs.
 
 Silmezga stands beside two programs in plain C, with nothing proved. `bench/former.c` is the one that the bars were set on: one linear pass
 over the table, sets of types, and lines that are walked to be counted. `bench/plain.c` is the best plain C that we can write: better
-algorithms, and no machine-word tricks.
+algorithms, and no machine-word tricks. Both are compiled once for each width, with the number of levels as a constant, so that neither
+width costs the other anything; Silmezga has one body for both. Tables are narrow, and the bars are on narrow ones, where nothing else is said.
 
 {passed}
 
@@ -47,6 +49,8 @@ algorithms, and no machine-word tricks.
 | vain searches | hostile: 4 lines a row, which just fit, nearly each with 14 searches of its tree that find nothing | 16 entries |
 | lone lease | the book, its last row a lease without an asset; judged only | lease[lessee asset] for verdict 0, asset[lessee lease] for verdict 1 |
 | lone sixteen | the same table; judged only | 16 entries on 6 levels: asset[lessee asset[asset[..]] ..] for verdict 0, a lease as the last entry for verdict 1 |
+| eight levels | wide only: one root, two rows below each row down to level 7, one below each of those | 8 entries: the levels upside down |
+| siblings on 8 | wide only: one way down to level 7, all other rows on level 8 beneath it | 3 entries: level 8, and beneath it levels 7 and 6 |
 """
 
 GOES = """
@@ -72,13 +76,18 @@ of these three lists and not of all rows. And beneath a line it walks only the c
 SAME_TABLE = f"""One table, judged with two shapes of as many entries. Verdict 1 is to cost no more than verdict 0, also where it comes at the last entry and names
 the last row, as here. The ratios of two runs of the same code differ by up to {SPREAD}, which the bar allows for."""
 
+WIDE = """The same tapes widened, and two that are eight levels deep. The ratio to narrow is the time over that on the narrow tape."""
+MOVES = """The plain program tests the table with `bench/plain.c`, and copies record by record."""
+
+
 def read(path):
-    """The nanoseconds of each program, and the answer, by tape, rows and call."""
-    figures = {}
+    """The nanoseconds of each program, and the answer, by tape, rows and call, of narrow tables and of wide ones."""
+    figures = {"narrow": {}, "wide": {}}
     for line in open(path):
-        tape, rows, call, *measured, answer = line.rstrip("\n").split("\t")
-        figures[tape, int(rows), call] = dict(zip(PROGRAMS, map(float, measured)), answer=answer)
-    return figures
+        tape, width, rows, call, *measured, answer = line.rstrip("\n").split("\t")
+        found = {program: float(ns) for program, ns in zip(PROGRAMS, measured) if ns != "-"}
+        figures[width][tape, int(rows), call] = dict(found, answer=answer)
+    return figures["narrow"], figures["wide"]
 
 
 def time(ns):
@@ -96,8 +105,11 @@ def table(head, rows):
     return ["| " + " | ".join(r) + " |" for r in [head, ["---"] * len(head)] + rows]
 
 
-def beside(figures, machine, wanted):
-    """A row for each tape and call: the times, the ratios to the two programs, and the answer."""
+def beside(figures, machine, wanted, narrow=None):
+    """
+    A row for each tape and call: the times, the ratios to the two programs, and the answer. Where the figures of narrow tables are named, the
+    ratio of Silmezga's time to that on the narrow tape too, if there is one.
+    """
     rows = []
     for tape, n in wanted:
         for call in CALLS:
@@ -105,8 +117,24 @@ def beside(figures, machine, wanted):
             measured = [time(found["Silmezga"])]
             for program in PROGRAMS[1:]:
                 measured += [time(found[program]), times(found["Silmezga"] / found[program])]
+            if narrow is not None:
+                on_narrow = narrow.get((tape, n, call))
+                measured.append(times(found["Silmezga"] / on_narrow["Silmezga"]) if on_narrow else "")
             rows.append([tape, f"{n:,}", call] + measured + [found["answer"], machine])
-    return table(["tape", "rows", "call", "Silmezga", "former", "ratio to former", "plain", "ratio to plain", "answer", "machine"], rows)
+    ratios = ["Silmezga", "former", "ratio to former", "plain", "ratio to plain"] + ["ratio to narrow"] * (narrow is not None)
+    return table(["tape", "rows", "call", *ratios, "answer", "machine"], rows)
+
+
+def moves(narrow, wide, machine):
+    """A row for each tape of 1,024 rows that is widened or narrowed: the times of Silmezga and of the plain program, and their ratio."""
+    rows = []
+    for figures, call in (narrow, "widen"), (wide, "narrow"):
+        for tape in TAPES + DEEP:
+            if (tape, 1024, call) in figures:
+                found = figures[tape, 1024, call]
+                measured = [time(found["Silmezga"]), time(found["plain"]), times(found["Silmezga"] / found["plain"])]
+                rows.append([tape, call] + measured + [found["answer"], machine])
+    return table(["tape", "call", "Silmezga", "plain", "ratio to plain", "answer", "machine"], rows)
 
 
 def grown(figures, tape, call, program):
@@ -171,12 +199,14 @@ def section(title, rows):
 
 def main():
     path, machine, compiler, *page = sys.argv[1:]
-    figures = read(path)
+    figures, wide = read(path)
     ratios, growths = ratio_bars(figures, machine), growth_bars(figures, machine)
     parts = section("Bars: ratios at 1,024 rows", table(["tape", "call", "at most", "to former", "", "to plain", "", "machine"], ratios))
     parts += section("Bars: greatest growth, 128 to 1,024 rows", table(["tape", "call", "at most", "Silmezga", "", "machine"], growths))
     parts += section("Judging with verdict 1 beside verdict 0", [SAME_TABLE, ""] + verdicts(figures, machine))
     parts += section("At 1,024 rows", beside(figures, machine, [(tape, 1024) for tape in USUAL]))
+    parts += section("Wide tables at 1,024 rows", [WIDE, ""] + beside(wide, machine, [(tape, 1024) for tape in TAPES + DEEP], figures))
+    parts += section("Widening and narrowing 1,024 rows", [MOVES, ""] + moves(figures, wide, machine))
     parts += section("Growth from 128 to 1,024 rows, 8 times as many", growth(figures, machine))
     parts += section("Hostile tables", beside(figures, machine, [(tape, 1024) for tape in HOSTILE]))
     parts += section("The other sizes", beside(figures, machine, [(tape, n) for tape in TAPES for n in (128, 256, 512)]))

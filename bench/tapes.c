@@ -2,7 +2,7 @@
 
 #include <string.h>
 
-enum { PORTFOLIO = 1, LESSEE, LEASE, ASSET, PAYMENT, METER };
+enum { PORTFOLIO = 1, LESSEE, LEASE, ASSET, PAYMENT };
 
 static void put_word(uint8_t *b, size_t x)
 {
@@ -15,10 +15,22 @@ static unsigned word(const uint8_t *b)
     return b[0] + 256u * b[1];
 }
 
-static void start(tape *t, const char *name)
+static void start(tape *t, silmezga_width width, const char *name)
 {
     memset(t, 0, sizeof *t);
     t->name = name;
+    t->width = width;
+}
+
+/* The bytes of an entry; of a row, so many stand before its value. */
+static size_t entry_bytes(const tape *t)
+{
+    return t->width == SILMEZGA_EIGHT ? SILMEZGA_WIDE_ENTRY_BYTES : SILMEZGA_ENTRY_BYTES;
+}
+
+static size_t row_bytes(const tape *t)
+{
+    return entry_bytes(t) + 8;
 }
 
 /* The next row: its Dewey number follows from its level and the row before. Its value is its number. */
@@ -26,14 +38,14 @@ static void add_row(tape *t, unsigned level, unsigned label)
 {
     uint8_t *row = t->table + t->table_len, *last = row + 4 + 2 * (level - 1);
     if (t->rows > 0) {
-        memcpy(row + 4, row - SILMEZGA_ROW_BYTES + 4, 2 * level);
+        memcpy(row + 4, row - row_bytes(t) + 4, 2 * level);
     }
     put_word(last, word(last) + 1);
     row[0] = (uint8_t)level;
     put_word(row + 2, label);
-    put_word(row + 16, t->rows);
+    put_word(row + entry_bytes(t), t->rows);
     t->rows++;
-    t->table_len += SILMEZGA_ROW_BYTES;
+    t->table_len += row_bytes(t);
 }
 
 /* The next entry: its level, and its type, the labels from the root down to it. */
@@ -46,7 +58,7 @@ static void add_entry(tape *t, unsigned level, unsigned size, const unsigned *ty
     for (k = 0; k < size; k++) {
         put_word(entry + 4 + 2 * k, type[k]);
     }
-    t->shape_len += SILMEZGA_ENTRY_BYTES;
+    t->shape_len += entry_bytes(t);
 }
 
 static const unsigned down_to_asset[] = {PORTFOLIO, LESSEE, LEASE, ASSET};
@@ -74,16 +86,16 @@ static void book_rows(tape *t, size_t rows)
     }
 }
 
-void make_book(tape *t, size_t rows)
+void make_book(tape *t, silmezga_width width, size_t rows)
 {
-    start(t, "book");
+    start(t, width, "book");
     book_rows(t, rows);
     lease_with_lessee_and_asset(t);
 }
 
-void make_fan(tape *t, size_t rows)
+void make_fan(tape *t, silmezga_width width, size_t rows)
 {
-    start(t, "fan");
+    start(t, width, "fan");
     add_row(t, 1, PORTFOLIO);
     add_row(t, 2, LESSEE);
     while (t->rows < rows) {
@@ -104,20 +116,20 @@ static void sixteen_entries(tape *t, unsigned size, unsigned last)
     }
 }
 
-void make_sixteen(tape *t, size_t rows)
+void make_sixteen(tape *t, silmezga_width width, size_t rows)
 {
-    start(t, "sixteen");
+    start(t, width, "sixteen");
     book_rows(t, rows);
     sixteen_entries(t, 3, 3);
 }
 
 /* Trees of 64 rows, a row of each type: 3 types below the root, 4 below each of them, 4 below each of those. */
-void make_64_types(tape *t, size_t rows)
+void make_64_types(tape *t, silmezga_width width, size_t rows)
 {
     static const unsigned asset[] = {1, 4, 13, 23}, first[] = {1, 4, 13, 20}, second[] = {1, 4, 13, 21};
     static const unsigned cousin[] = {1, 4, 10}, uncle[] = {1, 2};
     size_t i;
-    start(t, "64 types");
+    start(t, width, "64 types");
     for (i = 0; t->rows < rows; i++) {
         unsigned at = i % 64;
         if (at == 0) {
@@ -174,12 +186,12 @@ static void add_most_frequent(tape *t, unsigned level, unsigned *count)
     add_entry(t, level, size, type);
 }
 
-void make_random(tape *t, size_t rows)
+void make_random(tape *t, silmezga_width width, size_t rows)
 {
     static const unsigned levels[] = {1, 2, 3, 2, 3, 2, 3, 4};
     unsigned labels[SILMEZGA_MOST_LEVELS] = {PORTFOLIO}, count[64] = {0}, level = 0, e;
     uint32_t seed = 5;
-    start(t, "random");
+    start(t, width, "random");
     while (t->rows < rows) {
         unsigned deepest = level < SILMEZGA_MOST_LEVELS ? level + 1 : level;
         level = level == 0 || draw(&seed, 24) == 0 ? 1 : 2 + draw(&seed, deepest - 1);
@@ -194,44 +206,83 @@ void make_random(tape *t, size_t rows)
     }
 }
 
-/* One root over trees of 32 rows, two rows below each row down to level 6, and one row more there. */
-void make_one_tree(tape *t, size_t rows)
+static const unsigned labelled_by_level[] = {1, 2, 3, 4, 5, 6, 7, 8};
+
+/* An entry for each level, one below the other, the last level first. */
+static void upside_down(tape *t, unsigned levels)
 {
-    static const unsigned type[] = {1, 2, 3, 4, 5, 6};
+    unsigned level;
+    for (level = 1; level <= levels; level++) {
+        add_entry(t, level, levels + 1 - level, labelled_by_level);
+    }
+}
+
+/* One root over trees of 32 rows, two rows below each row down to level 6, and one row more there. */
+void make_one_tree(tape *t, silmezga_width width, size_t rows)
+{
     static const unsigned below[] = {2, 3, 4, 5, 6, 6, 5, 6, 6, 4, 5, 6, 6, 5, 6, 6, 3, 4, 5, 6, 6, 5, 6, 6, 4, 5, 6, 6, 5, 6, 6, 6};
     unsigned level;
-    start(t, "one tree");
+    start(t, width, "one tree");
     add_row(t, 1, 1);
     while (t->rows < rows) {
         level = below[(t->rows - 1) % 32];
         add_row(t, level, level);
     }
-    for (level = 1; level <= 6; level++) {
-        add_entry(t, level, 7 - level, type);
-    }
+    upside_down(t, 6);
 }
 
-/* One row on each level down to 5, and all the others beneath the last of them. */
-void make_siblings(tape *t, size_t rows)
+/* One root over trees of 95 rows, two rows below each row down to level 7, and one below each of those. */
+void make_eight_levels(tape *t, silmezga_width width, size_t rows)
 {
-    static const unsigned type[] = {PORTFOLIO, LESSEE, LEASE, ASSET, PAYMENT, METER};
+    unsigned level = 1, leaves = 0, k;
+    start(t, width, "eight levels");
+    add_row(t, 1, 1);
+    while (t->rows < rows) {
+        if (level < 8) {
+            level++;
+        } else {
+            leaves++;
+            level = 7;
+            for (k = leaves; k % 2 == 0 && level > 2; k /= 2) {
+                level--;
+            }
+        }
+        add_row(t, level, level);
+    }
+    upside_down(t, 8);
+}
+
+/* One row on each level above the last, each labelled by its level, and all the others beneath the last of them. */
+static void siblings_on(tape *t, unsigned last, size_t rows)
+{
     unsigned level;
-    start(t, "siblings");
-    for (level = 1; level < 6; level++) {
-        add_row(t, level, type[level - 1]);
+    for (level = 1; level < last; level++) {
+        add_row(t, level, level);
     }
     while (t->rows < rows) {
-        add_row(t, 6, METER);
+        add_row(t, last, last);
     }
-    add_entry(t, 1, 6, type);
-    add_entry(t, 2, 5, type);
-    add_entry(t, 2, 4, type);
+    add_entry(t, 1, last, labelled_by_level);
+    add_entry(t, 2, last - 1, labelled_by_level);
+    add_entry(t, 2, last - 2, labelled_by_level);
 }
 
-void make_many_lines(tape *t, size_t rows)
+void make_siblings(tape *t, silmezga_width width, size_t rows)
+{
+    start(t, width, "siblings");
+    siblings_on(t, 6, rows);
+}
+
+void make_siblings_on_8(tape *t, silmezga_width width, size_t rows)
+{
+    start(t, width, "siblings on 8");
+    siblings_on(t, 8, rows);
+}
+
+void make_many_lines(tape *t, silmezga_width width, size_t rows)
 {
     unsigned i, e;
-    start(t, "many lines");
+    start(t, width, "many lines");
     add_row(t, 1, PORTFOLIO);
     for (i = 0; t->rows < rows; i++) {
         add_row(t, 2, LESSEE + i % 3);
@@ -243,11 +294,11 @@ void make_many_lines(tape *t, size_t rows)
     }
 }
 
-void make_vain_searches(tape *t, size_t rows)
+void make_vain_searches(tape *t, silmezga_width width, size_t rows)
 {
     static const unsigned lessee[] = {PORTFOLIO, LESSEE}, asset[] = {PORTFOLIO, ASSET}, payment[] = {PORTFOLIO, PAYMENT};
     unsigned i;
-    start(t, "vain searches");
+    start(t, width, "vain searches");
     add_row(t, 1, PORTFOLIO);
     for (i = 0; i < 4; i++) {
         add_row(t, 2, LESSEE);
@@ -266,35 +317,35 @@ void make_vain_searches(tape *t, size_t rows)
 }
 
 /* A book, and a lease more that has no asset. */
-static void start_lone(tape *t, const char *name, size_t rows)
+static void start_lone(tape *t, silmezga_width width, const char *name, size_t rows)
 {
-    start(t, name);
+    start(t, width, name);
     book_rows(t, rows - 1);
     add_row(t, 3, LEASE);
 }
 
-void make_lone_lease_kept(tape *t, size_t rows)
+void make_lone_lease_kept(tape *t, silmezga_width width, size_t rows)
 {
-    start_lone(t, "lone lease, verdict 0", rows);
+    start_lone(t, width, "lone lease, verdict 0", rows);
     lease_with_lessee_and_asset(t);
 }
 
-void make_lone_lease_missing(tape *t, size_t rows)
+void make_lone_lease_missing(tape *t, silmezga_width width, size_t rows)
 {
-    start_lone(t, "lone lease, verdict 1", rows);
+    start_lone(t, width, "lone lease, verdict 1", rows);
     add_entry(t, 1, 4, down_to_asset);
     add_entry(t, 2, 2, down_to_asset);
     add_entry(t, 2, 3, down_to_asset);
 }
 
-void make_lone_sixteen_kept(tape *t, size_t rows)
+void make_lone_sixteen_kept(tape *t, silmezga_width width, size_t rows)
 {
-    start_lone(t, "lone sixteen, verdict 0", rows);
+    start_lone(t, width, "lone sixteen, verdict 0", rows);
     sixteen_entries(t, 4, 4);
 }
 
-void make_lone_sixteen_missing(tape *t, size_t rows)
+void make_lone_sixteen_missing(tape *t, silmezga_width width, size_t rows)
 {
-    start_lone(t, "lone sixteen, verdict 1", rows);
+    start_lone(t, width, "lone sixteen, verdict 1", rows);
     sixteen_entries(t, 4, 3);
 }

@@ -2,9 +2,9 @@
  * Silmezga: moves a seller's table of lease records into the tree that a buyer wants, says whether the move keeps the links between
  * records, and writes the new table with the source row of every line.
  *
- * Six calls, each a function of its arguments alone: no call keeps anything, allocates, reads or writes a file, or stops the program.
- * Each takes bytes of every kind. It gives its answer, or a refusal with a number and a place, and a refused call changes nothing that it
- * was lent. What each call answers is proved for every input (docs/PROVED.md).
+ * Six calls, and four that widen and narrow files, each a function of its arguments alone: no call keeps anything, allocates, reads or
+ * writes a file, or stops the program. Each takes bytes of every kind. It gives its answer, or a refusal with a number and a place, and a
+ * refused call changes nothing that it was lent. What each call answers is proved for every input (docs/PROVED.md).
  *
  * The archive is target/staticlib/libsilmezga_c.a, made by `rt staticlib silmezga_c`. It is for x86-64 Linux, and all that it takes from other
  * libraries is memcpy and memset. This header is C99 and C++. Calls from several threads do not disturb each other, as long as nothing
@@ -15,29 +15,36 @@
  *   - A pointer and the length behind it tell of memory that is there: `table` has table_len bytes, and so on. No length passes the
  *     object's own.
  *   - No pointer is NULL, also where the length is 0: then pass the address of any object of the pointer's type.
- *   - What a call writes to (`new_table`, `sources`, `summaries`) overlaps nothing else that is lent to the same call.
+ *   - What a call writes to (`new_table`, `new_shape`, `sources`, `summaries`) overlaps nothing else that is lent to the same call.
  *   - `sources` and `summaries` are aligned as their types ask, which they are when declared or allocated as such.
  *
- * Tables
- *   Numbers are little-endian. A table is records of 24 bytes, one a row, no header; it may be empty. Rows count from 0.
+ * Widths
+ *   A file is narrow, with levels to 6, or wide, with levels to 8. A file does not say which it is: the caller does, and a table and the
+ *   shape that goes with it have one width. All limits but those of levels and bytes are the same for both.
  *
- *     byte  0      level, 1 to 6
- *     byte  1      zero
- *     bytes 2-3    label, 1 to 999
- *     bytes 4-15   Dewey number: six 16-bit components; those past the level are zero
- *     bytes 16-23  value, signed 64-bit, any
+ * Tables
+ *   Numbers are little-endian. A table is records of 24 bytes, of 28 where it is wide, one a row, no header; it may be empty. Rows count
+ *   from 0.
+ *
+ *     narrow       wide
+ *     byte  0      byte  0      level, 1 to 6; wide 1 to 8
+ *     byte  1      byte  1      zero
+ *     bytes 2-3    bytes 2-3    label, 1 to 999
+ *     bytes 4-15   bytes 4-19   Dewey number: six 16-bit components, wide eight; those past the level are zero
+ *     bytes 16-23  bytes 20-27  value, signed 64-bit, any
  *
  *   Row 0 has Dewey number 1. Each later row is either the number before with a component 1 added at its end, or the number before cut
  *   after some component, that component raised by one. A row's type is the list of labels from its tree's root down to it. Types are
  *   numbered from 0 by first row.
  *
  * Shapes
- *   A shape is the tree that is wanted: records of 16 bytes, one an entry, 1 to 16 of them. Entries count from 0.
+ *   A shape is the tree that is wanted: records of 16 bytes, of 20 where it is wide, one an entry, 1 to 16 of them. Entries count from 0.
  *
- *     byte  0      level, 1 to 6
- *     byte  1      length of the entry's type, 1 to 6
- *     bytes 2-3    zero
- *     bytes 4-15   the type: six 16-bit labels, each 1 to 999 within the length, zero past it
+ *     narrow       wide
+ *     byte  0      byte  0      level, 1 to 6; wide 1 to 8
+ *     byte  1      byte  1      length of the entry's type, 1 to 6; wide 1 to 8
+ *     bytes 2-3    bytes 2-3    zero
+ *     bytes 4-15   bytes 4-19   the type: six 16-bit labels, wide eight, each 1 to 999 within the length, zero past it
  *
  *   Entry 0 has level 1; every later entry has level at least 2 and at most one more than the entry before it. An entry's parent is the
  *   nearest earlier entry one level up. Two entries may name one type.
@@ -53,44 +60,71 @@ extern "C" {
 #endif
 
 /* The version of the project; CHANGELOG.md says what each brought. */
-#define SILMEZGA_VERSION "1.4.0"
+#define SILMEZGA_VERSION "2.0.0"
 
 /* The archive's numbers have 64 bits: this line refuses a target whose size_t has not. */
 typedef char silmezga_size_t_has_64_bits[sizeof(size_t) == 8 ? 1 : -1];
 
-/* ---- Limits */
+/*
+ * ---- Widths
+ * The first argument of each of the six calls: the width of the table and of the shape that it is lent, and of the new table that it
+ * writes. It is passed as a number of 32 bits. 8 means eight levels, and every other number six.
+ */
+typedef enum silmezga_width {
+    SILMEZGA_SIX = 6,       /* narrow: six levels */
+    SILMEZGA_EIGHT = 8      /* wide: eight levels */
+} silmezga_width;
+
+/* This line refuses a compiler that gives the enum another size. */
+typedef char silmezga_width_has_32_bits[sizeof(silmezga_width) == 4 ? 1 : -1];
+
+/* ---- Limits of narrow files */
 #define SILMEZGA_ROW_BYTES 24          /* a row of a table, a line of a new table */
 #define SILMEZGA_ENTRY_BYTES 16        /* an entry of a shape */
-#define SILMEZGA_MOST_ROWS 1024        /* rows of a source table */
-#define SILMEZGA_MOST_TABLE_BYTES 24576
 #define SILMEZGA_MOST_LEVELS 6         /* levels of rows and entries; labels of a type */
+#define SILMEZGA_MOST_TABLE_BYTES 24576
+#define SILMEZGA_MOST_SHAPE_BYTES 256
+
+/* ---- The same limits of wide files */
+#define SILMEZGA_WIDE_ROW_BYTES 28
+#define SILMEZGA_WIDE_ENTRY_BYTES 20
+#define SILMEZGA_WIDE_MOST_LEVELS 8
+#define SILMEZGA_WIDE_MOST_TABLE_BYTES 28672
+#define SILMEZGA_WIDE_MOST_SHAPE_BYTES 320
+
+/* ---- Limits of both */
+#define SILMEZGA_MOST_ROWS 1024        /* rows of a source table */
 #define SILMEZGA_LEAST_LABEL 1
 #define SILMEZGA_MOST_LABEL 999
 #define SILMEZGA_MOST_TYPES 64         /* types of a table */
 #define SILMEZGA_MOST_ENTRIES 16       /* entries of a shape, of which there is at least 1 */
-#define SILMEZGA_MOST_SHAPE_BYTES 256
 #define SILMEZGA_MOST_LINES 4096       /* lines of a new table */
 
 /*
  * ---- Refusals
  * In the order in which they are tested. Each is given exactly then; 0 means that the call is accepted, and its place is 0.
  *
- *   examine    1 to 3            judge      1 to 7
- *   look_up    1 to 3, 11        reshape    1 to 8
- *   adorn      1 to 4, 10        summarise  1 to 8
+ *   examine    1 to 3            widen_table   1 to 3, 29
+ *   look_up    1 to 3, 11        narrow_table  1 to 3, 24, 29
+ *   adorn      1 to 4, 10        widen_shape   5 and 6, 29
+ *   judge      1 to 7            narrow_shape  5 and 6, 24, 29
+ *   reshape    1 to 8
+ *   summarise  1 to 8
  */
 enum {
     SILMEZGA_ACCEPTED = 0,
-    SILMEZGA_TABLE_TOO_LONG = 1,     /* table longer than 24,576 bytes; place 0 */
-    SILMEZGA_TABLE_RAGGED = 2,       /* table length no multiple of 24; place 0 */
+    SILMEZGA_TABLE_TOO_LONG = 1,     /* table longer than 24,576 bytes, wide 28,672; place 0 */
+    SILMEZGA_TABLE_RAGGED = 2,       /* table length no multiple of 24, wide 28; place 0 */
     SILMEZGA_BAD_ROW = 3,            /* a row breaks a rule above; place: the first bad row */
     SILMEZGA_TOO_MANY_TYPES = 4,     /* more than 64 types; place: the first row of the 65th type */
-    SILMEZGA_BAD_SHAPE_LENGTH = 5,   /* shape empty, over 256 bytes, or no multiple of 16; place 0 */
+    SILMEZGA_BAD_SHAPE_LENGTH = 5,   /* shape empty, over 256 bytes, or no multiple of 16, wide 320 and 20; place 0 */
     SILMEZGA_BAD_ENTRY = 6,          /* a shape entry breaks a rule; place: the first bad entry */
     SILMEZGA_NO_SUCH_TYPE = 7,       /* an entry's type has no row; place: the first such entry */
     SILMEZGA_NO_ROOM = 8,            /* more lines than there is room for; place 0 */
     SILMEZGA_FEW_SUMMARIES = 10,     /* fewer lent summaries than types; place 0 */
-    SILMEZGA_NO_SUCH_ROW = 11        /* no such row; place: the row asked for */
+    SILMEZGA_NO_SUCH_ROW = 11,       /* no such row; place: the row asked for */
+    SILMEZGA_TOO_DEEP = 24,          /* for narrowing, a level or the length of a type over 6; place: the first such row or entry */
+    SILMEZGA_FEW_BYTES = 29          /* for widening and narrowing, fewer lent bytes than are written; place 0 */
 };
 
 /* Number 9 is unused: no call gives it. The name stays only so that a program that has it still compiles. */
@@ -130,7 +164,7 @@ typedef struct {
     size_t number;
     size_t place;
     size_t start;               /* the row's own bytes are table[start] to table[start + length - 1] */
-    size_t length;              /* 24 */
+    size_t length;              /* 24, wide 28 */
 } silmezga_looked_up;
 
 typedef struct {
@@ -172,40 +206,70 @@ typedef struct {
     size_t different[SILMEZGA_MOST_ENTRIES];  /* the different source rows that appear in its lines, each counted once */
 } silmezga_summary;
 
+typedef struct silmezga_moved {
+    size_t number;
+    size_t place;
+    size_t count;               /* rows or entries written */
+} silmezga_moved;
+
 /* ---- The six calls */
 
 /* Examines a table: refusals 1 to 3, or the number of rows. */
-silmezga_examined silmezga_examine(const uint8_t *table, size_t table_len);
+silmezga_examined silmezga_examine(silmezga_width width, const uint8_t *table, size_t table_len);
 
-/* Looks up a row: refusals 1 to 3 and 11, or where the row's own 24 bytes stand in the caller's table. */
-silmezga_looked_up silmezga_look_up(const uint8_t *table, size_t table_len, size_t row);
+/* Looks up a row: refusals 1 to 3 and 11, or where the row's own bytes, 24 or wide 28, stand in the caller's table. */
+silmezga_looked_up silmezga_look_up(silmezga_width width, const uint8_t *table, size_t table_len, size_t row);
 
 /*
  * Adorns a table: refusals 1 to 4 and 10, or one summary a type, in type order, at the front of the `lent` summaries; those past the last
  * type stay as they were. 64 summaries are always enough.
  */
-silmezga_adorned silmezga_adorn(const uint8_t *table, size_t table_len, silmezga_type_summary *summaries, size_t lent);
+silmezga_adorned silmezga_adorn(silmezga_width width, const uint8_t *table, size_t table_len, silmezga_type_summary *summaries, size_t lent);
 
 /* Judges a table and a shape: refusals 1 to 7, or the verdict in numbers and the second answer. */
-silmezga_judged silmezga_judge(const uint8_t *table, size_t table_len, const uint8_t *shape, size_t shape_len);
+silmezga_judged silmezga_judge(silmezga_width width, const uint8_t *table, size_t table_len, const uint8_t *shape, size_t shape_len);
 
 /*
  * Reshapes a table: refusals 1 to 8, or the lines of the new table, written to the front of `new_table`, and for each line its entry x
  * 65,536 + its source row, to the front of `sources`. Bytes and places past the last line stay as they were.
  *
- * `new_len` is in bytes, `source_places` in numbers. There is room for the least of new_len / 24, source_places and 4,096 lines; the lines
- * are counted before the first is written. Where the verdict on the same table and shape is 0, what the call leaves keeps the links
+ * `new_len` is in bytes, `source_places` in numbers. There is room for the least of new_len / 24 (wide: 28), source_places and 4,096 lines;
+ * the lines are counted before the first is written. Where the verdict on the same table and shape is 0, what the call leaves keeps the links
  * between records: the pairs of source rows read off the closest pairs of new lines are exactly the closest pairs of source rows of those
  * two types. Where the second answer is 1, whatever the verdict, nothing is made up: any two lines of different entries that hang under,
  * or are, one line of their fork entry have closest source rows. Where the verdict is 1 with entry e and row r, that row stands in no
  * line of that entry: no place of `sources` among the lines written is e x 65,536 + r. A new table of at most 1,024 lines is a sound
- * source: no call refuses its `lines` x 24 bytes with 1 to 4, so that they can be reshaped again with no test in between.
+ * source of the same width: no call refuses its `lines` x 24 (wide: 28) bytes with 1 to 4, so that they can be reshaped again with no test
+ * in between.
  */
-silmezga_reshaped silmezga_reshape(const uint8_t *table, size_t table_len, const uint8_t *shape, size_t shape_len, uint8_t *new_table,
-                                   size_t new_len, uint32_t *sources, size_t source_places);
+silmezga_reshaped silmezga_reshape(silmezga_width width, const uint8_t *table, size_t table_len, const uint8_t *shape, size_t shape_len,
+                                   uint8_t *new_table, size_t new_len, uint32_t *sources, size_t source_places);
 
 /* Summarises a reshape with room for 4,096 lines, with nothing written: refusals 1 to 8, or four figures of each entry. */
-silmezga_summary silmezga_summarise(const uint8_t *table, size_t table_len, const uint8_t *shape, size_t shape_len);
+silmezga_summary silmezga_summarise(silmezga_width width, const uint8_t *table, size_t table_len, const uint8_t *shape, size_t shape_len);
+
+/*
+ * ---- Widening and narrowing
+ * Each writes the file at the other width to the front of the lent bytes, which are `new_len`; bytes past it stay as they were. `count` is
+ * the number of rows or entries, so that a wide table takes count x 28 bytes, a narrow one count x 24, a wide shape count x 20 and a narrow
+ * one count x 16. What is written is always accepted at its width: with no refusal 1 to 3, or 5 and 6.
+ *
+ * A record is widened by two zero components (in a shape, labels) behind the six that it has; narrowed, it loses the last two, which are
+ * zero. So narrowing what was widened gives back the same bytes, and widening what was narrowed too. A widened table has the same types
+ * as the narrow one, and with the widened shape the same verdict, second answer, summary and source list, and the same lines, widened.
+ */
+
+/* Widens a narrow table: refusals 1 to 3 of the narrow width and 29. SILMEZGA_WIDE_MOST_TABLE_BYTES are always enough. */
+silmezga_moved silmezga_widen_table(const uint8_t *table, size_t table_len, uint8_t *new_table, size_t new_len);
+
+/* Narrows a wide table: refusals 1 to 3 of the wide width, 24 with the first row whose level is over 6, and 29. */
+silmezga_moved silmezga_narrow_table(const uint8_t *table, size_t table_len, uint8_t *new_table, size_t new_len);
+
+/* Widens a narrow shape: refusals 5 and 6 of the narrow width and 29. SILMEZGA_WIDE_MOST_SHAPE_BYTES are always enough. */
+silmezga_moved silmezga_widen_shape(const uint8_t *shape, size_t shape_len, uint8_t *new_shape, size_t new_len);
+
+/* Narrows a wide shape: refusals 5 and 6 of the wide width, 24 with the first entry whose level or type length is over 6, and 29. */
+silmezga_moved silmezga_narrow_shape(const uint8_t *shape, size_t shape_len, uint8_t *new_shape, size_t new_len);
 
 #ifdef __cplusplus
 }

@@ -1,18 +1,27 @@
-//! Shows what the six calls say of the files source.tab and shape.tab in a folder: show FOLDER
+//! Shows what the calls say of a table and a shape: show FOLDER
+//!
+//! The wide files source8.tab and shape8.tab in the folder where source8.tab opens, else the narrow ones, source.tab and shape.tab.
 //!
 //! By hand, in examples/rust: SILMEZGA_LIB=$PWD/../../target/staticlib cargo run --example show -- ../../samples/p4
-use silmezga::{Judgement, Refusal, TypeSummary, Verdict};
+use silmezga::{Judgement, Refusal, TypeSummary, Verdict, Width};
 use std::{env, fs, path::Path, process};
+
+/// A table and a shape of one width.
+struct Files {
+    width: Width,
+    table: Vec<u8>,
+    shape: Vec<u8>,
+}
 
 fn word(bytes: &[u8]) -> u16 {
     u16::from_le_bytes([bytes[0], bytes[1]])
 }
 
-/// A row: its Dewey number, its label and its value.
+/// A row: its Dewey number, its label and its value, which is its last eight bytes.
 fn row_text(row: &[u8]) -> String {
     let level = usize::from(row[0]);
     let number: Vec<String> = (0..level).map(|k| word(&row[4 + 2 * k..]).to_string()).collect();
-    let value = i64::from_le_bytes(row[16..24].try_into().unwrap());
+    let value = i64::from_le_bytes(row[row.len() - 8..].try_into().unwrap());
     format!("{} label {} value {}", number.join("."), word(&row[2..]), value)
 }
 
@@ -20,19 +29,19 @@ fn refused(call: &str, no: Refusal) -> String {
     format!("{}: refused {} at {}\n", call, no.number, no.place)
 }
 
-fn examined(table: &[u8]) -> Result<String, Refusal> {
-    Ok(format!("examine: {} rows\n", silmezga::examine(table)?))
+fn examined(read: &Files) -> Result<String, Refusal> {
+    Ok(format!("examine: {} rows\n", silmezga::examine(read.width, &read.table)?))
 }
 
-fn looked_up(table: &[u8], row: usize) -> Result<String, Refusal> {
-    let part = silmezga::look_up(table, row)?;
-    let start = part.as_ptr() as usize - table.as_ptr() as usize;
+fn looked_up(read: &Files, row: usize) -> Result<String, Refusal> {
+    let part = silmezga::look_up(read.width, &read.table, row)?;
+    let start = part.as_ptr() as usize - read.table.as_ptr() as usize;
     Ok(format!("look up row {}: bytes {} to {}, {}\n", row, start, start + part.len() - 1, row_text(part)))
 }
 
-fn adorned(table: &[u8], lent: usize) -> Result<String, Refusal> {
+fn adorned(read: &Files, lent: usize) -> Result<String, Refusal> {
     let mut summaries = vec![TypeSummary::default(); lent];
-    let types = silmezga::adorn(table, &mut summaries)?;
+    let types = silmezga::adorn(read.width, &read.table, &mut summaries)?;
     let mut text = format!("adorn: {} types\n", types);
     for (k, s) in summaries[..types].iter().enumerate() {
         text += &format!(
@@ -52,8 +61,8 @@ fn none_apart(judgement: Judgement) -> &'static str {
     }
 }
 
-fn judged(table: &[u8], shape: &[u8]) -> Result<String, Refusal> {
-    let judgement = silmezga::judge(table, shape)?;
+fn judged(read: &Files) -> Result<String, Refusal> {
+    let judgement = silmezga::judge(read.width, &read.table, &read.shape)?;
     let verdict = match judgement.verdict {
         Verdict::Kept => "judge: verdict 0, the links are kept\n".to_string(),
         Verdict::Missing { entry, row } => format!("judge: verdict 1, row {} has no partner for entry {}\n", row, entry),
@@ -63,21 +72,21 @@ fn judged(table: &[u8], shape: &[u8]) -> Result<String, Refusal> {
     Ok(verdict + none_apart(judgement))
 }
 
-fn reshaped(table: &[u8], shape: &[u8]) -> Result<String, Refusal> {
-    let mut new = vec![0; silmezga::MOST_LINES * silmezga::ROW_BYTES];
+fn reshaped(read: &Files) -> Result<String, Refusal> {
+    let mut new = vec![0; silmezga::MOST_LINES * read.width.row_bytes()];
     let mut sources = vec![0; silmezga::MOST_LINES];
-    let lines = silmezga::reshape(table, shape, &mut new, &mut sources)?;
+    let lines = silmezga::reshape(read.width, &read.table, &read.shape, &mut new, &mut sources)?;
     let mut text = format!("reshape: {} lines\n", lines);
-    for (line, source) in new.chunks(silmezga::ROW_BYTES).zip(sources).take(lines) {
+    for (line, source) in new.chunks(read.width.row_bytes()).zip(sources).take(lines) {
         text += &format!("  {}, entry {} of row {}\n", row_text(line), source / 65_536, source % 65_536);
     }
     Ok(text)
 }
 
-fn summarised(table: &[u8], shape: &[u8]) -> Result<String, Refusal> {
-    let s = silmezga::summarise(table, shape)?;
+fn summarised(read: &Files) -> Result<String, Refusal> {
+    let s = silmezga::summarise(read.width, &read.table, &read.shape)?;
     let mut text = "summarise:\n".to_string();
-    for e in 0..shape.len() / silmezga::ENTRY_BYTES {
+    for e in 0..read.shape.len() / read.width.entry_bytes() {
         text += &format!(
             "  entry {}: lines {} rows {} copies {} different {}\n",
             e, s.lines[e], s.rows[e], s.copies[e], s.different[e]
@@ -86,12 +95,76 @@ fn summarised(table: &[u8], shape: &[u8]) -> Result<String, Refusal> {
     Ok(text)
 }
 
-fn read(folder: &Path, name: &str) -> Vec<u8> {
-    let path = folder.join(name);
-    fs::read(&path).unwrap_or_else(|e| {
-        eprintln!("{}: {}", path.display(), e);
-        process::exit(2)
-    })
+/// What was refused, in words, or the bytes that a call that widens or narrows leaves: `record` bytes for each row or entry.
+fn moved(
+    what: &str,
+    call: fn(&[u8], &mut [u8]) -> Result<usize, Refusal>,
+    bytes: &[u8],
+    room: usize,
+    record: usize,
+) -> Result<Vec<u8>, String> {
+    let mut new = vec![0; room];
+    let count = call(bytes, &mut new).map_err(|no| refused(what, no))?;
+    new.truncate(count * record);
+    Ok(new)
+}
+
+/// Both files, where neither is refused, else the refusals.
+fn both(width: Width, table: Result<Vec<u8>, String>, shape: Result<Vec<u8>, String>) -> Result<Files, String> {
+    match (table, shape) {
+        (Ok(table), Ok(shape)) => Ok(Files { width, table, shape }),
+        (table, shape) => Err(table.err().unwrap_or_default() + &shape.err().unwrap_or_default()),
+    }
+}
+
+fn narrow(read: &Files) -> Result<Files, String> {
+    let to = Width::Six;
+    let table = moved("narrow the table", silmezga::narrow_table, &read.table, to.most_table_bytes(), to.row_bytes());
+    let shape = moved("narrow the shape", silmezga::narrow_shape, &read.shape, to.most_shape_bytes(), to.entry_bytes());
+    both(to, table, shape)
+}
+
+fn widen(read: &Files) -> Result<Files, String> {
+    let to = Width::Eight;
+    let table = moved("widen the table", silmezga::widen_table, &read.table, to.most_table_bytes(), to.row_bytes());
+    let shape = moved("widen the shape", silmezga::widen_shape, &read.shape, to.most_shape_bytes(), to.entry_bytes());
+    both(to, table, shape)
+}
+
+/// What judging says of files that were widened or narrowed.
+fn judged_as(call: &str, made: &Files) -> String {
+    let verdict = judged(made).unwrap_or_else(|no| refused("judge", no));
+    format!("{}: a table of {} bytes, a shape of {}\n{}", call, made.table.len(), made.shape.len(), verdict)
+}
+
+/// Narrow files widened: the same verdict; and the same bytes when they are narrowed again.
+fn widened(read: &Files) -> Result<String, String> {
+    let wide = widen(read)?;
+    let text = judged_as("widen", &wide);
+    let back = match narrow(&wide) {
+        Ok(back) if (&back.table, &back.shape) == (&read.table, &read.shape) => "narrow: the same bytes again\n".to_string(),
+        Ok(_) => "narrow: other bytes\n".to_string(),
+        Err(no) => no,
+    };
+    Ok(text + &back)
+}
+
+/// Wide files narrowed, where no level and no length of a type is over 6.
+fn narrowed(read: &Files) -> Result<String, String> {
+    Ok(judged_as("narrow", &narrow(read)?))
+}
+
+fn read_files(folder: &Path) -> Files {
+    let read = |name: &str| {
+        fs::read(folder.join(name)).unwrap_or_else(|e| {
+            eprintln!("{}: {}", folder.join(name).display(), e);
+            process::exit(2)
+        })
+    };
+    match fs::read(folder.join("source8.tab")) {
+        Ok(table) => Files { width: Width::Eight, table, shape: read("shape8.tab") },
+        Err(_) => Files { width: Width::Six, table: read("source.tab"), shape: read("shape.tab") },
+    }
 }
 
 fn main() {
@@ -100,19 +173,20 @@ fn main() {
         eprintln!("usage: show FOLDER");
         process::exit(2)
     };
-    let table = read(Path::new(folder), "source.tab");
-    let shape = read(Path::new(folder), "shape.tab");
+    let read = read_files(Path::new(folder));
     let parts = [
-        ("examine", examined(&table)),
-        ("look up", looked_up(&table, 3)),
-        ("look up", looked_up(&table, 9)),
-        ("adorn", adorned(&table, silmezga::MOST_TYPES)),
-        ("adorn", adorned(&table, 3)),
-        ("judge", judged(&table, &shape)),
-        ("reshape", reshaped(&table, &shape)),
-        ("summarise", summarised(&table, &shape)),
+        ("examine", examined(&read)),
+        ("look up", looked_up(&read, 3)),
+        ("look up", looked_up(&read, 9)),
+        ("adorn", adorned(&read, silmezga::MOST_TYPES)),
+        ("adorn", adorned(&read, 3)),
+        ("judge", judged(&read)),
+        ("reshape", reshaped(&read)),
+        ("summarise", summarised(&read)),
     ];
     for (call, part) in parts {
         print!("{}", part.unwrap_or_else(|no| refused(call, no)));
     }
+    let other = if read.width == Width::Eight { narrowed(&read) } else { widened(&read) };
+    print!("{}", other.unwrap_or_else(|no| no));
 }

@@ -1,16 +1,47 @@
-//! The six calls of Silmezga over its static library, safe: slices in, an answer or a refusal out.
+//! The six calls of Silmezga over its static library, and those that widen and narrow files, safe: slices in, an answer or a refusal out.
 //!
 //! The layouts of tables and shapes, the limits, and when each refusal is given stand in `include/silmezga.h`. What the calls answer
 //! is proved of the archive's functions; this file, which passes slices to them, is not covered by a proof.
 
-/// Bytes of a row of a table, and of a line of a new table.
-pub const ROW_BYTES: usize = 24;
-/// Bytes of an entry of a shape.
-pub const ENTRY_BYTES: usize = 16;
-/// The longest table that is accepted, in bytes: 1,024 rows.
-pub const MOST_TABLE_BYTES: usize = 24_576;
-/// The longest shape that is accepted, in bytes: 16 entries.
-pub const MOST_SHAPE_BYTES: usize = 256;
+/// The width of a table and of the shape that goes with it, and of the new table. A file does not say which it has: the caller does.
+#[repr(u32)]
+#[derive(Clone, Copy, Debug, PartialEq, Eq)]
+pub enum Width {
+    /// Narrow: six levels.
+    Six = 6,
+    /// Wide: eight levels.
+    Eight = 8,
+}
+
+impl Width {
+    /// The most levels of rows and entries, and the most labels of a type.
+    pub const fn levels(self) -> usize {
+        self as usize
+    }
+
+    /// Bytes of a row of a table, and of a line of a new table: 24 or 28.
+    pub const fn row_bytes(self) -> usize {
+        12 + 2 * self.levels()
+    }
+
+    /// Bytes of an entry of a shape: 16 or 20.
+    pub const fn entry_bytes(self) -> usize {
+        4 + 2 * self.levels()
+    }
+
+    /// The longest table that is accepted, in bytes: 24,576 or 28,672.
+    pub const fn most_table_bytes(self) -> usize {
+        MOST_ROWS * self.row_bytes()
+    }
+
+    /// The longest shape that is accepted, in bytes: 256 or 320.
+    pub const fn most_shape_bytes(self) -> usize {
+        MOST_ENTRIES * self.entry_bytes()
+    }
+}
+
+/// The most rows of a table.
+pub const MOST_ROWS: usize = 1_024;
 /// The most types of a table: so many summaries are always enough.
 pub const MOST_TYPES: usize = 64;
 /// The most entries of a shape.
@@ -18,7 +49,7 @@ pub const MOST_ENTRIES: usize = 16;
 /// The most lines of a new table.
 pub const MOST_LINES: usize = 4_096;
 
-/// Why a call was refused: the number, 1 to 11, and the place that the refusal names, 0 where it names none.
+/// Why a call was refused: the number, 1 to 29, and the place that the refusal names, 0 where it names none.
 #[derive(Clone, Copy, Debug, PartialEq, Eq)]
 pub struct Refusal {
     pub number: usize,
@@ -77,9 +108,9 @@ pub struct Summary {
 
 /// What the archive exports, as `include/silmezga.h` declares it.
 mod archive {
-    use super::{TypeSummary, MOST_ENTRIES};
+    use super::{TypeSummary, Width, MOST_ENTRIES};
 
-    /// The answer of examining, adorning and reshaping: a count of rows, types or lines.
+    /// The answer of examining, adorning, reshaping, widening and narrowing: a count of rows, types, lines or entries.
     #[repr(C)]
     pub struct Counted {
         pub number: usize,
@@ -116,11 +147,12 @@ mod archive {
     }
 
     extern "C" {
-        pub fn silmezga_examine(table: *const u8, table_len: usize) -> Counted;
-        pub fn silmezga_look_up(table: *const u8, table_len: usize, row: usize) -> LookedUp;
-        pub fn silmezga_adorn(table: *const u8, table_len: usize, summaries: *mut TypeSummary, lent: usize) -> Counted;
-        pub fn silmezga_judge(table: *const u8, table_len: usize, shape: *const u8, shape_len: usize) -> Judged;
+        pub fn silmezga_examine(width: Width, table: *const u8, table_len: usize) -> Counted;
+        pub fn silmezga_look_up(width: Width, table: *const u8, table_len: usize, row: usize) -> LookedUp;
+        pub fn silmezga_adorn(width: Width, table: *const u8, table_len: usize, summaries: *mut TypeSummary, lent: usize) -> Counted;
+        pub fn silmezga_judge(width: Width, table: *const u8, table_len: usize, shape: *const u8, shape_len: usize) -> Judged;
         pub fn silmezga_reshape(
+            width: Width,
             table: *const u8,
             table_len: usize,
             shape: *const u8,
@@ -130,7 +162,11 @@ mod archive {
             sources: *mut u32,
             source_places: usize,
         ) -> Counted;
-        pub fn silmezga_summarise(table: *const u8, table_len: usize, shape: *const u8, shape_len: usize) -> Summarised;
+        pub fn silmezga_summarise(width: Width, table: *const u8, table_len: usize, shape: *const u8, shape_len: usize) -> Summarised;
+        pub fn silmezga_widen_table(table: *const u8, table_len: usize, new: *mut u8, new_len: usize) -> Counted;
+        pub fn silmezga_narrow_table(table: *const u8, table_len: usize, new: *mut u8, new_len: usize) -> Counted;
+        pub fn silmezga_widen_shape(shape: *const u8, shape_len: usize, new: *mut u8, new_len: usize) -> Counted;
+        pub fn silmezga_narrow_shape(shape: *const u8, shape_len: usize, new: *mut u8, new_len: usize) -> Counted;
     }
 }
 
@@ -146,27 +182,27 @@ fn accepted<T>(number: usize, place: usize, answer: T) -> Result<T, Refusal> {
 }
 
 /// Examines a table: refusals 1 to 3, or the number of rows.
-pub fn examine(table: &[u8]) -> Result<usize, Refusal> {
-    let a = unsafe { archive::silmezga_examine(table.as_ptr(), table.len()) };
+pub fn examine(width: Width, table: &[u8]) -> Result<usize, Refusal> {
+    let a = unsafe { archive::silmezga_examine(width, table.as_ptr(), table.len()) };
     accepted(a.number, a.place, a.count)
 }
 
-/// Looks up a row: refusals 1 to 3 and 11, or the row's own 24 bytes of the table.
-pub fn look_up(table: &[u8], row: usize) -> Result<&[u8], Refusal> {
-    let a = unsafe { archive::silmezga_look_up(table.as_ptr(), table.len(), row) };
+/// Looks up a row: refusals 1 to 3 and 11, or the row's own bytes of the table, 24 or 28.
+pub fn look_up(width: Width, table: &[u8], row: usize) -> Result<&[u8], Refusal> {
+    let a = unsafe { archive::silmezga_look_up(width, table.as_ptr(), table.len(), row) };
     accepted(a.number, a.place, &table[a.start..a.start + a.length])
 }
 
 /// Adorns a table: refusals 1 to 4 and 10, or the number of types, whose summaries then stand at the front of those lent; those past the
 /// last type stay as they were.
-pub fn adorn(table: &[u8], summaries: &mut [TypeSummary]) -> Result<usize, Refusal> {
-    let a = unsafe { archive::silmezga_adorn(table.as_ptr(), table.len(), summaries.as_mut_ptr(), summaries.len()) };
+pub fn adorn(width: Width, table: &[u8], summaries: &mut [TypeSummary]) -> Result<usize, Refusal> {
+    let a = unsafe { archive::silmezga_adorn(width, table.as_ptr(), table.len(), summaries.as_mut_ptr(), summaries.len()) };
     accepted(a.number, a.place, a.count)
 }
 
 /// Judges a table and a shape: refusals 1 to 7, or the verdict and the second answer.
-pub fn judge(table: &[u8], shape: &[u8]) -> Result<Judgement, Refusal> {
-    let a = unsafe { archive::silmezga_judge(table.as_ptr(), table.len(), shape.as_ptr(), shape.len()) };
+pub fn judge(width: Width, table: &[u8], shape: &[u8]) -> Result<Judgement, Refusal> {
+    let a = unsafe { archive::silmezga_judge(width, table.as_ptr(), table.len(), shape.as_ptr(), shape.len()) };
     let (first, second) = (a.first, a.second);
     let verdict = match a.verdict {
         0 => Verdict::Kept,
@@ -180,10 +216,11 @@ pub fn judge(table: &[u8], shape: &[u8]) -> Result<Judgement, Refusal> {
 /// Reshapes a table: refusals 1 to 8, or the number of lines, which then stand at the front of `new`, and entry x 65,536 + source row of
 /// each at the front of `sources`. What lies past the last line stays as it was. Where judging says `none_apart`, nothing is made up,
 /// whatever the verdict. Where the verdict is 1, the row that it names stands in no line of the entry that it names. A new table of at most
-/// 1,024 lines is a sound source: it can be reshaped again with no test in between.
-pub fn reshape(table: &[u8], shape: &[u8], new: &mut [u8], sources: &mut [u32]) -> Result<usize, Refusal> {
+/// 1,024 lines is a sound source of the same width: it can be reshaped again with no test in between.
+pub fn reshape(width: Width, table: &[u8], shape: &[u8], new: &mut [u8], sources: &mut [u32]) -> Result<usize, Refusal> {
     let a = unsafe {
         archive::silmezga_reshape(
+            width,
             table.as_ptr(),
             table.len(),
             shape.as_ptr(),
@@ -198,8 +235,36 @@ pub fn reshape(table: &[u8], shape: &[u8], new: &mut [u8], sources: &mut [u32]) 
 }
 
 /// Summarises a reshape with room for 4,096 lines: refusals 1 to 8, or four figures of each entry.
-pub fn summarise(table: &[u8], shape: &[u8]) -> Result<Summary, Refusal> {
-    let a = unsafe { archive::silmezga_summarise(table.as_ptr(), table.len(), shape.as_ptr(), shape.len()) };
+pub fn summarise(width: Width, table: &[u8], shape: &[u8]) -> Result<Summary, Refusal> {
+    let a = unsafe { archive::silmezga_summarise(width, table.as_ptr(), table.len(), shape.as_ptr(), shape.len()) };
     let summary = Summary { lines: a.lines, rows: a.rows, copies: a.copies, different: a.different };
     accepted(a.number, a.place, summary)
+}
+
+/// Widens a narrow table: refusals 1 to 3 of the narrow width and 29, or the number of rows, which then stand at the front of `new`, 28
+/// bytes each. What lies past them stays as it was, here and in the three calls below.
+pub fn widen_table(table: &[u8], new: &mut [u8]) -> Result<usize, Refusal> {
+    let a = unsafe { archive::silmezga_widen_table(table.as_ptr(), table.len(), new.as_mut_ptr(), new.len()) };
+    accepted(a.number, a.place, a.count)
+}
+
+/// Narrows a wide table: refusals 1 to 3 of the wide width, 24 with the first row whose level is over 6, and 29, or the number of rows,
+/// which then stand at the front of `new`, 24 bytes each. Narrowing what was widened gives back the same bytes.
+pub fn narrow_table(table: &[u8], new: &mut [u8]) -> Result<usize, Refusal> {
+    let a = unsafe { archive::silmezga_narrow_table(table.as_ptr(), table.len(), new.as_mut_ptr(), new.len()) };
+    accepted(a.number, a.place, a.count)
+}
+
+/// Widens a narrow shape: refusals 5 and 6 of the narrow width and 29, or the number of entries, which then stand at the front of `new`,
+/// 20 bytes each.
+pub fn widen_shape(shape: &[u8], new: &mut [u8]) -> Result<usize, Refusal> {
+    let a = unsafe { archive::silmezga_widen_shape(shape.as_ptr(), shape.len(), new.as_mut_ptr(), new.len()) };
+    accepted(a.number, a.place, a.count)
+}
+
+/// Narrows a wide shape: refusals 5 and 6 of the wide width, 24 with the first entry whose level or type length is over 6, and 29, or the
+/// number of entries, which then stand at the front of `new`, 16 bytes each.
+pub fn narrow_shape(shape: &[u8], new: &mut [u8]) -> Result<usize, Refusal> {
+    let a = unsafe { archive::silmezga_narrow_shape(shape.as_ptr(), shape.len(), new.as_mut_ptr(), new.len()) };
+    accepted(a.number, a.place, a.count)
 }
