@@ -24,7 +24,7 @@ word-back pre x i rest e lt =
     ∙ getD-at (pre ++ (x % 256 ∷ [])) (x / 256 % 256) rest 0 (suc i) (omega (arith, length-append pre (x % 256 ∷ []))) in
     omega (arith, lo, hi)
 
-words-back : (pre : List ℕ) (xs : List ℕ) (i : ℕ) (rest : List ℕ) → length pre ≡ i → ((x : ℕ) → Has x xs → Small x)
+pub words-back : (pre : List ℕ) (xs : List ℕ) (i : ℕ) (rest : List ℕ) → length pre ≡ i → ((x : ℕ) → Has x xs → Small x)
     → words (length xs) (pre ++ (joinMap (bytes 2) xs ++ rest)) i ≡ xs
 words-back pre [] i rest e small = refl
 words-back pre (x ∷ xs) i rest e small =

@@ -33,3 +33,13 @@ pub mod WidenedCalls
 pub mod WidenedLines
 pub mod Narrowed
 pub mod Moving
+pub mod Pairs
+pub mod ConvertedFiles
+pub mod ConvertedTests
+pub mod Accepted
+pub mod Relabelled
+pub mod RelabelledShapes
+pub mod RelabelledCalls
+pub mod RelabelledLines
+pub mod ConvertedCalls
+pub mod ConvertedLeft

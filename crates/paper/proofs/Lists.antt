@@ -17,6 +17,7 @@ use Rattle.paper.specs.Samples
 use Rattle.paper.specs.Tried
 use Rattle.paper.specs.Further
 use Rattle.paper.specs.WidthSamples
+use Rattle.paper.specs.LabelSamples
 
 -- ---- tests
 pub both : (a b : Bool) → a && b ≡ true → (a ≡ true) × (b ≡ true)
@@ -36,6 +37,10 @@ or-left b e = ap (λ x. x || b) e
 pub or-right : (a : Bool) {b : Bool} → b ≡ true → a || b ≡ true
 or-right true e = refl
 or-right false e = e
+
+pub or-none : (x : Bool) → x || false ≡ x
+or-none true = refl
+or-none false = refl
 
 pub same-eq : (a b : List ℕ) → same a b ≡ true → a ≡ b
 same-eq [] [] e = refl

@@ -23,7 +23,7 @@ use Rattle.paper.proofs.Lines.{line-level, meet-ways}
 use Rattle.paper.proofs.Written.{lineNodes}
 
 -- ---- lists of which none stands twice
-abbrev Once : List (List ℕ) → Type 0
+abbrev pub Once : List (List ℕ) → Type 0
 Once [] = Unit
 Once (x ∷ xs) = (Has x xs → ⊥) × Once xs
 
@@ -64,7 +64,7 @@ keep-shorter x (y ∷ xs) h = go (same x y) refl h (keep-le (other x) xs) (keep-
     go false e (inl q) le ih = absurd (false≢true (sym e ∙ ap (same x) (sym q) ∙ same-self x))
     go false e (inr h) le ih = let lt = ih h in rw (e, keep) (omega arith)
 
-once-few : (xs ts : List (List ℕ)) → Once xs → ((x : List ℕ) → Has x xs → Has x ts) → length xs ≤ length ts
+pub once-few : (xs ts : List (List ℕ)) → Once xs → ((x : List ℕ) → Has x xs → Has x ts) → length xs ≤ length ts
 once-few [] ts o within = zero-le
 once-few (x ∷ xs) ts o within =
     let ih = once-few xs (keep (other x) ts) (o .1) (λ y h. has-keep (other x) y ts (within y (inr h)) (differs y h (same x y) refl)) in

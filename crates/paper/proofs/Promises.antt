@@ -80,7 +80,7 @@ module _ (f : Format) (b sb : List ℕ) (w : Work) (passed : tests1-7 f b sb ≡
   pub ways : Ways s
   ways = shape-ways f (types rs) (entries f sb) kept-entries
 
-  entries-size : length (s .ways) ≡ length (entries f sb)
+  pub entries-size : length (s .ways) ≡ length (entries f sb)
   entries-size = size f (types rs) (entries f sb) kept-entries
 
   pub some-entry : 0 < length (s .ways)

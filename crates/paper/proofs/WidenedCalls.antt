@@ -30,7 +30,7 @@ use Rattle.paper.proofs.WidenedShapes.{named-same, entries-laid, each-p
 
 -- ---- searches through a map
 module _ {A B : Type 0} (p : B → Bool) (q : A → Bool) (to : A → B) where
-  place-same : (xs : List A) → ((x : A) → Has x xs → p (to x) ≡ q x) → place p (map to xs) ≡ place q xs
+  pub place-same : (xs : List A) → ((x : A) → Has x xs → p (to x) ≡ q x) → place p (map to xs) ≡ place q xs
   place-same [] e = refl
   place-same (x ∷ xs) e =
       ap₂ (λ b k. elim b as (λ _. ℕ) [ true ↦ 0 | false ↦ suc k ]) (e x (inl refl)) (place-same xs (λ y h. e y (inr h)))
@@ -38,7 +38,7 @@ module _ {A B : Type 0} (p : B → Bool) (q : A → Bool) (to : A → B) where
   pub first-same : (xs : List A) → ((x : A) → Has x xs → p (to x) ≡ q x) → firstPlace p (map to xs) ≡ firstPlace q xs
   first-same xs e = ap₂ {C = Option ℕ} (λ i k. elim (ltb i k) as (λ _. Option ℕ) [ true ↦ some i | false ↦ none ]) (place-same xs e) (length-map xs to)
 
-getD-moved : {A B : Type 0} (to : A → B) (xs : List A) (i : ℕ) (d : A) (c : B) → i < length xs → getD (map to xs) i c ≡ to (getD xs i d)
+pub getD-moved : {A B : Type 0} (to : A → B) (xs : List A) (i : ℕ) (d : A) (c : B) → i < length xs → getD (map to xs) i c ≡ to (getD xs i d)
 getD-moved to [] i d c lt = absurd (not-suc-le-zero lt)
 getD-moved to (x ∷ xs) zero d c lt = refl
 getD-moved to (x ∷ xs) (suc i) d c lt = getD-moved to xs i d c (le-of-suc-le-suc lt)

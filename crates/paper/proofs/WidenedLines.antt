@@ -84,6 +84,20 @@ new-widened f n s rs ls each =
     ∙ ap (joinMap (recordTo f (deeper f n))) (sym (ap (λ k. records w k (joinMap own ls)) (whole-back w (omega arith) own ls size)
     ∙ records-back w (omega arith) own ls size))
 
+-- each line is a record of the format, on a level that it has
+pub line-shaped : (f : Format) (b s : List ℕ) (w : Work) → tests1-7 f b s ≡ given w → (l : Line) → Has l (lines (w .nodes) (w .shape) (f .levels))
+    → Shaped f (lineRow f (w .shape) (w .rows) l) × (length (l .dewey) ≤ f .levels)
+line-shaped f b s w h l i =
+    let e = passed1-7 f b s w h .2 in
+    subst (λ (w : Work).
+    Has l (lines (w .nodes) (w .shape) (f .levels)) → Shaped f (lineRow f (w .shape) (w .rows) l) × (length (l .dewey) ≤ f .levels)) (sym e)
+    (λ i. (
+      Reread.shaped f b (shapeOver (types (rows f b)) (entries f s)) (ways f b s w h) (some-entry f b s w h) (source-table f b s w h .one-place)
+          (numbered f b s w h) (omega (arith, few f b s w h)) (levels f b s w h) l i,
+      Reread.line-levels f b (shapeOver (types (rows f b)) (entries f s)) (ways f b s w h) (some-entry f b s w h) (source-table f b s w h .one-place)
+          (numbered f b s w h) (omega (arith, few f b s w h)) (levels f b s w h) l i,
+    )) i
+
 -- ---- a table of whole records and a shape past 5 and 6
 module _ (f : Format) (n : ℕ) (b : List ℕ) (even : length b % rowBytes f ≡ 0) (s : List ℕ) (es : List Entry) (sound : tests5-6 f s ≡ given es) where
   abbrev g : Format
@@ -120,20 +134,6 @@ module _ (f : Format) (n : ℕ) (b : List ℕ) (even : length b % rowBytes f ≡
       go (refused k p) h = refl
       go (given w) h = ap (λ a. reply noFigures (a >>= (λ ls. given (figures (w .nodes) (w .shape) ls)))) (test8-widened w h mostLines)
 
-  -- each line is a record of the format, on a level that it has
-  line-shaped : (w : Work) → tests1-7 f b s ≡ given w → (l : Line) → Has l (lines (w .nodes) (w .shape) (f .levels))
-      → Shaped f (lineRow f (w .shape) (w .rows) l) × (length (l .dewey) ≤ f .levels)
-  line-shaped w h l i =
-      let e = passed1-7 f b s w h .2 in
-      subst (λ (w : Work).
-      Has l (lines (w .nodes) (w .shape) (f .levels)) → Shaped f (lineRow f (w .shape) (w .rows) l) × (length (l .dewey) ≤ f .levels)) (sym e)
-      (λ i. (
-        Reread.shaped f b (shapeOver (types (rows f b)) (entries f s)) (ways f b s w h) (some-entry f b s w h) (source-table f b s w h .one-place)
-            (numbered f b s w h) (omega (arith, few f b s w h)) (levels f b s w h) l i,
-        Reread.line-levels f b (shapeOver (types (rows f b)) (entries f s)) (ways f b s w h) (some-entry f b s w h) (source-table f b s w h .one-place)
-            (numbered f b s w h) (omega (arith, few f b s w h)) (levels f b s w h) l i,
-      )) i
-
   -- THE RESHAPE of a widened table by a widened shape is the table's own, widened line by line, with the same source list; or it is refused alike.
   pub reshape-widened : (room : ℕ) → reshaping g wide wideShape room ≡ (reshaping f b s room >>= (λ x. given (tableTo f g (x .0), x .1)))
   unfolding reshaping
@@ -153,7 +153,7 @@ module _ (f : Format) (n : ℕ) (b : List ℕ) (even : length b % rowBytes f ≡
       written w h (refused k p) q = refl
       written w h (given ls) q =
           ap {B = Answer (List ℕ × List ℕ)} (λ t. given (t, sourceList ls)) (new-widened f n (w .shape) (w .rows) ls (λ l i.
-          line-shaped w h l (subst (λ z. Has l z) (sym (passed8 f w room ls q .0)) i)))
+          line-shaped f b s w h l (subst (λ z. Has l z) (sym (passed8 f w room ls q .0)) i)))
 
       go : (a : Answer Work) → tests1-7 f b s ≡ a → ((a >>= (λ w. given (workTo n w))) >>= next g) ≡ ((a >>= next f) >>= widen)
       go (refused k p) h = refl

@@ -14,13 +14,13 @@ Format = Declared.Format
 abbrev pub format : ℕ → ℕ → Format
 format levels labels = record { levels = levels; labels = labels }
 
--- levels 1 to 6, labels 1 to 999
+-- levels 1 to 6, labels 1 to 99
 unfoldable pub base : Format
-base = format 6 999
+base = format 6 99
 
 -- levels 1 to 8, the same labels
 unfoldable pub eight : Format
-eight = format 8 999
+eight = format 8 99
 
 -- ---- limits
 abbrev pub mostRows : ℕ

@@ -59,7 +59,7 @@ single = (table 0 ((1 ∷ [], 1) ∷ (1 ∷ 1 ∷ [], 2) ∷ []), entry 1 portfo
 
 -- an entry whose type no table here has
 abbrev stranger : ℕ → List ℕ
-stranger l = entry l (999 ∷ [])
+stranger l = entry l (99 ∷ [])
 
 -- ---- what the definitions say, as lists of figures
 -- number, place and count of rows
@@ -161,11 +161,11 @@ further =
     -- 2; beside 3
     ∷ (examined (zeros 1), (2 ∷ 0 ∷ 0 ∷ []) ∷ [])
     ∷ (examined (zeros 25), (2 ∷ 0 ∷ 0 ∷ []) ∷ [])
-    -- 3 at the first bad row: label 999 passes, 1,000 does not, and so levels 6 and 7; beside 4, beside 11
+    -- 3 at the first bad row: label 99 passes, 100 does not, and so levels 6 and 7; beside 4, beside 11
     ∷ (examined (zeros 24), (3 ∷ 0 ∷ 0 ∷ []) ∷ [])
     ∷ (examined (A ++ zeros 48), (3 ∷ 9 ∷ 0 ∷ []) ∷ [])
-    ∷ (examined (row (1 ∷ []) 999 0), (0 ∷ 0 ∷ 1 ∷ []) ∷ [])
-    ∷ (examined (row (1 ∷ []) 1000 0), (3 ∷ 0 ∷ 0 ∷ []) ∷ [])
+    ∷ (examined (row (1 ∷ []) 99 0), (0 ∷ 0 ∷ 1 ∷ []) ∷ [])
+    ∷ (examined (row (1 ∷ []) 100 0), (3 ∷ 0 ∷ 0 ∷ []) ∷ [])
     ∷ (examined (chain 6), (0 ∷ 0 ∷ 6 ∷ []) ∷ [])
     ∷ (examined (chain 6 ++ row (1 ∷ 1 ∷ 1 ∷ 1 ∷ 1 ∷ 2 ∷ 0 ∷ []) 1 0), (3 ∷ 6 ∷ 0 ∷ []) ∷ [])
     ∷ (judged (typed 65 ++ zeros 24) [], (3 ∷ 66 ∷ []) ∷ (0 ∷ []) ∷ [])

@@ -9,6 +9,7 @@ pub mod Figures
 pub mod Verdict
 pub mod Calls
 pub mod Widths
+pub mod Labels
 pub mod Links
 pub mod MadeUp
 pub mod Sound
@@ -19,3 +20,4 @@ pub mod Samples
 pub mod Further
 pub mod Tried
 pub mod WidthSamples
+pub mod LabelSamples

@@ -34,7 +34,7 @@ abbrev pub levelKept : ℕ → ℕ → Bool
 levelKept zero l = eqb l 1
 levelKept (suc before) l = between 2 l (suc (suc before))
 
--- level and length 1 to 6, bytes 2–3 zero, labels 1 to 999 within the length and zero past it
+-- level and length 1 to 6, bytes 2–3 zero, labels 1 to 99 within the length and zero past it
 unfoldable pub entryKept : Format → ℕ → Entry → Bool
 entryKept f before e =
     between 1 (e .level) (f .levels) && between 1 (e .size) (f .levels) && eqb (e .spare) 0

@@ -41,7 +41,7 @@ abbrev pub dewey : Row → List ℕ
 dewey r = take (r .level) (r .components)
 
 -- ---- the row rules
--- level 1 to 6, byte 1 zero, label 1 to 999, components past the level zero
+-- level 1 to 6, byte 1 zero, label 1 to 99, components past the level zero
 unfoldable pub fieldsKept : Format → Row → Bool
 fieldsKept f r =
     between 1 (r .level) (f .levels) && eqb (r .spare) 0 && between 1 (r .label) (f .labels) && all (eqb 0) (drop (r .level) (r .components))

@@ -23,11 +23,11 @@ pub fn format_of(width: Width) -> Format
     match width {
         Width::Six => Format {
             levels: 6,
-            labels: 999,
+            labels: 99,
         },
         Width::Eight => Format {
             levels: 8,
-            labels: 999,
+            labels: 99,
         },
     }
 }
