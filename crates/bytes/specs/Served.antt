@@ -1,6 +1,6 @@
 -- The formats that the layers serve. Assumes nothing.
 use Prim.Native.Nat.{ℕ, _≤_, _<_}
-use Rattle.paper.specs.Format.{Format}
+use Rattle.paper.specs.Format.{Format, format, rowBytes}
 
 -- A Dewey number goes by value, in so many places of 16 bits.
 abbrev pub mostLevels : ℕ
@@ -16,3 +16,7 @@ pub record Served (f : Format) : Type 0 where
   pub deep : leastLevels ≤ f .levels
   pub shallow : f .levels ≤ mostLevels
   pub small : f .labels < 65536
+
+-- the bytes of the longest record that the layers serve
+abbrev pub mostBytes : ℕ
+mostBytes = rowBytes (format mostLevels 0)

@@ -5,7 +5,7 @@ ghost use mathlib.Core.Path.{_≡_};
 ghost use Prim.Native.Nat.{_+_, _*_, _≤_, _<_};
 ghost use lib.ListN.{length, take, drop};
 ghost use lib.Seq.{sets};
-ghost use Rattle.paper.specs.Format.{rowBytes, entryBytes, word, number, span};
+ghost use Rattle.paper.specs.Format.{rowBytes, entryBytes, word, number, span, bytes};
 ghost use Rattle.bytes.specs.Part.{OwnFrom};
 
 // A byte as a number.
@@ -75,4 +75,13 @@ pub fn put(out: &mut [u8], at: usize, text: &[u8])
         out[at + k] = text[k];
         k += 1;
     }
+}
+
+// A 16-bit number, least byte first.
+pub fn put_word(new: &mut [u8], at: usize, x: u16)
+    requires { ⌜ at + 2 ≤ length (now new) ⌝ }
+    ensures { λ _. ⌜ now (new .exit) ≡ sets (now (new .entry)) at (bytes 2 x) ⌝ }
+{
+    new[at] = (x % 256) as u8;
+    new[at + 1] = (x / 256) as u8;
 }

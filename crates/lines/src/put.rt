@@ -8,15 +8,6 @@ ghost use Rattle.paper.specs.Lists.{joinMap};
 ghost use Rattle.paper.specs.Format.{valueBytes, span, bytes};
 ghost use Rattle.lines.specs.Put.{LineFits, withLine};
 
-// A 16-bit number, least byte first.
-fn put_word(new: &mut [u8], at: usize, x: u16)
-    requires { ⌜ at + 2 ≤ length (now new) ⌝ }
-    ensures { λ _. ⌜ now (new .exit) ≡ sets (now (new .entry)) at (bytes 2 x) ⌝ }
-{
-    new[at] = (x % 256) as u8;
-    new[at + 1] = (x / 256) as u8;
-}
-
 // The eight places of a Dewey number.
 fn put_number(new: &mut [u8], at: usize, number: [u16; 8])
     requires { ⌜ at + 16 ≤ length (now new) ⌝ }
@@ -24,7 +15,7 @@ fn put_number(new: &mut [u8], at: usize, number: [u16; 8])
 {
     let mut k = 0;
     while k < 8 {
-        put_word(new, at + 2 * k, number[k]);
+        bytes::put_word(new, at + 2 * k, number[k]);
         k += 1;
     }
 }
@@ -80,8 +71,8 @@ pub fn put_line(
     let start = width * place;
     new[start] = level;
     new[start + 1] = 0;
-    put_word(new, start + 2, label);
+    bytes::put_word(new, start + 2, label);
     put_number(new, start + 4, number);
-    put_word(new, start + 4 + 2 * at, position);
+    bytes::put_word(new, start + 4 + 2 * at, position);
     put_value(new, start + width - 8, value);
 }

@@ -4,3 +4,4 @@ pub mod Follows
 pub mod Rows
 pub mod Examine
 pub mod Unique
+pub mod Walks

@@ -1,66 +1,28 @@
--- The first record that is too deep, and the walk that finds it. Assumes nothing.
-use Prim.Native.Nat.{ℕ, suc, _+_, _≤_, _<_}
-use native.Mathlib.Numerals.{add-one}
+-- The first record that is too deep. Assumes nothing.
+use Prim.Native.Nat.{ℕ, suc}
 use native.Mathlib.Omega.{arith}
 use mathlib.Core.Path.{_≡_, refl, sym, _∙_, ap, ap₂}
-use mathlib.Core.Bool.{Bool, true, false, _||_, true≢false}
-use mathlib.Core.List.{List, [], _∷_, map}
+use mathlib.Core.Bool.{Bool, true, false, true≢false, _||_}
+use mathlib.Core.List.{List, _∷_, map, []}
 use mathlib.Core.Option.{none}
 use lib.Dec.{eqb, ltb}
-use lib.ListN.{drop}
 use borrow.Author.Tests.{le-ltb, eqb-true, eqb-false}
 use Rattle.paper.specs.Lists.{place}
 use Rattle.paper.specs.Format.{Format, rowBytes, entryBytes, byte, records, whole}
 use Rattle.paper.specs.Tables.{rowOf, rows, dewey, fieldsKept, follows, rowKept, badRow}
 use Rattle.paper.specs.Shapes.{entryOf, entries}
 use Rattle.paper.specs.Widths.{rowDeep, entryDeep}
-use Rattle.paper.proofs.Lists.{both}
+use Rattle.paper.proofs.Lists.{both, or-none}
 use Rattle.paper.proofs.Tables.{Rules, none-rules}
 use Rattle.tables.proofs.Laws.{spare-set}
-use Rattle.tables.proofs.Rows.{rec, drop-records}
 use Rattle.widths.specs.Moves.{recordDeep}
-use Rattle.widths.proofs.Moving.{records-end}
 
 -- ---- the place of what passes a test
 pub place-map : {A B : Type 0} (p : B → Bool) (g : A → B) (xs : List A) → place p (map g xs) ≡ place (λ x. p (g x)) xs
 place-map p g [] = refl
 place-map p g (x ∷ xs) = ap (λ n. elim (p (g x)) as (λ _. ℕ) [ true ↦ 0 | false ↦ suc n ]) (place-map p g xs)
 
--- ---- the walk: from record i on the first is the file's
-module _ (levels w n : ℕ) (b : List ℕ) where
-  -- whether each is too deep
-  abbrev marks : List Bool
-  marks = map (recordDeep levels) (records w n b)
-
-  abbrev first : List Bool → ℕ
-  first = place (λ (x : Bool). x)
-
-  abbrev pub Looking : ℕ → Type 0
-  Looking i = (i ≤ n) × (i + first (drop i marks) ≡ place (recordDeep levels) (records w n b))
-
-  pub looking-start : Looking 0
-  looking-start = (omega arith, omega (arith, place-map (λ (x : Bool). x) (recordDeep levels) (records w n b)))
-
-  module _ (i : ℕ) (looking : Looking i) where
-    at : i < n → (x : Bool) → recordDeep levels (rec w i b) ≡ x → first (drop i marks) ≡ first (x ∷ drop (i + 1) marks)
-    at lt x e =
-        ap first (drop-records (recordDeep levels) w n b i lt) ∙ ap (λ y. first (y ∷ drop (suc i) marks)) e
-        ∙ ap (λ k. first (x ∷ drop k marks)) (sym (add-one i))
-
-    pub looking-stop : i < n → recordDeep levels (rec w i b) ≡ true → i ≡ place (recordDeep levels) (records w n b)
-    looking-stop lt e = omega (arith, looking .1, at lt true e)
-
-    pub looking-on : i < n → recordDeep levels (rec w i b) ≡ false → Looking (i + 1)
-    looking-on lt e = (omega arith, omega (arith, looking .1, at lt false e))
-
-    pub looking-end : n ≤ i → n ≡ place (recordDeep levels) (records w n b)
-    looking-end le = omega (arith, looking .0, looking .1, ap first (records-end (recordDeep levels) w n b i le))
-
 -- ---- rows and entries
-or-none : (x : Bool) → x || false ≡ x
-or-none true = refl
-or-none false = refl
-
 module _ (f g : Format) where
   -- A row that keeps the rules has zero as its second byte.
   row-spare : (r : List ℕ) → fieldsKept f (rowOf f r) ≡ true → byte r 1 ≡ 0

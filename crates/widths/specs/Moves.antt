@@ -5,12 +5,7 @@ use mathlib.Core.List.{List, _++_}
 use lib.Dec.{ltb}
 use lib.ListN.{take, drop}
 use Rattle.paper.specs.Lists.{padded}
-use Rattle.paper.specs.Format.{format, rowBytes, byte}
-use Rattle.bytes.specs.Served.{mostLevels}
-
--- the bytes of the longest record that the layers serve
-abbrev pub mostBytes : ℕ
-mostBytes = rowBytes (format mostLevels 0)
+use Rattle.paper.specs.Format.{format, byte}
 
 -- a record whose list ends at byte `from`, with its list cut, or filled with zeros behind, to end at byte `to`
 abbrev pub fitted : ℕ → ℕ → List ℕ → List ℕ

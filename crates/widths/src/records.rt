@@ -6,7 +6,8 @@ ghost use lib.ListN.{length, getD, take};
 ghost use lib.Seq.{sets};
 ghost use Rattle.paper.specs.Lists.{place, joinMap, padded};
 ghost use Rattle.paper.specs.Format.{records, whole};
-ghost use Rattle.widths.specs.Moves.{mostBytes, fitted, movedBytes, recordDeep};
+ghost use Rattle.bytes.specs.Served.{mostBytes};
+ghost use Rattle.widths.specs.Moves.{fitted, movedBytes, recordDeep};
 
 // Byte k of the first `from` bytes of a record, zero past them.
 fn byte_of(r: &[u8], from: usize, k: usize) -> u8

@@ -7,7 +7,7 @@ use lib.ListN.{length}
 use lib.Seq.{sets}
 use Rattle.paper.specs.Format.{mostRows}
 use Rattle.paper.specs.Widths.{recordsTo}
-use Rattle.widths.specs.Moves.{mostBytes}
+use Rattle.bytes.specs.Served.{mostBytes}
 use Rattle.widths.proofs.Moving.{records-to, records-length}
 use Rattle.widths.proofs.Answers.{tested-deep, tested-short, tested-written}
 use borrow.Author.Needs.{needs}

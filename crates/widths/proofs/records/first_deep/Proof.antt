@@ -2,15 +2,16 @@
 use Prim.Native.Nat.{_-_}
 use native.Mathlib.Omega.{arith}
 use mathlib.Core.Path.{sym, _∙_, ap}
-use Rattle.tables.proofs.Rows.{row-in}
+use Rattle.paper.specs.Format.{records}
+use Rattle.tables.proofs.Rows.{rec, row-in}
+use Rattle.tables.proofs.Walks.{Looking, looking-start, looking-stop, looking-on, looking-end, count-records, next-record}
 use Rattle.widths.specs.Moves.{recordDeep}
-use Rattle.widths.proofs.Deep.{Looking, looking-start, looking-stop, looking-on, looking-end}
 use borrow.Author.Needs.{needs}
 use Rattle.widths.proofs.records.first_deep.Statement.{statement}
 use Rattle.widths.proofs.records.first_deep.Tie as tie
 
 abbrev Inv-loop : tie.InvT-loop
-Inv-loop b w count levels i₀ i = Looking levels w count b i
+Inv-loop b w count levels i₀ i = Looking (recordDeep levels) (records w count b) count i
 
 abbrev μ-loop : tie.MeasureT-loop
 μ-loop b w count levels i₀ i = count - i
@@ -19,7 +20,7 @@ abbrev begun : tie.At-loop Inv-loop μ-loop → tie.Start Inv-loop μ-loop
 begun l = l .before .before
 
 loop-holds : tie.Need-loop-holds Inv-loop μ-loop
-loop-holds c = let a = c .before .args in looking-start (a .levels) (a .w) (a .count) (a .b .now)
+loop-holds c = let a = c .before .args in looking-start (recordDeep (a .levels)) (records (a .w) (a .count) (a .b .now)) (a .count)
 
 record-requires : tie.Need-record-requires Inv-loop μ-loop
 record-requires c κs = let s = begun (c .before) in row-in (s .args .w) (c .before .loop .i) (s .args .b .now) (omega (arith, s .pre .1, c .loop-test .taken))
@@ -31,7 +32,8 @@ returns : tie.Need-returns Inv-loop μ-loop
 returns c =
     let l = c .before .before .before .before in
     let a = begun l .args in
-    looking-stop (a .levels) (a .w) (a .count) (a .b .now) (l .loop .i) (l .loop .inv) (omega arith)
+    looking-stop (recordDeep (a .levels)) (records (a .w) (a .count) (a .b .now)) (a .count) (l .loop .i) (l .loop .inv) (omega arith)
+    (rec (a .w) (l .loop .i) (a .b .now)) (next-record (a .w) (a .count) (a .b .now) (l .loop .i) (omega arith))
     (sym (c .before .is-deep .ensures ∙ ap (recordDeep (a .levels)) (c .before .before .«record» .ensures .0)) ∙ c .if1 .taken)
 
 add-i : tie.Need-add-i Inv-loop μ-loop
@@ -44,13 +46,15 @@ loop-again : tie.Need-loop-again Inv-loop μ-loop
 loop-again c =
     let l = c .before .before .before .before in
     let a = begun l .args in
-    looking-on (a .levels) (a .w) (a .count) (a .b .now) (l .loop .i) (l .loop .inv) (omega arith)
+    looking-on (recordDeep (a .levels)) (records (a .w) (a .count) (a .b .now)) (a .count) (l .loop .i) (l .loop .inv) (omega arith)
+    (rec (a .w) (l .loop .i) (a .b .now)) (next-record (a .w) (a .count) (a .b .now) (l .loop .i) (omega arith))
     (sym (c .before .is-deep .ensures ∙ ap (recordDeep (a .levels)) (c .before .before .«record» .ensures .0)) ∙ c .if1 .left)
 
 returns-2 : tie.Need-returns-2 Inv-loop μ-loop
 returns-2 c =
     let a = begun (c .before) .args in
-    looking-end (a .levels) (a .w) (a .count) (a .b .now) (c .before .loop .i) (c .before .loop .inv) (c .loop-test .left)
+    looking-end (recordDeep (a .levels)) (records (a .w) (a .count) (a .b .now)) (a .count) (c .before .loop .i) (c .before .loop .inv)
+    (count-records (a .w) (a .count) (a .b .now)) (c .loop-test .left)
 
 pub first-deep-spec : {M : Type 1} → statement M
 first-deep-spec =

@@ -6,14 +6,15 @@ use lib.ListN.{length}
 use lib.Seq.{sets}
 use Rattle.bytes.proofs.Laws.{record-in}
 use Rattle.tables.proofs.Rows.{row-in}
-use Rattle.widths.specs.Moves.{fitted}
-use Rattle.widths.proofs.Moving.{Going, going-start, going-on, going-end}
+use Rattle.tables.proofs.Walks.{Going, going-start, going-on, going-end}
+use Rattle.widths.specs.Moves.{fitted, movedBytes}
+use Rattle.widths.proofs.Moving.{fitted-as}
 use borrow.Author.Needs.{needs}
 use Rattle.widths.proofs.records.move_records.Statement.{statement}
 use Rattle.widths.proofs.records.move_records.Tie as tie
 
 abbrev Inv-loop : tie.InvT-loop
-Inv-loop b w count from to new₀ each i₀ new i = (i ≤ count) × Going w count b from to new₀ new i
+Inv-loop b w count from to new₀ each i₀ new i = (i ≤ count) × Going (fitted from to) w (movedBytes w from to) count b new₀ new i
 
 abbrev μ-loop : tie.MeasureT-loop
 μ-loop b w count from to new₀ each i₀ new i = count - i
@@ -30,7 +31,7 @@ moved-bytes-requires c κs = search needs
 loop-holds : tie.Need-loop-holds Inv-loop μ-loop
 loop-holds c =
     let a = c .before .before .before .args in
-    (omega arith, going-start (a .w) (a .count) (a .b .now) (a .from) (a .to) (a .new .now))
+    (omega arith, going-start (fitted (a .from) (a .to)) (a .w) _ (a .count) (a .b .now) (a .new .now))
 
 record-requires : tie.Need-record-requires Inv-loop μ-loop
 record-requires c κs =
@@ -76,8 +77,8 @@ loop-again c =
     let put = m .move-record .ensures
     ∙ ap₂ (λ n x. sets (l .loop .new) (n * l .loop .i) (fitted (a .from) (a .to) x)) (l .before .moved-bytes .ensures) (own .0) in (
       omega arith,
-      going-on (a .w) (a .count) (a .b .now) (a .from) (a .to) (a .new .now) (l .loop .new) (l .loop .i) (l .loop .inv .1)
-          (r .before .loop-test .taken) (sym (ap length (own .0)) ∙ own .1) _ put,
+      going-on (fitted (a .from) (a .to)) (a .w) _ (a .count) (a .b .now) (a .new .now) (l .loop .new) (l .loop .i) (l .loop .inv .1)
+          (fitted-as (a .w) (a .from) (a .to)) (r .before .loop-test .taken) (sym (ap length (own .0)) ∙ own .1) _ put,
     )
 
 same-length : tie.Need-same-length Inv-loop μ-loop
@@ -87,7 +88,7 @@ returns : tie.Need-returns Inv-loop μ-loop
 returns c =
     let l = c .before in
     let a = begun l .args in
-    going-end (a .w) (a .count) (a .b .now) (a .from) (a .to) (a .new .now) (l .loop .new) (l .loop .i) (l .loop .inv .1) (c .loop-test .left)
+    going-end (fitted (a .from) (a .to)) (a .w) _ (a .count) (a .b .now) (a .new .now) (l .loop .new) (l .loop .i) (l .loop .inv .1) (c .loop-test .left)
 
 pub move-records-spec : {M : Type 1} → statement M
 move-records-spec =

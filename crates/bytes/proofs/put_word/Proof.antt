@@ -1,10 +1,10 @@
 -- `put_word`: the two bytes are the number, least byte first. Assumes nothing.
 use lib.ListN.{length-set}
 use Rattle.bytes.proofs.Writing.{two-written}
 use native.Mathlib.Omega.{arith}
 use borrow.Author.Needs.{needs}
-use Rattle.lines.proofs.put.put_word.Statement.{statement}
-use Rattle.lines.proofs.put.put_word.Tie as tie
+use Rattle.bytes.proofs.put_word.Statement.{statement}
+use Rattle.bytes.proofs.put_word.Tie as tie
 
 cast-new : tie.Need-cast-new
 cast-new c = search needs
