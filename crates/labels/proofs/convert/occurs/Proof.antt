@@ -1,0 +1,59 @@
+-- `convert::occurs`: in the table, or in the shape. Assumes nothing.
+use native.Mathlib.Omega.{arith}
+use mathlib.Core.Path.{sym, _∙_, ap}
+use Rattle.paper.specs.Format.{whole}
+use Rattle.labels.proofs.Standing.{in-table, in-shape}
+use borrow.Author.Needs.{needs}
+use Rattle.labels.proofs.convert.occurs.Statement.{statement}
+use Rattle.labels.proofs.convert.occurs.Tie as tie
+
+row-bytes-requires : tie.Need-row-bytes-requires
+row-bytes-requires c κs = search needs
+
+file-has-requires : tie.Need-file-has-requires
+file-has-requires c κs =
+    let s = c .before .before .before in
+    let w = c .row-bytes .ensures in
+    let levels = s .pre .served .shallow in
+    (omega (arith, w), omega (arith, w, levels), s .pre .rows-counted ∙ ap (λ n. whole n (s .args .table .now)) (sym w))
+
+returns : tie.Need-returns
+returns c =
+    let h = c .before in
+    let w = h .before in
+    let s = w .before .before .before in
+    let a = s .args in
+    in-table (a .f) (a .table .now) (a .shape .now) (a .x) _ (a .rows) (w .row-bytes .ensures) (s .pre .rows-counted)
+    (sym (h .file-has .ensures) ∙ c .if1 .taken)
+
+entry-bytes-requires : tie.Need-entry-bytes-requires
+entry-bytes-requires c κs = search needs
+
+file-has-requires-2 : tie.Need-file-has-requires-2
+file-has-requires-2 c κs =
+    let s = c .before .before .before .before .before .before in
+    let w = c .entry-bytes .ensures in
+    let levels = s .pre .served .shallow in
+    (omega (arith, w), omega (arith, w, levels), s .pre .entries-counted ∙ ap (λ n. whole n (s .args .shape .now)) (sym w))
+
+returns-2 : tie.Need-returns-2
+returns-2 c =
+    let v = c .before in
+    let e = v .before in
+    let h = e .before in
+    let w = h .before in
+    let s = w .before .before .before in
+    let a = s .args in
+    in-shape (a .f) (a .table .now) (a .shape .now) (a .x) _ (a .rows) (w .row-bytes .ensures) (s .pre .rows-counted)
+    (sym (h .file-has .ensures) ∙ e .if1 .left) _ (a .entries) (v .entry-bytes .ensures) (s .pre .entries-counted) _ (c .file-has2 .ensures)
+
+pub occurs-spec : {M : Type 1} → statement M
+occurs-spec =
+    tie.close
+    (tie.spec
+    row-bytes-requires
+    file-has-requires
+    returns
+    entry-bytes-requires
+    file-has-requires-2
+    returns-2)
