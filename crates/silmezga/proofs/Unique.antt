@@ -1,16 +1,17 @@
 -- The contract of each call, as the root file has it, asks nothing and settles what a caller sees: of any two results that it allows
 -- both are one, and so is what they leave of what was lent. A clause taken away or weakened is refused here. Assumes nothing.
 use Prim.Native.Nat.{ℕ, _*_, _≤_}
-use mathlib.Core.Path.{_≡_, sym, _∙_, ap}
+use mathlib.Core.Path.{_≡_, refl, sym, _∙_, ap}
 use mathlib.Core.Bool.{true}
 use mathlib.Core.List.{List, map}
-use lib.ListN.{take}
+use lib.ListN.{length, take}
 use denote.Ref.{now}
 use Rattle.paper.specs.Format.{Format, mostRows, rowBytes}
 use Rattle.paper.specs.Widths as Widths
 use Rattle.paper.specs.Widths.{formatOf}
 use Rattle.paper.specs.Verdict.{kept, missing}
-use Rattle.paper.specs.Calls.{Reply, adorn, judge}
+use Rattle.paper.specs.Calls.{given, Reply, adorn, judge}
+use Rattle.paper.specs.Labels.{pairs, converting, Converting}
 use Rattle.paper.specs.Links.{LinksKept}
 use Rattle.paper.specs.MadeUp.{NothingMadeUp, unshown}
 use Rattle.paper.specs.Shown.{FiguresAgree}
@@ -18,6 +19,10 @@ use Rattle.paper.specs.Sound.{SoundSource}
 use Rattle.widths.specs.Answers.{Moves}
 use Rattle.widths.specs.declared.moves.Moved.{Moved}
 use Rattle.widths.proofs.Unique.{moves-unique}
+use Rattle.labels.specs.Answers.{Converts}
+use Rattle.labels.specs.declared.convert.Converted.{Converted}
+use Rattle.labels.proofs.Unique.{converts-unique, converts-left}
+use Rattle.bytes.proofs.Laws.{format-served}
 use Rattle.adorned.specs.Told.{told}
 use Rattle.adorned.specs.Lent.{adornedTypes}
 use Rattle.adorned.specs.declared.TypeSummary.{TypeSummary}
@@ -41,6 +46,7 @@ use Rattle.silmezga.proofs.widen_table.Reads as widen-table
 use Rattle.silmezga.proofs.narrow_table.Reads as narrow-table
 use Rattle.silmezga.proofs.widen_shape.Reads as widen-shape
 use Rattle.silmezga.proofs.narrow_shape.Reads as narrow-shape
+use Rattle.silmezga.proofs.convert_labels.Reads as convert-labels
 
 -- ---- examining and looking up
 pub examine-asks : Asks-nothing examine.Asked
@@ -161,3 +167,25 @@ narrow-shape-asks κs a = tt
 
 pub narrow-shape-settled : Settles {X = Moved × List ℕ} narrow-shape.Learnt (λ κs r e. (r, now (e .1 .0)))
 narrow-shape-settled κs a r s e f = moved-settled _ r s _ _
+
+-- ---- converting labels: the answer, and every byte lent for the table and for the shape after it
+pub converted-settled : (c : Converting) (r s : Converted) (t₁ u₁ t₂ u₂ : List ℕ) → Converts c r t₁ u₁ → Converts c s t₂ u₂
+    → _≡_ {A = Converted × (List ℕ × List ℕ)} (r, (t₁, u₁)) (s, (t₂, u₂))
+converted-settled c r s t₁ u₁ t₂ u₂ x y = let u = converts-unique c r s t₁ u₁ t₂ u₂ x y in λ i. (u .0 i, (u .1 i, u .2 i))
+
+pub convert-labels-asks : Asks-nothing convert-labels.Asked
+convert-labels-asks κs a = tt
+
+pub convert-labels-settled : Settles {X = Converted × (List ℕ × List ℕ)} convert-labels.Learnt (λ κs r e. (r, (now (e .1 .1 .1 .1 .0), now (e .1 .1 .1 .1 .1 .0))))
+convert-labels-settled κs a r s e f = converted-settled _ r s _ _ _ _
+
+-- What an accepted call leaves is an accepted conversion, of which the theorems on one are (paper's ConvertedCalls).
+pub convert-labels-leaves : (κs : _) (a : _) (r : Converted) (e : _) → convert-labels.Learnt κs a r e → r .number ≡ 0
+    → converting (formatOf (a .0)) (now (a .1 .0)) (now (a .1 .1 .0)) (pairs (now (a .1 .1 .1 .0)))
+    (length (now (a .1 .1 .1 .1 .0))) (length (now (a .1 .1 .1 .1 .1 .0)))
+    ≡ given (
+      record { rows = r .rows; entries = r .entries },
+      take (length (now (a .1 .0))) (now (e .1 .1 .1 .1 .0)),
+      take (length (now (a .1 .1 .0))) (now (e .1 .1 .1 .1 .1 .0)),
+    )
+convert-labels-leaves κs a r e x = converts-left (formatOf (a .0)) (format-served _ (a .0) refl .small) _ _ _ _ _ r _ _ x

@@ -1,8 +1,8 @@
-// The six calls, widening and narrowing, each with its whole promise: document 01's order, its refusals, and what every lent byte, place and summary holds
-// afterwards. None asks anything of its caller: a call takes bytes of every kind and gives its answer, or a refusal with a number and a
-// place, and a refused call changes nothing that it was lent. The definitions that the promises name are those of `paper` (specs/Calls).
-// The caller says which width its files have, and each promise is over the format that the width names. `reader` is the small reader over
-// a table, under the same rule.
+// The six calls, widening and narrowing, and converting labels, each with its whole promise: its refusals in their order, and what every lent byte,
+// place and summary holds afterwards. None asks anything of its caller: a call takes bytes of every kind and gives its answer, or a refusal with a
+// number and a place, and a refused call changes nothing that it was lent. The definitions that the promises name are those of `paper` (specs/Calls,
+// specs/Widths, specs/Labels). The caller says which width its files have, and each promise is over the format that the width names. `reader` is
+// the small reader over a table, under the same rule.
 pub mod reader;
 
 use adorned::Adorned;
@@ -10,6 +10,7 @@ pub use adorned::TypeSummary;
 pub use adorned::lent::AdornedTypes;
 pub use judging::judge::Judged;
 pub use judging::verdict::Verdict;
+pub use labels::convert::Converted;
 pub use paper::Width;
 pub use reshaping::reshape::Reshaped;
 pub use reshaping::summarise::Summary;
@@ -21,10 +22,12 @@ ghost use mathlib.Core.List.{map};
 ghost use Rattle.paper.specs.Format.{base, eight};
 ghost use Rattle.paper.specs.Widths.{formatOf, moveTable, moveShape};
 ghost use Rattle.paper.specs.Calls.{examine, lookUp, adorn, judge, summarise};
+ghost use Rattle.paper.specs.Labels.{convert};
 ghost use Rattle.tables.specs.Reply.{examined, HandsBack};
 ghost use Rattle.adorned.specs.Told.{told, Says, adornFigures};
 ghost use Rattle.adorned.specs.Lent.{adornedTypes};
 ghost use Rattle.widths.specs.Answers.{Moves};
+ghost use Rattle.labels.specs.Answers.{Converts};
 ghost use Rattle.judging.specs.Judged.{judged, inNumbers};
 ghost use Rattle.reshaping.specs.Reshaped.{Reshapes, summarised};
 
@@ -135,4 +138,30 @@ pub fn narrow_shape(shape: &[u8], new: &mut [u8]) -> Moved
     ensures { λ r. ⌜ Moves (moveShape eight base (now (shape .entry)) (now (new .entry))) r (now (new .exit)) ⌝ }
 {
     widths::moves::shape_between(shape, Width::Eight, Width::Six, new)
+}
+
+// Converts the labels of a stored table and its shape by a list of pairs, old label (100 to 999) then new (1 to 99): refusals 1 to 3, 5 and 6 on
+// the old range, labels 1 to 999; then 25 with the first pair to break a rule, half pairs too; 26 with the first row, else the first entry, that
+// has a label above 99 not in the list; then 29, or the counts of rows and entries, with the table and the shape at the front of what was lent
+// for each. What lies past them stays as it was.
+pub fn convert_labels(
+    width: Width,
+    table: &[u8],
+    shape: &[u8],
+    pairs: &[u16],
+    new_table: &mut [u8],
+    new_shape: &mut [u8],
+) -> Converted
+    ensures { λ r. ⌜
+        (let asked = convert (formatOf width) (now (table .entry)) (now (shape .entry)) (now (pairs .entry)) (now («new_table» .entry)) (now («new_shape» .entry)) in
+        Converts asked r (now («new_table» .exit)) (now («new_shape» .exit))) ⌝ }
+{
+    labels::convert::convert(
+        table,
+        shape,
+        pairs,
+        paper::format_of(width),
+        new_table,
+        new_shape,
+    )
 }

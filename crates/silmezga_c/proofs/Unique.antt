@@ -22,7 +22,8 @@ use Rattle.reshaping.specs.declared.reshape.Reshaped.{Reshaped}
 use Rattle.reshaping.specs.declared.summarise.Summary.{Summary}
 use Rattle.widths.specs.declared.moves.Moved.{Moved}
 use Rattle.silmezga.proofs.Settles.{Asks-nothing, Settles, Walk-asks-nothing, Walk-settles, nothing, two-clauses}
-use Rattle.silmezga.proofs.Unique.{adorn-unique, moved-settled}
+use Rattle.labels.specs.declared.convert.Converted.{Converted}
+use Rattle.silmezga.proofs.Unique.{adorn-unique, moved-settled, converted-settled}
 use Rattle.silmezga_c.specs.Told.{formatNumbered, LooksUp, inFour, fourNumbers}
 use Rattle.silmezga_c.specs.declared.LookedUp.{LookedUp}
 use Rattle.silmezga_c.specs.declared.JudgedNumbers.{JudgedNumbers}
@@ -36,6 +37,7 @@ use Rattle.silmezga_c.proofs.silmezga_widen_table.Reads as widen-table
 use Rattle.silmezga_c.proofs.silmezga_narrow_table.Reads as narrow-table
 use Rattle.silmezga_c.proofs.silmezga_widen_shape.Reads as widen-shape
 use Rattle.silmezga_c.proofs.silmezga_narrow_shape.Reads as narrow-shape
+use Rattle.silmezga_c.proofs.silmezga_convert_labels.Reads as convert-labels
 
 -- ---- examining and looking up
 pub examine-asks : Asks-nothing examine.Asked
@@ -159,3 +161,10 @@ narrow-shape-asks κs a = tt
 
 pub narrow-shape-settled : Settles {X = Moved × List ℕ} narrow-shape.Learnt (λ κs r e. (r, now (e .1 .0)))
 narrow-shape-settled κs a r s e f = moved-settled _ r s _ _
+
+-- ---- converting labels: the answer, and every byte lent for the table and for the shape after it
+pub convert-labels-asks : Asks-nothing convert-labels.Asked
+convert-labels-asks κs a = tt
+
+pub convert-labels-settled : Settles {X = Converted × (List ℕ × List ℕ)} convert-labels.Learnt (λ κs r e. (r, (now (e .1 .1 .1 .1 .0), now (e .1 .1 .1 .1 .1 .0))))
+convert-labels-settled κs a r s e f = converted-settled _ r s _ _ _ _

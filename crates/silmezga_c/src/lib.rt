@@ -6,6 +6,7 @@ use adorned::TypeSummary;
 use adorned::lent::AdornedTypes;
 use reshaping::reshape::Reshaped;
 use reshaping::summarise::Summary;
+use silmezga::Converted;
 use silmezga::Moved;
 use silmezga::Verdict;
 use silmezga::Width;
@@ -15,11 +16,13 @@ ghost use mathlib.Core.List.{[], _∷_, map};
 ghost use Rattle.paper.specs.Format.{base, eight};
 ghost use Rattle.paper.specs.Widths.{moveTable, moveShape};
 ghost use Rattle.paper.specs.Calls.{examine, adorn, judge, summarise};
+ghost use Rattle.paper.specs.Labels.{convert};
 ghost use Rattle.tables.specs.Reply.{examined};
 ghost use Rattle.adorned.specs.Told.{told};
 ghost use Rattle.adorned.specs.Lent.{adornedTypes};
 ghost use Rattle.reshaping.specs.Reshaped.{Reshapes, summarised};
 ghost use Rattle.widths.specs.Answers.{Moves};
+ghost use Rattle.labels.specs.Answers.{Converts};
 ghost use Rattle.silmezga_c.specs.Told.{widthOf, formatNumbered, LooksUp, asNumber, inFour, fourNumbers};
 
 // The width that a number names.
@@ -217,4 +220,22 @@ pub extern "C" fn silmezga_narrow_shape(shape: &[u8], new: &mut [u8]) -> Moved
     ensures { λ r. ⌜ Moves (moveShape eight base (now (shape .entry)) (now (new .entry))) r (now (new .exit)) ⌝ }
 {
     silmezga::narrow_shape(shape, new)
+}
+
+// Refusals 1 to 3, 5 and 6 on the old range of labels, then 25, 26 and 29, or the counts of rows and entries, with the converted table and shape
+// at the front of what was lent for each; what lies past them stays as it was.
+#[no_mangle]
+pub extern "C" fn silmezga_convert_labels(
+    width: u32,
+    table: &[u8],
+    shape: &[u8],
+    pairs: &[u16],
+    new_table: &mut [u8],
+    new_shape: &mut [u8],
+) -> Converted
+    ensures { λ r. ⌜
+        (let asked = convert (formatNumbered width) (now (table .entry)) (now (shape .entry)) (now (pairs .entry)) (now («new_table» .entry)) (now («new_shape» .entry)) in
+        Converts asked r (now («new_table» .exit)) (now («new_shape» .exit))) ⌝ }
+{
+    silmezga::convert_labels(width_of(width), table, shape, pairs, new_table, new_shape)
 }

@@ -1,0 +1,37 @@
+-- `silmezga::convert_labels` meets its contract. Assumes nothing.
+use mathlib.Core.Path.{subst}
+use Rattle.paper.specs.Format.{Format}
+use Rattle.paper.specs.Labels.{convert}
+use Rattle.labels.specs.Answers.{Converts}
+use Rattle.bytes.proofs.Laws.{format-served}
+use borrow.Author.Needs.{needs}
+use Rattle.silmezga.proofs.convert_labels.Statement.{statement}
+use Rattle.silmezga.proofs.convert_labels.Tie as tie
+
+abbrev begun : tie.After-format-of → tie.Start
+begun k = k .before .before .before .before .before .before
+
+format-of-requires : tie.Need-format-of-requires
+format-of-requires c κs = search needs
+
+convert-requires : tie.Need-convert-requires
+convert-requires c κs = let k = c .before .before in format-served _ (begun k .args .width) (k .format-of .ensures)
+
+same-length : tie.Need-same-length
+same-length c = search needs
+
+same-length-2 : tie.Need-same-length-2
+same-length-2 c = search needs
+
+returns : tie.Need-returns
+returns c =
+    let v = c .before .before .before .before in
+    let k = v .before .before .before in
+    let a = begun k .args in
+    let left = v .convert .last .1 .1 .1 .1 in
+    subst (λ (f : Format). Converts (convert f (a .table .now) (a .shape .now) (a .pairs .now) (a .new-table .now) (a .new-shape .now)) (v .convert .result)
+    (left .0) (left .1 .0)) (k .format-of .ensures) (v .convert .ensures)
+
+pub convert-labels-spec : {M : Type 1} → statement M
+convert-labels-spec =
+    tie.close (tie.spec format-of-requires convert-requires same-length same-length-2 returns)

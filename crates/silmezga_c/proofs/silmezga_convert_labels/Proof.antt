@@ -1,0 +1,33 @@
+-- `silmezga_c::silmezga_convert_labels` meets its contract. Assumes nothing.
+use mathlib.Core.Path.{subst}
+use Rattle.paper.specs.Widths.{formatOf}
+use Rattle.paper.specs.Labels.{convert}
+use Rattle.paper.specs.declared.Width.{Width}
+use Rattle.labels.specs.Answers.{Converts}
+use borrow.Author.Needs.{needs}
+use Rattle.silmezga_c.proofs.silmezga_convert_labels.Statement.{statement}
+use Rattle.silmezga_c.proofs.silmezga_convert_labels.Tie as tie
+
+width-of-requires : tie.Need-width-of-requires
+width-of-requires c κs = search needs
+
+convert-labels-requires : tie.Need-convert-labels-requires
+convert-labels-requires c κs = search needs
+
+same-length : tie.Need-same-length
+same-length c = search needs
+
+same-length-2 : tie.Need-same-length-2
+same-length-2 c = search needs
+
+returns : tie.Need-returns
+returns c =
+    let v = c .before .before .before .before in
+    let k = v .before .before .before in
+    let a = k .before .before .before .before .before .before .args in
+    let left = v .convert-labels .last .1 .1 .1 .1 in
+    subst (λ (w : Width). Converts (convert (formatOf w) (a .table .now) (a .shape .now) (a .pairs .now) (a .new-table .now) (a .new-shape .now))
+    (v .convert-labels .result) (left .0) (left .1 .0)) (k .width-of .ensures) (v .convert-labels .ensures)
+
+pub silmezga-convert-labels-spec : {M : Type 1} → statement M
+silmezga-convert-labels-spec = tie.close (tie.spec width-of-requires convert-labels-requires same-length same-length-2 returns)
