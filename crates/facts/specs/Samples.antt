@@ -16,7 +16,7 @@ wrongEntry = 7 ∷ 2 ∷ 1 ∷ 2 ∷ 1 ∷ 0 ∷ 21 ∷ 0 ∷ 231 ∷ 3 ∷ 0 �
 
 -- an entry of eight labels, and a row on level 8 whose value stands after eight components
 wideEntry : List ℕ
-wideEntry = 8 ∷ 8 ∷ 0 ∷ 0 ∷ 1 ∷ 0 ∷ 2 ∷ 0 ∷ 3 ∷ 0 ∷ 3 ∷ 0 ∷ 3 ∷ 0 ∷ 3 ∷ 0 ∷ 3 ∷ 0 ∷ 231 ∷ 3 ∷ []
+wideEntry = 8 ∷ 8 ∷ 0 ∷ 0 ∷ 1 ∷ 0 ∷ 2 ∷ 0 ∷ 3 ∷ 0 ∷ 3 ∷ 0 ∷ 3 ∷ 0 ∷ 3 ∷ 0 ∷ 3 ∷ 0 ∷ 99 ∷ 0 ∷ []
 
 wideRow : List ℕ
 wideRow = 8 ∷ 0 ∷ 4 ∷ 0 ∷ 1 ∷ 0 ∷ 2 ∷ 0 ∷ 3 ∷ 0 ∷ 4 ∷ 0 ∷ 5 ∷ 0 ∷ 6 ∷ 0 ∷ 7 ∷ 0 ∷ 0 ∷ 1 ∷ 9 ∷ 0 ∷ 0 ∷ 0 ∷ 0 ∷ 0 ∷ 0 ∷ 0 ∷ []
@@ -25,7 +25,7 @@ wideRow = 8 ∷ 0 ∷ 4 ∷ 0 ∷ 1 ∷ 0 ∷ 2 ∷ 0 ∷ 3 ∷ 0 ∷ 4 ∷ 0 �
 pub samples : List (List ℕ × List ℕ)
 samples =
     (entryText base 1 (entry 2 lease), ascii "entry 1: portfolio lessee lease\n")
-    ∷ (entryText base 15 (entry 1 (21 ∷ 999 ∷ [])), ascii "entry 15: 21 999\n")
+    ∷ (entryText base 15 (entry 1 (21 ∷ 99 ∷ [])), ascii "entry 15: 21 99\n")
     ∷ (entryText base 0 wrongEntry, ascii "entry 0: portfolio 21\n")
     ∷ (rowText base 8 (row (1 ∷ 2 ∷ 1 ∷ []) 3 800) (entry 1 lease), ascii "row 8: 1.2.1, portfolio lessee lease, value 800\n")
     ∷ (rowText base 0 (row (1 ∷ []) 1 (2 ^ 64 - 1)) (entry 1 portfolio), ascii "row 0: 1, portfolio, value -1\n")
@@ -35,10 +35,10 @@ samples =
     )
     ∷ (entryFields base 2 wrongEntry, ascii "entry 2: level 7, length of its type 2, zero bytes 513, labels 1.21.999.0.0.256\n")
     -- wide ones
-    ∷ (entryText eight 3 wideEntry, ascii "entry 3: portfolio lessee lease lease lease lease lease 999\n")
-    ∷ (rowText eight 9 wideRow wideEntry, ascii "row 9: 1.2.3.4.5.6.7.256, portfolio lessee lease lease lease lease lease 999, value 9\n")
+    ∷ (entryText eight 3 wideEntry, ascii "entry 3: portfolio lessee lease lease lease lease lease 99\n")
+    ∷ (rowText eight 9 wideRow wideEntry, ascii "row 9: 1.2.3.4.5.6.7.256, portfolio lessee lease lease lease lease lease 99, value 9\n")
     ∷ (rowFields eight 9 wideRow, ascii "row 9: level 8, zero byte 0, label 4, number 1.2.3.4.5.6.7.256, value 9\n")
-    ∷ (entryFields eight 3 wideEntry, ascii "entry 3: level 8, length of its type 8, zero bytes 0, labels 1.2.3.3.3.3.3.999\n")
+    ∷ (entryFields eight 3 wideEntry, ascii "entry 3: level 8, length of its type 8, zero bytes 0, labels 1.2.3.3.3.3.3.99\n")
     ∷ []
 
 -- every sample is reported as it should be

@@ -46,11 +46,11 @@ samples =
     ∷ (printed [] (entry 1 (3 ∷ []) ++ entry 2 (2 ∷ []) ++ entry 2 (4 ∷ [])), ascii "refused 7 0\n")
     -- P6: verdict 2, entries 1 and 2
     ∷ (verdictText (2 ∷ 1 ∷ 2 ∷ []), ascii "verdict 2 1 2\n")
-    -- labels 1, 20, 21 and 999
+    -- labels 1, 20, 21 and 99
     ∷ (lineOf base (1 ∷ []) 1 0 0 0, ascii "1 0 portfolio 0 0\n")
     ∷ (lineOf base (1 ∷ 2 ∷ []) 20 7 1 9, ascii "1.2 1 document 9 7\n")
     ∷ (lineOf base (1 ∷ 2 ∷ []) 21 10 1 10, ascii "1.2 1 21 10 10\n")
-    ∷ (lineOf base (10 ∷ []) 999 99 15 1023, ascii "10 15 999 1023 99\n")
+    ∷ (lineOf base (10 ∷ []) 99 999 15 1023, ascii "10 15 99 1023 999\n")
     -- values: -1, the least and the greatest
     ∷ (lineOf base (1 ∷ []) 3 (2 ^ 64 - 1) 0 0, ascii "1 0 lease 0 -1\n")
     ∷ (lineOf base (1 ∷ []) 3 (2 ^ 63) 0 0, ascii "1 0 lease 0 -9223372036854775808\n")

@@ -45,8 +45,8 @@ samples =
     ∷ (typeOf 22 2 5 1 4 21, ascii "  22 5 rows, 1..4 under a 21\n")
     -- level 6, the largest numbers
     ∷ (
-      typeOf 999 6 largest 1 largest 10,
-      ascii "          999 18446744073709551615 rows, 1..18446744073709551615 under an insurance\n",
+      typeOf 99 6 largest 1 largest 10,
+      ascii "          99 18446744073709551615 rows, 1..18446744073709551615 under an insurance\n",
     )
     -- each vowel, and letters that are none
     ∷ (article (ascii "asset"), ascii "an")
