@@ -26,7 +26,7 @@ verdict 0
 
 
 def rows_of(lines, levels=6):
-    return [(row.dewey, row.label) for row in paper01.keep_row_rules(lines, levels, 999)]
+    return [(row.dewey, row.label) for row in paper01.keep_row_rules(lines, levels, paper01.MOST_LABEL)]
 
 
 def said(case):
@@ -100,7 +100,7 @@ def refused_again():
     own = shape((1, (3,)), (2, (3, 2)), (2, (3, 4)))
     yield from each_again(leases(), {
         own[:-1]: "refused 5 0", own + shape(*[(2, (3, 4))] * 14): "refused 5 0", with_byte(own, 0, 2): "refused 6 0",
-        shape((1, (3,)), (2, (1000,))): "refused 6 1", own + shape((4, (3, 4))): "refused 6 3", GOOD_SHAPE: "refused 7 0",
+        shape((1, (3,)), (2, (100,))): "refused 6 1", own + shape((4, (3, 4))): "refused 6 3", GOOD_SHAPE: "refused 7 0",
         shape((1, (3,)), (2, (2,))): "refused 7 1", own + shape((2, (3, 4, 4))): "refused 7 3"})
 
 

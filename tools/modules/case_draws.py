@@ -184,7 +184,7 @@ def absent(rng):
     kind = [int.from_bytes(case.shape[at + 4 + 2 * k:at + 6 + 2 * k], "little") for k in range(size)]
     way = rng.randrange(4)
     if way == 0:
-        kind[rng.randrange(size)] = rng.choice((1, 2, 3, 256, 999))
+        kind[rng.randrange(size)] = rng.choice((1, 2, 3, 99, 257))
     elif way == 1:
         kind = kind[1:] or kind + [9]
     elif way == 2:

@@ -6,8 +6,9 @@ import functools, typing
 
 import paper01
 
-# the program's rooms: some records and places more than a reshape uses, a summary more than there are types, and some bytes more than a table
-MOST_RECORDS, MOST_SUMMARIES, MOST_MOVED = 4100, 65, 30000
+# the program's rooms: some records and places more than a reshape uses, a summary more than there are types, some bytes more than a table, and the
+# numbers of a list of pairs
+MOST_RECORDS, MOST_SUMMARIES, MOST_MOVED, MOST_NUMBERS = 4100, 65, 30000, 1024
 
 # a narrow file is widened, and a wide one narrowed
 OTHER = {6: 8, 8: 6}
@@ -15,13 +16,11 @@ OTHER = {6: 8, 8: 6}
 # what a lent summary holds before the call
 MARK = (7777,) * 6
 
-# so many lines are printed whole; of more, their sum
-LINES_SHOWN = 40
-
 
 class Case(typing.NamedTuple):
     """What a case leaves open, `filled` chooses. The room is of whole records, of bytes past them, and of places. Where there is a shape of
-    a second reshape, the case is a chain. `moved` is the bytes lent for the table and for the shape in the other width."""
+    a second reshape, the case is a chain. `moved` is the bytes lent for the table and for the shape in the other width, and as many for both with
+    their labels converted. The numbers are a list of pairs of labels."""
     table: bytes
     shape: bytes = b""
     row: typing.Optional[int] = None
@@ -30,6 +29,7 @@ class Case(typing.NamedTuple):
     again: bytes = b""
     levels: int = 6
     moved: typing.Optional[typing.Tuple[int, int]] = None
+    numbers: typing.Tuple[int, ...] = ()
 
     @property
     def row_length(self):
@@ -119,11 +119,13 @@ def packed(all_cases):
         records, past, places = case.room
         assert case.row_length * records + past <= case.row_length * MOST_RECORDS and places <= MOST_RECORDS, "more lent than there is"
         assert case.summaries <= MOST_SUMMARIES and max(case.moved) <= MOST_MOVED, "more lent than there is"
-        assert max(len(case.table), 2 * len(case.shape), 2 * len(case.again)) <= 32768, "more bytes than the program holds"
-        made = changes(held, 0, case.table) + changes(held, 32768, case.shape) + changes(held, 49152, case.again)
+        assert max(len(case.table), 2 * len(case.shape), 4 * len(case.again)) <= 32768, "more bytes than the program holds"
+        assert len(case.numbers) <= MOST_NUMBERS, "more numbers than there is room for"
+        parts = (0, case.table), (32768, case.shape), (49152, case.again), (57344, paper01.written(case.numbers, len(case.numbers)))
+        made = [change for start, data in parts for change in changes(held, start, data)]
         lengths = ((len(made), 2), (len(case.table), 2), (len(case.shape), 2))
         fields = (*lengths, (case.row, 8), (records, 2), (past, 1), (case.summaries, 1), (places, 2), (len(case.again), 2), (case.levels, 1),
-                  *((lent, 2) for lent in case.moved))
+                  *((lent, 2) for lent in case.moved), (len(case.numbers), 2))
         yield b"".join(x.to_bytes(size, "little") for x, size in fields) + b"".join(made)
 
 
@@ -184,26 +186,24 @@ def reshaping_again(case):
         return paper01.reshape(lines_of(case, *first), case.again, *lend(case.levels, MOST_RECORDS, 0, MOST_RECORDS), case.levels)
 
 
-def reshaped(length, reply, new, sources):
-    count = reply[2]
-    lines = [(new[length * i:length * (i + 1)], sources[i]) for i in range(count)]
-    if count <= LINES_SHOWN:
-        pieces = [(*(paper01.u16(b, i) for i in range(0, length, 2)), source) for b, source in lines]
-    else:
-        pieces = [("sum", folded(1, (x for b, source in lines for x in (*b, source))))]
-    pieces += [("byte", i, b) for i, b in enumerate(new) if length * count <= i and b != byte_before(i)]
-    pieces += [("place", i, x) for i, x in enumerate(sources) if count <= i and x != place_before(i)]
-    return [reply, *pieces]
+def reshaped(reply, new, sources):
+    return [reply, ("sum", folded(1, [*new, *sources]))]
 
 
 def chained(case):
     second = reshaping_again(case)
-    return reshaped(case.row_length, *second) if second else [("none",)]
+    return reshaped(*second) if second else [("none",)]
 
 
 def judged(case):
     number, place, verdict, none_apart = judging(case.table, case.shape, case.levels)
-    return [(number, place, *verdict, "yes" if none_apart else "no")]
+    return [(number, place, *(*verdict, 0, 0)[:3], int(none_apart))]
+
+
+def looked_up(case):
+    """The bytes handed back, and where they start in the table and how many they are, which the call for C says."""
+    number, place, part = paper01.look_up(case.table, case.row, case.levels)
+    return [(number, place, part.hex()), (number, place, 0 if number else case.row * case.row_length, len(part))]
 
 
 def summarised(case):
@@ -217,15 +217,21 @@ def moved(move, data, lent, levels):
     return [reply, ("sum", folded(1, left))]
 
 
+def converted(case):
+    """What converting answers, and the sum over all that was lent, the table's bytes first."""
+    lent = map(bytes_lent, case.moved)
+    reply, table, shape = paper01.convert(case.table, case.shape, case.numbers, *lent, case.levels)
+    return [reply, ("sum", folded(1, table + shape))]
+
+
 def told(case):
     """The parts of a case's line, each a list of pieces."""
-    number, place, part = paper01.look_up(case.table, case.row, case.levels)
     parts = {
         "examining": [paper01.examine(case.table, levels=case.levels)], "reading": [read(case.table, case.levels)],
-        "look-up": [(number, place, part.hex())], "adorning": adorned(case), "judging": judged(case),
-        "reshaping": reshaped(case.row_length, *reshaping(case)), "summarising": summarised(case),
+        "look-up": looked_up(case), "adorning": adorned(case), "judging": judged(case),
+        "reshaping": reshaped(*reshaping(case)), "summarising": summarised(case),
         "moving a table": moved(paper01.move_table, case.table, case.moved[0], case.levels),
-        "moving a shape": moved(paper01.move_shape, case.shape, case.moved[1], case.levels)}
+        "moving a shape": moved(paper01.move_shape, case.shape, case.moved[1], case.levels), "converting": converted(case)}
     return {**parts, "again": chained(case)} if case.again else parts
 
 

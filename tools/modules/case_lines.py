@@ -74,8 +74,8 @@ def values():
 
 
 def large_numbers():
-    """Labels, rows, components and entries that take two bytes."""
-    yield from map(lent, each_shape("255[256 257[999]]", {"999[257[256] 255]": "1 1 1 1", "256[999]": "1 1", "255[256[257[999]]]": "1 1 1 1"}))
+    """The largest labels, and rows, components and entries that take two bytes."""
+    yield from map(lent, each_shape("96[97 98[99]]", {"99[98[97] 96]": "1 1 1 1", "97[99]": "1 1", "96[97[98[99]]]": "1 1 1 1"}))
     wide = f"1[{many(2, 257)}3 4]"
     yield from map(lent, each_shape(wide, {"1[2 3]": "1 257 1", "3[2 4]": "1 257 1", "2[4]": "257 257", "3[4 2[3]]": "1 1 257 257"}))
 

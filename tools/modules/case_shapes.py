@@ -35,11 +35,11 @@ def shape_fields(levels=6):
     # the size of another type, with the labels as they are
     for size, said in itertools.product((1, levels), (0, 1, 2, levels - 1, levels, levels + 1, 255)):
         yield Case(chain, with_byte(shape((1, down[:size]), levels=levels), 1, said), levels=levels)
-    for place, label in itertools.product((0, levels - 1), (0, 1, 999, 1000, 65535)):
+    for place, label in itertools.product((0, levels - 1), (0, 1, 99, 100, 257, 999, 65535)):
         for s in at_either(shape((1, down[:place] + (label,) + down[place + 1:levels]), levels=levels), levels):
             yield Case(chain, s, levels=levels)
-    for label in (0, 1, 255, 256, 999, 1000, 65535):
-        yield Case(nested_table("1 255 256 999", levels), shape((1, (label,)), levels=levels), levels=levels)
+    for label in (0, 1, 98, 99, 100, 256, 257, 355, 999, 65535):
+        yield Case(nested_table("1 98 99", levels), shape((1, (label,)), levels=levels), levels=levels)
 
 
 def shape_levels(levels=6):
@@ -67,13 +67,13 @@ def cut_shapes():
 
 def types_named():
     """Types that no row has, though rows have most of their labels, each by itself; then two of them, of which the first decides."""
-    absent = ((2,), (4,), (257,), (999,), (1, 1), (1, 3), (1, 258), (2, 3), (1, 2, 2), (1, 2, 4), (1, 3, 3), (2, 2, 3), (3, 2, 1),
+    absent = ((2,), (4,), (57,), (99,), (1, 1), (1, 3), (1, 58), (2, 3), (1, 2, 2), (1, 2, 4), (1, 3, 3), (2, 2, 3), (3, 2, 1),
               (1, 2, 3, 3), (2, 2, 3, 4), (1, 2, 3, 4, 4), (1, 2, 3, 4, 5, 6))
     for kind in absent:
         yield Case(GOOD_TABLE, shape((1, kind)))
-    # labels that differ in their high byte alone from those of a row, and others
-    for kind in ((1, 2), (1, 258, 259), (1, 258, 3, 3), (231,), (2, 258)):
-        yield Case(SMALL, shape((1, (1, 258)), (2, kind)))
+    # labels that differ in their high byte alone from those of a row break a rule, and others
+    for kind in ((1, 2), (1, 58, 4), (1, 58, 3, 3), (98,), (2, 58), (1, 314), (1, 58, 259), (355,)):
+        yield Case(SMALL, shape((1, (1, 58)), (2, kind)))
     for first, then in itertools.permutations(((1, 2), (1, 3), (2, 3)), 2):
         yield Case(GOOD_TABLE, shape((1, (1,)), (2, first), (2, then), (3, (9,))))
 

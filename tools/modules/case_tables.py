@@ -7,12 +7,12 @@ from brackets import A, children, shape, with_byte
 from case_form import Case
 from case_parts import FAR, bracketed, nested_table, table
 
-SMALL_ROWS = (((1,), 1), ((1, 1), 258), ((1, 1, 1), 3), ((2,), 999))
+SMALL_ROWS = (((1,), 1), ((1, 1), 58), ((1, 1, 1), 3), ((2,), 99))
 SMALL = table(SMALL_ROWS)
-SMALL_SHAPE = shape((1, (1, 258)), (2, (1,)), (2, (1, 258, 3)))
+SMALL_SHAPE = shape((1, (1, 58)), (2, (1,)), (2, (1, 58, 3)))
 
 
-def trees(n, names=999, levels=6):
+def trees(n, names=paper01.MOST_LABEL, levels=6):
     """A sound table of n rows, each a tree with one child, so both ways to follow are taken; the labels come round after `names`."""
     return table([((i // 2 + 1,) + (1,) * (i % 2), i % names + 1) for i in range(n)], levels=levels)
 
@@ -59,7 +59,8 @@ def depths(levels=6):
 
 
 def labels(levels=6):
-    for label in (0, 1, 255, 256, 999, 1000, 65535):
+    """Both ends and past them; of 256, 257 and 355 the lower byte alone is 0, or within them."""
+    for label in (0, 1, 99, 100, 255, 256, 257, 355, 999, 65535):
         yield Case(table([((1,), label)], levels=levels), shape((1, (label,)), levels=levels), 0, levels=levels)
         yield Case(table([((1,), 1), ((1, 1), label)], levels=levels), shape((1, (1, label)), (2, (1,)), levels=levels), 1, levels=levels)
 
@@ -75,7 +76,7 @@ def most_types():
     # the 64 types again, and then the 65th, with rows of old types and a 66th type after it
     again = full + [((1, 64), 63), ((2,), 1), ((2, 1), 5), ((2, 2), 5)]
     yield Case(table(again), last, 67)
-    yield Case(table(again + [((2, 2, 1), 5), ((2, 3), 5), ((2, 4), 999), ((3,), 1)]), last, 68)
+    yield Case(table(again + [((2, 2, 1), 5), ((2, 3), 5), ((2, 4), 99), ((3,), 1)]), last, 68)
     # a bad row after the 65th type is refused first
     yield Case(table(full + [((1, 64), 64), ((1, 66), 64)]), last, 0)
 

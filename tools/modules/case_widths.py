@@ -121,12 +121,12 @@ def each_room(case, of_table=None, of_shape=None):
 
 
 def tables_and_shapes():
-    """Sound ones: nothing, one record, values of all bytes, two-byte components and labels, 1,024 rows and 16 entries."""
+    """Sound ones: nothing, one record, values of all bytes, two-byte components, the largest labels, 1,024 rows and 16 entries."""
     for levels in OTHER:
         yield from each_room(Case(b"", b"", levels=levels), "0 records", "refused 5 0")
         yield from each_room(bracketed("7", "7", levels=levels), "1 records", "1 records")
         yield from each_room(bracketed("1[2[3[4 4] 3[4]] 2[3]]", "3[2 4]", values=(-1, 2**63 - 1, -2**63), levels=levels), "9 records", "3 records")
-        yield from each_room(bracketed(f"255[{many(256, 257)}999]", "999[256]", levels=levels), "259 records", "2 records")
+        yield from each_room(bracketed(f"97[{many(98, 257)}99]", "99[98]", levels=levels), "259 records", "2 records")
         flat = " ".join(map(str, range(3, 18)))
         sixteen = bracketed(f"1[2 {flat}]", f"2[{flat}]", levels=levels)
         yield from each_room(sixteen, "17 records", "16 records")

@@ -158,7 +158,7 @@ def damaged(rng, data):
     return bytes(data)
 
 
-def ordinary(rng, grown, most_rows=14, most_entries=6, levels=6, labels=999):
+def ordinary(rng, grown, most_rows=14, most_entries=6, levels=6, labels=99):
     """A table, grown row by row or a regular one, and a shape of its types; now and then with a label, a type or a level that is off."""
     if grown:
         names = [rng.sample(range(1, 9), rng.choice([1, 1, 2])) for _ in range(levels)]
@@ -167,7 +167,7 @@ def ordinary(rng, grown, most_rows=14, most_entries=6, levels=6, labels=999):
         rows = regular(rng, most_rows, levels)
     if rng.random() < 0.1:
         # the largest label, or one past it, in place of some other
-        new = {rng.randint(1, 9): rng.choice([labels, labels, labels + 1, 256])}
+        new = {rng.randint(1, 9): rng.choice([labels, labels, labels + 1, labels + 256])}
         rows = [(d, new.get(l, l)) for d, l in rows]
     kinds = types(rows) or [(1,)]
     if rng.random() < 0.08:
@@ -179,7 +179,7 @@ def ordinary(rng, grown, most_rows=14, most_entries=6, levels=6, labels=999):
     return rows, entries
 
 
-def case(rng, most_rows=14, most_entries=6, levels=6, labels=999, harm=0.35):
+def case(rng, most_rows=14, most_entries=6, levels=6, labels=99, harm=0.35):
     """A table and a shape as bytes."""
     sort = rng.random()
     if sort < 0.06:
@@ -199,3 +199,49 @@ def case(rng, most_rows=14, most_entries=6, levels=6, labels=999, harm=0.35):
         else:
             wanted = damaged(rng, wanted)
     return table, wanted
+
+
+# ---- request 10: a table and a shape on the old range, and a list of pairs
+def with_labels(data, width, at, count, other):
+    """Whole records with their labels, so many from a byte on, replaced; zeros stay."""
+    data = bytearray(data)
+    for start in range(0, len(data) - len(data) % width, width):
+        for i in range(start + at, start + at + 2 * count, 2):
+            label = int.from_bytes(data[i:i + 2], "little")
+            data[i:i + 2] = other.get(label, label).to_bytes(2, "little")
+    return bytes(data)
+
+
+def occurring(table, shape, levels=6):
+    """The labels of whole records, and zeros."""
+    places = [(table, i + 2) for i in range(0, len(table), 12 + 2 * levels)]
+    places += [(shape, i + 4 + 2 * k) for i in range(0, len(shape), 4 + 2 * levels) for k in range(levels)]
+    return {int.from_bytes(data[i:i + 2], "little") for data, i in places}
+
+
+def off(rng, numbers, *used):
+    """The numbers of a list with an old label or a new one that breaks a rule, a pair twice, or a number too few or too many."""
+    at = rng.randrange(len(numbers)) if numbers else 0
+    bad = [*numbers[at % 2:at:2], 0, 65535] + ([100, 263, *used] if at % 2 else [99, 1000])
+    way = rng.random()
+    if way < 0.7:
+        return numbers[:at] + [rng.choice(bad)] + numbers[at + 1:]
+    return numbers + [rng.randint(100, 999)] if way < 0.8 else numbers[:at] if way < 0.9 else numbers + numbers[:2]
+
+
+def conversion(rng, most_rows=14, most_entries=6, levels=6, harm=0.2):
+    """A table, a shape, and the numbers of a list that fits them, or nearly."""
+    table, wanted = case(rng, most_rows, most_entries, levels, 999, harm)
+    few = [x for x in range(1, 10) if rng.random() < 0.6]
+    old = {**dict(zip(few, rng.sample(range(100, 1000), len(few)))), 9: rng.choice([100, 255, 256, 999])}
+    # now and then a label stands in the table alone, and another in the shape alone
+    other = {rng.randint(1, 9): rng.randint(1, 99)} if rng.random() < 0.3 else {}
+    table = with_labels(table, 12 + 2 * levels, 2, 1, {**old, **other})
+    wanted = with_labels(wanted, 4 + 2 * levels, 4, levels, old)
+    in_table, in_shape = occurring(table, b"", levels), occurring(b"", wanted, levels)
+    used = in_table | in_shape
+    free = rng.sample([x for x in range(1, 100) if x not in used], 15)
+    listed = {x: None for x in sorted(used) if 100 <= x <= 999 and rng.random() < 0.94}
+    listed.update({rng.randint(100, 999): None for _ in range(rng.choice([0, 0, 1, 2]))})
+    numbers = [x for pair in zip(rng.sample(list(listed), len(listed)), free) for x in pair]
+    return table, wanted, off(rng, numbers, *sorted(in_table ^ in_shape or used)) if rng.random() < 0.4 else numbers

@@ -1,5 +1,5 @@
-"""What is promised of a new table, of a summary and of a widened file, held to the second reading's own answers: demand 3 of the order, and
-requests 3, 9 and 12 of document 02."""
+"""What is promised of a new table, of a summary, of a widened file and of a converted one, held to the second reading's own answers: demand 3
+of the order, and requests 3, 9, 10 and 12 of document 02."""
 import sys
 
 import paper01
@@ -114,6 +114,75 @@ def broken_widths(table, shape, levels, to, lines=True):
             yield from broken_lines(table, shape, wide, wide_shape, levels, to)
 
 
+# ---- request 10: a table and a shape on the old range, and the same converted
+def old_range(levels):
+    return dict(levels=levels, labels=paper01.MOST_OLD_LABEL)
+
+
+def same_where(these, those):
+    """Are two of the ones equal exactly where the same two of the others are?"""
+    return [these.index(x) for x in these] == [those.index(x) for x in those]
+
+
+def renamed(names, new_of):
+    """Labels with those that are in the list replaced."""
+    return tuple(new_of.get(name, name) for name in names)
+
+
+def with_new_labels(lines, new_of, levels):
+    """Rows or lines on the old range, written with their new labels."""
+    rows = paper01.keep_row_rules(lines, **old_range(levels))
+    return b"".join(paper01.row_record(paper01.Row(row.dewey, *renamed([row.label], new_of), row.value), levels) for row in rows)
+
+
+def closest_pairs(work):
+    return {(r, s) for r in range(len(work.rows)) for s in range(r) if work.closest(r, s)}
+
+
+def broken_files(table, shape, new, new_shape, new_of, levels):
+    """What is wrong with the converted table and shape by themselves."""
+    if paper01.examine(new, levels=levels)[0] or not is_shape(new_shape, levels):
+        yield "a converted table or shape breaks a rule of the new range"
+        return
+    if new != with_new_labels(table, new_of, levels):
+        yield "a converted table has other bytes than new labels for old ones"
+    entries, after = paper01.read_shape(shape, **old_range(levels)), paper01.read_shape(new_shape, levels)
+    if after != [paper01.Entry(entry.level, renamed(entry.type, new_of)) for entry in entries]:
+        yield "a converted shape has other entries than new labels for old ones"
+    rows, rows_after = paper01.read_rows(table, **old_range(levels)), paper01.read_rows(new, levels)
+    kinds, kinds_after = ([*paper01.types_of_rows(r), *(entry.type for entry in e)] for r, e in ((rows, entries), (rows_after, after)))
+    if not same_where(kinds, kinds_after):
+        yield "types are equal that were not, or are not that were"
+
+
+def broken_new_lines(table, shape, new, new_shape, new_of, levels):
+    """A table and a shape of its types."""
+    if closest_pairs(paper01.Work(table, shape, **old_range(levels))) != closest_pairs(paper01.Work(new, new_shape, levels)):
+        yield "closest rows do not stay closest, or others are"
+    if paper01.summarise(table, shape, **old_range(levels)) != paper01.summarise(new, new_shape, levels=levels):
+        yield "a converted table and shape have another summary"
+    lent = bytes(paper01.MOST_LINES * paper01.row_length(levels)), [7] * paper01.MOST_LINES
+    reply, written, sources = paper01.reshape(table, shape, *lent, **old_range(levels))
+    size = reply[2] * paper01.row_length(levels)
+    lines = with_new_labels(written[:size], new_of, levels) + written[size:]
+    if paper01.reshape(new, new_shape, *lent, levels) != (reply, lines, sources):
+        yield "the lines of a converted table and shape are not the lines, converted, with the same source list"
+
+
+def broken_conversion(table, shape, numbers, levels=6, lines=True):
+    """The promises of request 10 that a table and a shape do not keep where this list is accepted, in words. Many lines take long to compare."""
+    reply, new, new_shape = paper01.convert(table, shape, numbers, bytes(len(table)), bytes(len(shape)), levels)
+    if reply[0]:
+        return
+    given = table, shape, new, new_shape, dict(zip(numbers[::2], numbers[1::2])), levels
+    yield from broken_files(*given)
+    judged = paper01.judge(table, shape, **old_range(levels))
+    if judged != paper01.judge(new, new_shape, levels=levels):
+        yield "a converted table and shape are refused otherwise, or have another verdict or second answer"
+    elif judged[0] == 0 and lines:
+        yield from broken_new_lines(*given)
+
+
 # ---- all of them
 def stop_at(broken, table, shape):
     for words in broken:
@@ -123,6 +192,11 @@ def stop_at(broken, table, shape):
 def hold_widths(table, shape, levels=6, lines=True):
     """Stops where a promise on widths is broken, with two levels more."""
     stop_at(broken_widths(table, shape, levels, levels + 2, lines), table, shape)
+
+
+def hold_conversion(table, shape, numbers, levels=6, lines=True):
+    """Stops where a promise on converted files is broken."""
+    stop_at(broken_conversion(table, shape, numbers, levels, lines), table, shape)
 
 
 def hold(table, shape, **width):

@@ -12,7 +12,7 @@ from paper01 import MOST_ENTRIES, MOST_LINES, MOST_ROWS, entry_length, row_lengt
 NAMES = ("portfolio lessee lease asset payment meter guarantor invoice site insurance deposit vendor schedule residual tax service "
          "reading contact currency document").split()
 NARROW, WIDE = 6, 8
-LABELS, PLACE = 999, 4
+LABELS, PLACE = paper01.MOST_LABEL, 4
 LEAST_VALUE, GREATEST_VALUE = -2**63, 2**63 - 1
 
 

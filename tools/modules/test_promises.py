@@ -169,13 +169,13 @@ class Widths(unittest.TestCase):
 
     def test_by_hand(self):
         """A row of each width, byte by byte; an entry; what lies past them stays."""
-        narrow = bytes([2, 0, 1, 2, 1, 0, 5, 0]) + bytes(8) + bytes(range(8))
-        wide = bytes([2, 0, 1, 2, 1, 0, 5, 0]) + bytes(12) + bytes(range(8))
+        narrow = bytes([2, 0, 98, 0, 1, 0, 5, 0]) + bytes(8) + bytes(range(8))
+        wide = bytes([2, 0, 98, 0, 1, 0, 5, 0]) + bytes(12) + bytes(range(8))
         first = bytes([1, 0, 1, 0, 1, 0]) + bytes(10) + bytes(8), bytes([1, 0, 1, 0, 1, 0]) + bytes(14) + bytes(8)
         rows = [b"".join((one, *(brackets.with_byte(two, 6, k) for k in range(1, 6)))) for one, two in zip(first, (narrow, wide))]
         self.assertEqual(paper01.move_table(rows[0], b"\7" * 170, 8), ((0, 0, 6), rows[1] + b"\7\7"))
         self.assertEqual(paper01.move_table(rows[1], b"\7" * 144, 6, 8), ((0, 0, 6), rows[0]))
-        entries = bytes([1, 2, 0, 0, 9, 0, 7, 1]) + bytes(8), bytes([1, 2, 0, 0, 9, 0, 7, 1]) + bytes(12)
+        entries = bytes([1, 2, 0, 0, 9, 0, 98, 0]) + bytes(8), bytes([1, 2, 0, 0, 9, 0, 98, 0]) + bytes(12)
         self.assertEqual(paper01.move_shape(entries[0], b"\7" * 21, 8), ((0, 0, 1), entries[1] + b"\7"))
         self.assertEqual(paper01.move_shape(entries[1], b"\7" * 17, 6, 8), ((0, 0, 1), entries[0] + b"\7"))
 

@@ -16,7 +16,7 @@ class Samples(unittest.TestCase):
         "rows_1024": ("verdict 0", 1024), "rows_1025": ("refused 1 0", 0), "level_6": ("verdict 0", 6), "level_7": ("refused 3 6", 0),
         "types_64": ("verdict 0", 2), "types_65": ("refused 4 64", 0), "entries_16": ("verdict 0", 48), "entries_17": ("refused 5 0", 0),
         "lines_1024": ("verdict 2 1 3", 1024), "lines_1025": ("refused 8 0", 0),
-        "labels_22a": ("verdict 0", 23), "labels_22b": ("verdict 0", 19), "cut_off": ("refused 2 0", 0), "label_1000": ("refused 6 2", 0),
+        "labels_22a": ("verdict 0", 23), "labels_22b": ("verdict 0", 19), "cut_off": ("refused 2 0", 0), "label_100": ("refused 6 2", 0),
         "hidden_by_1": ("verdict 1 3 8", 9), "hidden_by_3": ("verdict 3 1 3", 6),
         "level_8": ("verdict 0", 8), "level_9": ("refused 3 8", 0), "both_widths": ("verdict 0", 8), "shape8_missing": ("refused 5 0", 0),
         "source8_missing": ("verdict 0", 9),
@@ -63,7 +63,7 @@ class Samples(unittest.TestCase):
     # what is wrong with the tables and shapes that no text can say
     TABLES = {"rows_1025": "at most 1,024 rows", "level_7": "row 6 breaks a rule: its level is 7", "cut_off": "the last 23 bytes are no whole row",
               "level_9": "row 8 breaks a rule: its level is 9"}
-    SHAPES = {"entries_17": "at most 16 entries", "label_1000": "entry 2 breaks a rule", "shape8_missing": "no entry"}
+    SHAPES = {"entries_17": "at most 16 entries", "label_100": "entry 2 breaks a rule", "shape8_missing": "no entry"}
 
     def test_round_trips(self):
         for name, table, shape, levels in samples.samples():
@@ -101,7 +101,7 @@ class Samples(unittest.TestCase):
         tables = [(samples.FOLDER / name / "source.tab").read_bytes() for name in ("labels_22a", "labels_22b")]
         self.assertEqual(*tables)
         lines = [line.split() for name in ("labels_22a", "labels_22b") for line in self.listed(name).splitlines()[1:]]
-        self.assertEqual({label for _, _, label, _, _ in lines}, {*table_text.NAMES, "21", "999"})
+        self.assertEqual({label for _, _, label, _, _ in lines}, {*table_text.NAMES, "21", "99"})
         self.assertLess({str(-2**63), "-500", "-1", str(2**63 - 1)}, {value for *_, value in lines})
 
     def test_folders(self):
@@ -187,7 +187,7 @@ portfolio 1 row
         currency 1 row, 1..1 under an invoice
       document 2 rows, 1..1 under a lease
       21 1 row, 0..1 under a lease
-        999 1 row, 1..1 under a 21
+        99 1 row, 1..1 under a 21
       asset 3 rows, 1..2 under a lease
         meter 2 rows, 0..1 under an asset
           reading 3 rows, 1..2 under a meter
@@ -231,7 +231,7 @@ portfolio 1 row
     11 currency: 1 line, 1 row, 0 copies, 1 different row
   12 document: 2 lines, 2 rows, 0 copies, 2 different rows
   13 21: 1 line, 1 row, 0 copies, 1 different row
-    14 999: 1 line, 1 row, 0 copies, 1 different row
+    14 99: 1 line, 1 row, 0 copies, 1 different row
 """,
         "labels_22b": """\
 0 asset: 3 lines, 3 rows, 0 copies, 3 different rows
@@ -270,9 +270,9 @@ portfolio 1 row
 
     def test_types_stand_beneath_theirs(self):
         """A type whose first row comes after other roots stands beneath its own."""
-        table = table_text.table_from("asset\n  lease\n999\n  7\nasset\n  lessee\n  lessee\n")
+        table = table_text.table_from("asset\n  lease\n99\n  7\nasset\n  lessee\n  lessee\n")
         self.assertEqual(samples.types(table), "asset 2 rows\n  lease 1 row, 0..1 under an asset\n  lessee 2 rows, 0..2 under an asset\n"
-                                               "999 1 row\n  guarantor 1 row, 1..1 under a 999\n")
+                                               "99 1 row\n  guarantor 1 row, 1..1 under a 99\n")
 
     def test_every_label_above(self):
         for label in [*table_text.NAMES, "21", "80"]:

@@ -37,8 +37,8 @@ class FromText(unittest.TestCase):
         self.assertEqual(table_text.table_from(same), A_BYTES)
 
     def test_values(self):
-        ends = table_text.table_from(f"1 {-2**63}\n999 {2**63 - 1}\n")
-        self.assertEqual(ends, cases.row_bytes((1,), 1, value(-2**63)) + cases.row_bytes((2,), 999, value(2**63 - 1)))
+        ends = table_text.table_from(f"1 {-2**63}\n99 {2**63 - 1}\n")
+        self.assertEqual(ends, cases.row_bytes((1,), 1, value(-2**63)) + cases.row_bytes((2,), 99, value(2**63 - 1)))
 
     def test_names(self):
         self.assertEqual(len(table_text.NAMES), 20)
@@ -82,7 +82,7 @@ class FromText(unittest.TestCase):
         for text, line, what in (
                 ("portfolio\n\n  leese 3\n", 3, 'unknown label "leese"'),
                 ("Portfolio\n", 1, 'unknown label "Portfolio"'),
-                ("# x\n1000\n", 2, "label 1000 is out of range"),
+                ("# x\n100\n", 2, "label 100 is out of range: labels are 1 to 99"),
                 ("1\n0\n", 2, "label 0 is out of range"),
                 ("-1\n", 1, "label -1 is out of range"),
                 ("9" * 5000, 1, "out of range"),
@@ -121,7 +121,7 @@ class FromText(unittest.TestCase):
                 ("/portfolio/leese", 1, 'unknown label "leese"'),
                 ("/portfolio//lease", 1, 'unknown label ""'),
                 ("/", 1, 'unknown label ""'),
-                ("/1/1000", 1, "label 1000 is out of range"),
+                ("/1/100", 1, "label 100 is out of range"),
                 ("/1/2/3/4/5/6/7", 1, "a type has at most 6"),
                 ("lessee\nportfolio", 2, "one tree"),
                 ("lessee portfolio", 1, '"portfolio" is one word too many'),

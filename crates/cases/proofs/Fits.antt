@@ -3,10 +3,6 @@ use Prim.Native.Nat.{ℕ, _*_, _/_, _≤_, _<_}
 use native.Mathlib.Nat.{mul-comm, mul-le-mul-left, mul-le-mul-right, div-mul-le-self}
 use native.Mathlib.Omega.{arith}
 
--- as many as there are whole ones have their bytes
-pub records-fit : (w n l : ℕ) → n ≤ l / w → w * n ≤ l
-records-fit w n l le = omega (arith, mul-le-mul-left w le, mul-comm w (l / w), div-mul-le-self l w)
-
 -- of records of more than one byte there are at most half as many as bytes
 pub records-half : (w l : ℕ) → 1 < w → 2 * (l / w) ≤ l
 records-half w l more =

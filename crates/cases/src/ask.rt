@@ -6,7 +6,7 @@ ghost use Prim.Native.Nat.{_<_};
 ghost use lib.ListN.{length};
 
 // What a case asks for beside its table and its shapes: the width and the number that says it to C, the row to look up, the summaries lent, the
-// bytes and the places lent for a reshape, and the bytes lent for the table and for the shape in the other width.
+// bytes and the places lent for a reshape, and the bytes lent for the table and for the shape in the other width or with their labels converted.
 pub struct Ask {
     pub width: Width,
     pub said: u32,
@@ -33,7 +33,7 @@ fn bytes_lent(width: Width, records: usize, past: usize) -> usize
 }
 
 pub fn asked(head: &[u8]) -> Ask
-    requires { ⌜ length (now head) ≡ 27 ⌝ }
+    requires { ⌜ length (now head) ≡ 29 ⌝ }
 {
     let levels = bytes::wide(head[22]);
     let width = width_of(levels);

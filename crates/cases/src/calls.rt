@@ -1,4 +1,6 @@
-// The calls that answer by value, and the reader: what each prints of its part of a line.
+// The calls that answer by value, and the reader: what each prints of its part of a line. Where both languages have a call, it is the one for C,
+// which takes the number that says the width and runs the Rattle call; look-up and the reader are run in Rattle, since what they hand out is a part
+// of the caller's table.
 use crate::lent::record_bytes;
 use crate::marked::adorn_marked;
 use crate::print::folded;
@@ -7,15 +9,14 @@ use crate::print::hexadecimal;
 use crate::print::number;
 use libc::STDOUT_FILENO;
 use silmezga::TypeSummary;
-use silmezga::Verdict;
 use silmezga::Width;
 use silmezga::reader::handed;
 use silmezga::reader::handed_next;
 ghost use Prim.Native.Nat.{_+_, _*_, _≤_};
 ghost use lib.ListN.{length};
 
-pub fn print_examined(width: Width, t: &[u8]) {
-    let e = silmezga::examine(width, t);
+pub fn print_examined(said: u32, t: &[u8]) {
+    let e = silmezga_c::silmezga_examine(said, t);
     number(b"", e.number);
     number(b" ", e.place);
     number(b" ", e.rows);
@@ -51,12 +52,22 @@ pub fn print_read(width: Width, t: &[u8]) {
     number(b" ", sum);
 }
 
-pub fn print_looked_up(width: Width, t: &[u8], row: usize) {
+fn print_found(said: u32, t: &[u8], row: usize) {
+    let c = silmezga_c::silmezga_look_up(said, t, row);
+    number(b"; ", c.number);
+    number(b" ", c.place);
+    number(b" ", c.start);
+    number(b" ", c.length);
+}
+
+// The row's bytes by the Rattle call, and where they stand by the call for C.
+pub fn print_looked_up(width: Width, said: u32, t: &[u8], row: usize) {
     let r = silmezga::look_up_refusal(width, t, row);
     number(b": ", r.number);
     number(b" ", r.place);
     io::write_all(STDOUT_FILENO, b" ");
     hexadecimal(silmezga::look_up(width, t, row));
+    print_found(said, t, row);
 }
 
 fn print_figures(s: TypeSummary) {
@@ -101,7 +112,6 @@ fn print_summaries(all: [TypeSummary; 65], count: usize, mark: usize) {
     }
 }
 
-// By the call for C, which takes the number that says the width.
 pub fn print_adorned(said: u32, t: &[u8], lent: usize) {
     let a = adorn_marked(said, t, lent);
     let count = a.types;
@@ -112,39 +122,14 @@ pub fn print_adorned(said: u32, t: &[u8], lent: usize) {
     print_summaries(all, count, 7777);
 }
 
-// Prints a verdict's number and its two values.
-fn print_found(kind: usize, first: usize, second: usize) {
-    number(b" ", kind);
-    number(b" ", first);
-    number(b" ", second);
-}
-
-fn print_verdict(v: Verdict) {
-    match v {
-        Verdict::Kept => number(b" ", 0),
-        Verdict::Missing { entry, row } => print_found(1, entry, row),
-        Verdict::Apart { first, second } => print_found(2, first, second),
-        Verdict::Unsure { first, second } => print_found(3, first, second),
-    }
-}
-
-// Prints the second answer.
-fn print_second(none_apart: bool) {
-    if none_apart {
-        io::write_all(STDOUT_FILENO, b" yes");
-    } else {
-        io::write_all(STDOUT_FILENO, b" no");
-    }
-}
-
-pub fn print_judged(width: Width, t: &[u8], s: &[u8]) {
-    let j = silmezga::judge(width, t, s);
-    let v = j.verdict;
-    let none = j.none_apart;
+pub fn print_judged(said: u32, t: &[u8], s: &[u8]) {
+    let j = silmezga_c::silmezga_judge(said, t, s);
     number(b": ", j.number);
     number(b" ", j.place);
-    print_verdict(v);
-    print_second(none);
+    number(b" ", j.verdict);
+    number(b" ", j.first);
+    number(b" ", j.second);
+    number(b" ", j.none_apart);
 }
 
 // An entry's figures, unless all of them are 0.
@@ -158,8 +143,8 @@ fn print_entry(entry: usize, lines: usize, rows: usize, copies: usize, different
     }
 }
 
-pub fn print_summarised(width: Width, t: &[u8], s: &[u8]) {
-    let r = silmezga::summarise(width, t, s);
+pub fn print_summarised(said: u32, t: &[u8], s: &[u8]) {
+    let r = silmezga_c::silmezga_summarise(said, t, s);
     let lines = r.lines;
     let rows = r.rows;
     let copies = r.copies;

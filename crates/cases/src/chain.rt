@@ -45,7 +45,7 @@ fn print_second(
     fill_bytes(table);
     fill_places(sources);
     let r = reshape_again(width, new, lines, again, table, sources);
-    print_told(width, r, table, sources);
+    print_told(r, table, sources);
 }
 
 // The second reshape is lent 4,100 records and places.

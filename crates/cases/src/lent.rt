@@ -1,14 +1,13 @@
 // Reshaping, with what it is lent: bytes and places are filled before the call, so that what it leaves in each can be told.
+use crate::ask::Ask;
 use crate::print::folded;
 use crate::print::folded_bytes;
 use crate::print::number;
-use libc::STDOUT_FILENO;
 use silmezga::Reshaped;
 use silmezga::Width;
-use silmezga::reshape;
 use tables::row::smaller;
 ghost use mathlib.Core.Path.{_≡_};
-ghost use Prim.Native.Nat.{_*_, _≤_, _<_};
+ghost use Prim.Native.Nat.{_≤_, _<_};
 ghost use lib.ListN.{length};
 ghost use Rattle.paper.specs.Format.{rowBytes};
 ghost use Rattle.paper.specs.Widths.{formatOf};
@@ -63,117 +62,36 @@ fn wide(n: u32) -> usize {
     n as usize
 }
 
-// A record's bytes, two at a time.
-fn print_record(b: &[u8]) {
-    io::write_all(STDOUT_FILENO, b";");
-    let end = b.len() / 2;
-    let mut k = 0;
-    while k < end {
-        number(b" ", bytes::word(b, 2 * k));
-        k += 1;
-    }
-}
-
-fn print_lines(w: usize, table: &[u8], sources: &[u32], shown: usize)
-    requires { ⌜ (w * shown ≤ length (now table)) × (shown ≤ length (now sources)) ⌝ }
-{
+fn folded_places(sum: usize, p: &[u32]) -> usize {
+    let mut sum = sum;
     let mut i = 0;
-    while i < shown {
-        print_record(bytes::record(table, w, i));
-        number(b" ", wide(sources[i]));
-        i += 1;
-    }
-}
-
-// The sum over each line's bytes and its place of the source list.
-fn sum_of_lines(w: usize, table: &[u8], sources: &[u32], shown: usize) -> usize
-    requires { ⌜ (w * shown ≤ length (now table)) × (shown ≤ length (now sources)) ⌝ }
-{
-    let mut sum = 1;
-    let mut i = 0;
-    while i < shown {
-        sum = folded(
-            folded_bytes(sum, bytes::record(table, w, i)),
-            wide(sources[i]),
-        );
+    while i < p.len() {
+        sum = folded(sum, wide(p[i]));
         i += 1;
     }
     sum
 }
 
-// Prints where something stands and what it is, if it was something else.
-fn print_changed(what: &[u8], i: usize, before: usize, after: usize) {
-    if before != after {
-        number(what, i);
-        number(b" ", after);
-    }
-}
-
-fn print_changed_bytes(table: &[u8], from: usize) {
-    let mut i = from;
-    while i < table.len() {
-        print_changed(
-            b"; byte ",
-            i,
-            bytes::wide(byte_before(i)),
-            bytes::wide(table[i]),
-        );
-        i += 1;
-    }
-}
-
-fn print_changed_places(sources: &[u32], from: usize) {
-    let mut i = from;
-    while i < sources.len() {
-        print_changed(b"; place ", i, wide(place_before(i)), wide(sources[i]));
-        i += 1;
-    }
-}
-
-// So many lines of w bytes, but no more than have their records and their places.
-fn lines_held(w: usize, table: &[u8], sources: &[u32], lines: usize) -> usize
-    requires { ⌜ 0 < w ⌝ }
-    ensures { λ r. ⌜ (w * r ≤ length (now (table .entry))) × (r ≤ length (now (sources .entry))) ⌝ }
-{
-    smaller(lines, smaller(table.len() / w, sources.len()))
-}
-
-// What a call that says that it wrote so many lines of w bytes has left in what it was lent. No more lines are looked at than there is
-// room for.
-fn print_left(w: usize, table: &[u8], sources: &[u32], lines: usize)
-    requires { ⌜ 0 < w ⌝ }
-{
-    let shown = lines_held(w, table, sources, lines);
-    if shown <= 40 {
-        print_lines(w, table, sources, shown);
-    } else {
-        number(b"; sum ", sum_of_lines(w, table, sources, shown));
-    }
-    print_changed_bytes(table, w * shown);
-    print_changed_places(sources, shown);
-}
-
-// A part of a line: what a reshape answers, and what it has left.
-pub fn print_told(width: Width, r: Reshaped, table: &[u8], sources: &[u32]) {
-    let lines = r.lines;
+// A part of a line: what a reshape answers, and the sum over all that was lent, the bytes first.
+pub fn print_told(r: Reshaped, table: &[u8], sources: &[u32]) {
     number(b": ", r.number);
     number(b" ", r.place);
-    number(b" ", lines);
-    print_left(record_bytes(width), table, sources, lines);
+    number(b" ", r.lines);
+    number(b"; sum ", folded_places(folded_bytes(1, table), sources));
 }
 
-fn print_answered(width: Width, t: &[u8], s: &[u8], table: &mut [u8], sources: &mut [u32]) {
+fn print_answered(t: &[u8], s: &[u8], said: u32, table: &mut [u8], sources: &mut [u32]) {
     fill_bytes(table);
     fill_places(sources);
-    let r = reshape(width, t, s, table, sources);
-    print_told(width, r, table, sources);
+    let r = silmezga_c::silmezga_reshape(said, t, s, table, sources);
+    print_told(r, table, sources);
 }
 
-// Lends so many bytes and places, as far as there are any.
-pub fn print_reshaped(width: Width, t: &[u8], s: &[u8], lent: usize, places: usize) {
+// Lends as many bytes and places as are asked for, as far as there are any.
+pub fn print_reshaped(t: &[u8], s: &[u8], ask: Ask) {
     let mut table = records_room();
     let mut sources = places_room();
-    let lent = smaller(lent, 114800);
-    let places = smaller(places, 4100);
-    print_answered(width, t, s, &mut table[..lent], &mut sources[..places]);
+    let lent = smaller(ask.bytes, 114800);
+    let places = smaller(ask.places, 4100);
+    print_answered(t, s, ask.said, &mut table[..lent], &mut sources[..places]);
 }

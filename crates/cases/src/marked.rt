@@ -1,5 +1,5 @@
 // Adorning into 65 places of its own, each marked, so that a program without a slice of summaries can run the call and show every place
-// after it. The call is the one for C, which takes a width as a number and runs the Rattle call.
+// after it.
 use silmezga::TypeSummary;
 ghost use mathlib.Core.Path.{_≡_};
 ghost use Prim.Native.Nat.{_≤_, min};

@@ -24,19 +24,19 @@ pub fn file_room() -> [u8; 30000]
 
 fn table_moved(width: Width, t: &[u8], new: &mut [u8]) -> Moved {
     match width {
-        Width::Six => silmezga::widen_table(t, new),
-        Width::Eight => silmezga::narrow_table(t, new),
+        Width::Six => silmezga_c::silmezga_widen_table(t, new),
+        Width::Eight => silmezga_c::silmezga_narrow_table(t, new),
     }
 }
 
 fn shape_moved(width: Width, s: &[u8], new: &mut [u8]) -> Moved {
     match width {
-        Width::Six => silmezga::widen_shape(s, new),
-        Width::Eight => silmezga::narrow_shape(s, new),
+        Width::Six => silmezga_c::silmezga_widen_shape(s, new),
+        Width::Eight => silmezga_c::silmezga_narrow_shape(s, new),
     }
 }
 
-pub fn moved(file: File, width: Width, b: &[u8], new: &mut [u8]) -> Moved {
+fn moved(file: File, width: Width, b: &[u8], new: &mut [u8]) -> Moved {
     fill_bytes(new);
     match file {
         File::Table => table_moved(width, b, new),

@@ -7,14 +7,14 @@ use Rattle.cases.proofs.calls.print_summarised.Statement.{statement}
 use Rattle.cases.proofs.calls.print_summarised.Tie as tie
 
 abbrev Inv-loop : tie.InvT-loop
-Inv-loop t s lines rows copies different e₀ e =
+Inv-loop said t s lines rows copies different e₀ e =
     (e ≤ 16) × (length lines ≡ 16) × (length rows ≡ 16) × (length copies ≡ 16) × (length different ≡ 16)
 
 abbrev μ-loop : tie.MeasureT-loop
-μ-loop t s lines rows copies different e₀ e = 16 - e
+μ-loop said t s lines rows copies different e₀ e = 16 - e
 
-summarise-requires : tie.Need-summarise-requires Inv-loop μ-loop
-summarise-requires c κs = search needs
+silmezga-summarise-requires : tie.Need-silmezga-summarise-requires Inv-loop μ-loop
+silmezga-summarise-requires c κs = search needs
 
 slice-aggregate-number : tie.Need-slice-aggregate-number Inv-loop μ-loop
 slice-aggregate-number c = search needs
@@ -76,7 +76,7 @@ print-summarised-spec =
     (tie.spec
     Inv-loop
     μ-loop
-    summarise-requires
+    silmezga-summarise-requires
     slice-aggregate-number
     number-requires
     slice-aggregate-number-2
