@@ -2,9 +2,10 @@
  * Silmezga: moves a seller's table of lease records into the tree that a buyer wants, says whether the move keeps the links between
  * records, and writes the new table with the source row of every line.
  *
- * Six calls, and four that widen and narrow files, each a function of its arguments alone: no call keeps anything, allocates, reads or
- * writes a file, or stops the program. Each takes bytes of every kind. It gives its answer, or a refusal with a number and a place, and a
- * refused call changes nothing that it was lent. What each call answers is proved for every input (docs/PROVED.md).
+ * Six calls, four that widen and narrow files, and one that converts labels, each a function of its arguments alone: no call keeps
+ * anything, allocates, reads or writes a file, or stops the program. Each takes bytes of every kind. It gives its answer, or a refusal
+ * with a number and a place, and a refused call changes nothing that it was lent. What each call answers is proved for every input
+ * (docs/PROVED.md).
  *
  * The archive is target/staticlib/libsilmezga_c.a, made by `rt staticlib silmezga_c`. It is for x86-64 Linux, and all that it takes from other
  * libraries is memcpy and memset. This header is C99 and C++. Calls from several threads do not disturb each other, as long as nothing
@@ -16,7 +17,7 @@
  *     object's own.
  *   - No pointer is NULL, also where the length is 0: then pass the address of any object of the pointer's type.
  *   - What a call writes to (`new_table`, `new_shape`, `sources`, `summaries`) overlaps nothing else that is lent to the same call.
- *   - `sources` and `summaries` are aligned as their types ask, which they are when declared or allocated as such.
+ *   - `sources`, `summaries` and `pairs` are aligned as their types ask, which they are when declared or allocated as such.
  *
  * Widths
  *   A file is narrow, with levels to 6, or wide, with levels to 8. A file does not say which it is: the caller does, and a table and the
@@ -29,7 +30,7 @@
  *     narrow       wide
  *     byte  0      byte  0      level, 1 to 6; wide 1 to 8
  *     byte  1      byte  1      zero
- *     bytes 2-3    bytes 2-3    label, 1 to 999
+ *     bytes 2-3    bytes 2-3    label, 1 to 99
  *     bytes 4-15   bytes 4-19   Dewey number: six 16-bit components, wide eight; those past the level are zero
  *     bytes 16-23  bytes 20-27  value, signed 64-bit, any
  *
@@ -44,7 +45,7 @@
  *     byte  0      byte  0      level, 1 to 6; wide 1 to 8
  *     byte  1      byte  1      length of the entry's type, 1 to 6; wide 1 to 8
  *     bytes 2-3    bytes 2-3    zero
- *     bytes 4-15   bytes 4-19   the type: six 16-bit labels, wide eight, each 1 to 999 within the length, zero past it
+ *     bytes 4-15   bytes 4-19   the type: six 16-bit labels, wide eight, each 1 to 99 within the length, zero past it
  *
  *   Entry 0 has level 1; every later entry has level at least 2 and at most one more than the entry before it. An entry's parent is the
  *   nearest earlier entry one level up. Two entries may name one type.
@@ -60,15 +61,15 @@ extern "C" {
 #endif
 
 /* The version of the project; CHANGELOG.md says what each brought. */
-#define SILMEZGA_VERSION "2.0.0"
+#define SILMEZGA_VERSION "3.0.0"
 
 /* The archive's numbers have 64 bits: this line refuses a target whose size_t has not. */
 typedef char silmezga_size_t_has_64_bits[sizeof(size_t) == 8 ? 1 : -1];
 
 /*
  * ---- Widths
- * The first argument of each of the six calls: the width of the table and of the shape that it is lent, and of the new table that it
- * writes. It is passed as a number of 32 bits. 8 means eight levels, and every other number six.
+ * The first argument of each of the six calls, and of the one that converts labels: the width of the table and of the shape that it is lent, and
+ * of what it writes. It is passed as a number of 32 bits. 8 means eight levels, and every other number six.
  */
 typedef enum silmezga_width {
     SILMEZGA_SIX = 6,       /* narrow: six levels */
@@ -95,7 +96,8 @@ typedef char silmezga_width_has_32_bits[sizeof(silmezga_width) == 4 ? 1 : -1];
 /* ---- Limits of both */
 #define SILMEZGA_MOST_ROWS 1024        /* rows of a source table */
 #define SILMEZGA_LEAST_LABEL 1
-#define SILMEZGA_MOST_LABEL 999
+#define SILMEZGA_MOST_LABEL 99
+#define SILMEZGA_MOST_OLD_LABEL 999    /* of files stored before version 3; silmezga_convert_labels alone takes labels up to it */
 #define SILMEZGA_MOST_TYPES 64         /* types of a table */
 #define SILMEZGA_MOST_ENTRIES 16       /* entries of a shape, of which there is at least 1 */
 #define SILMEZGA_MOST_LINES 4096       /* lines of a new table */
@@ -104,11 +106,11 @@ typedef char silmezga_width_has_32_bits[sizeof(silmezga_width) == 4 ? 1 : -1];
  * ---- Refusals
  * In the order in which they are tested. Each is given exactly then; 0 means that the call is accepted, and its place is 0.
  *
- *   examine    1 to 3            widen_table   1 to 3, 29
- *   look_up    1 to 3, 11        narrow_table  1 to 3, 24, 29
- *   adorn      1 to 4, 10        widen_shape   5 and 6, 29
- *   judge      1 to 7            narrow_shape  5 and 6, 24, 29
- *   reshape    1 to 8
+ *   examine    1 to 3            widen_table     1 to 3, 29
+ *   look_up    1 to 3, 11        narrow_table    1 to 3, 24, 29
+ *   adorn      1 to 4, 10        widen_shape     5 and 6, 29
+ *   judge      1 to 7            narrow_shape    5 and 6, 24, 29
+ *   reshape    1 to 8            convert_labels  1 to 3, 5 and 6 with labels to 999; 25, 26, 29
  *   summarise  1 to 8
  */
 enum {
@@ -124,7 +126,9 @@ enum {
     SILMEZGA_FEW_SUMMARIES = 10,     /* fewer lent summaries than types; place 0 */
     SILMEZGA_NO_SUCH_ROW = 11,       /* no such row; place: the row asked for */
     SILMEZGA_TOO_DEEP = 24,          /* for narrowing, a level or the length of a type over 6; place: the first such row or entry */
-    SILMEZGA_FEW_BYTES = 29          /* for widening and narrowing, fewer lent bytes than are written; place 0 */
+    SILMEZGA_BAD_PAIR = 25,          /* for converting, a pair breaks a rule below; place: the first such pair */
+    SILMEZGA_UNLISTED_LABEL = 26,    /* for converting, a label above 99 is not in the list; place: the first such row, else entry */
+    SILMEZGA_FEW_BYTES = 29          /* for widening, narrowing and converting, fewer lent bytes than are written; place 0 */
 };
 
 /* Number 9 is unused: no call gives it. The name stays only so that a program that has it still compiles. */
@@ -212,6 +216,13 @@ typedef struct silmezga_moved {
     size_t count;               /* rows or entries written */
 } silmezga_moved;
 
+typedef struct silmezga_converted {
+    size_t number;
+    size_t place;
+    size_t rows;                /* rows of the table */
+    size_t entries;             /* entries of the shape */
+} silmezga_converted;
+
 /* ---- The six calls */
 
 /* Examines a table: refusals 1 to 3, or the number of rows. */
@@ -270,6 +281,36 @@ silmezga_moved silmezga_widen_shape(const uint8_t *shape, size_t shape_len, uint
 
 /* Narrows a wide shape: refusals 5 and 6 of the wide width, 24 with the first entry whose level or type length is over 6, and 29. */
 silmezga_moved silmezga_narrow_shape(const uint8_t *shape, size_t shape_len, uint8_t *new_shape, size_t new_len);
+
+/*
+ * ---- Converting labels
+ * Labels go to 99. Before version 3 they went to 999, and what was stored then, a table and the shape that goes with it, is converted by a
+ * list: `pairs` holds 16-bit numbers, old label, new label, and so on, `numbers` of them. Pairs count from 0. An odd number at the end is a half
+ * pair, which breaks a rule.
+ *
+ * The rules of a pair
+ *   - The old label lies in 100 to 999, the new one in 1 to 99.
+ *   - The new label does not occur in the table or in the shape, even if the old one occurs in neither.
+ *   - No pair before it has the same old label or the same new one: of two that clash, the later is at fault.
+ * An old label need not occur. Since new labels differ, a list has at most 99 pairs.
+ *
+ * Place of refusal 26: the first row that has a label above 99 which is no old label of the list; where there is no such row, the first entry
+ * with such a label in its type. So it is row `place` where that row has such a label, and else entry `place`.
+ */
+
+/*
+ * Converts the labels of a table and its shape: refusals 1 to 3, 5 and 6 of the width with labels to 999, 25, 26 and 29, or both files with
+ * each old label of the list replaced by the new one of its pair, in what is lent. Every other byte is that of the file which was read, so that the
+ * new files have the lengths of the old ones, table_len and shape_len; 29 says that one of the two has fewer bytes lent. Bytes past them stay as
+ * they were.
+ *
+ * What is written is always accepted at its width: with no refusal 1 to 3, or 5 and 6. Two rows have equal types afterwards exactly if they had
+ * before, and closest rows stay closest. So refusals 4 and 7 come exactly where the old range would have them, and the verdict, the second answer,
+ * the summary and the source list are those of the old files; the lines too, with their labels converted.
+ */
+silmezga_converted silmezga_convert_labels(silmezga_width width, const uint8_t *table, size_t table_len, const uint8_t *shape, size_t shape_len,
+                                           const uint16_t *pairs, size_t numbers, uint8_t *new_table, size_t new_table_len,
+                                           uint8_t *new_shape, size_t new_shape_len);
 
 #ifdef __cplusplus
 }

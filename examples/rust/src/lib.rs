@@ -1,7 +1,10 @@
-//! The six calls of Silmezga over its static library, and those that widen and narrow files, safe: slices in, an answer or a refusal out.
+//! The six calls of Silmezga over its static library, those that widen and narrow files and the one that converts labels, safe: slices in, an
+//! answer or a refusal out.
 //!
 //! The layouts of tables and shapes, the limits, and when each refusal is given stand in `include/silmezga.h`. What the calls answer
 //! is proved of the archive's functions; this file, which passes slices to them, is not covered by a proof.
+
+mod archive;
 
 /// The width of a table and of the shape that goes with it, and of the new table. A file does not say which it has: the caller does.
 #[repr(u32)]
@@ -40,6 +43,10 @@ impl Width {
     }
 }
 
+/// The greatest label.
+pub const MOST_LABEL: u16 = 99;
+/// The greatest label of files stored before version 3, which `convert_labels` alone takes.
+pub const MOST_OLD_LABEL: u16 = 999;
 /// The most rows of a table.
 pub const MOST_ROWS: usize = 1_024;
 /// The most types of a table: so many summaries are always enough.
@@ -106,68 +113,11 @@ pub struct Summary {
     pub different: [usize; MOST_ENTRIES],
 }
 
-/// What the archive exports, as `include/silmezga.h` declares it.
-mod archive {
-    use super::{TypeSummary, Width, MOST_ENTRIES};
-
-    /// The answer of examining, adorning, reshaping, widening and narrowing: a count of rows, types, lines or entries.
-    #[repr(C)]
-    pub struct Counted {
-        pub number: usize,
-        pub place: usize,
-        pub count: usize,
-    }
-
-    #[repr(C)]
-    pub struct LookedUp {
-        pub number: usize,
-        pub place: usize,
-        pub start: usize,
-        pub length: usize,
-    }
-
-    #[repr(C)]
-    pub struct Judged {
-        pub number: usize,
-        pub place: usize,
-        pub verdict: usize,
-        pub first: usize,
-        pub second: usize,
-        pub none_apart: usize,
-    }
-
-    #[repr(C)]
-    pub struct Summarised {
-        pub number: usize,
-        pub place: usize,
-        pub lines: [usize; MOST_ENTRIES],
-        pub rows: [usize; MOST_ENTRIES],
-        pub copies: [usize; MOST_ENTRIES],
-        pub different: [usize; MOST_ENTRIES],
-    }
-
-    extern "C" {
-        pub fn silmezga_examine(width: Width, table: *const u8, table_len: usize) -> Counted;
-        pub fn silmezga_look_up(width: Width, table: *const u8, table_len: usize, row: usize) -> LookedUp;
-        pub fn silmezga_adorn(width: Width, table: *const u8, table_len: usize, summaries: *mut TypeSummary, lent: usize) -> Counted;
-        pub fn silmezga_judge(width: Width, table: *const u8, table_len: usize, shape: *const u8, shape_len: usize) -> Judged;
-        pub fn silmezga_reshape(
-            width: Width,
-            table: *const u8,
-            table_len: usize,
-            shape: *const u8,
-            shape_len: usize,
-            new: *mut u8,
-            new_len: usize,
-            sources: *mut u32,
-            source_places: usize,
-        ) -> Counted;
-        pub fn silmezga_summarise(width: Width, table: *const u8, table_len: usize, shape: *const u8, shape_len: usize) -> Summarised;
-        pub fn silmezga_widen_table(table: *const u8, table_len: usize, new: *mut u8, new_len: usize) -> Counted;
-        pub fn silmezga_narrow_table(table: *const u8, table_len: usize, new: *mut u8, new_len: usize) -> Counted;
-        pub fn silmezga_widen_shape(shape: *const u8, shape_len: usize, new: *mut u8, new_len: usize) -> Counted;
-        pub fn silmezga_narrow_shape(shape: *const u8, shape_len: usize, new: *mut u8, new_len: usize) -> Counted;
-    }
+/// How many rows and entries had their labels converted: all of the table and of the shape.
+#[derive(Clone, Copy, Debug, PartialEq, Eq)]
+pub struct Converted {
+    pub rows: usize,
+    pub entries: usize,
 }
 
 // Safety, for every call below: a slice's pointer and length are those of memory that is there and that the borrow checker keeps; a slice
@@ -267,4 +217,35 @@ pub fn widen_shape(shape: &[u8], new: &mut [u8]) -> Result<usize, Refusal> {
 pub fn narrow_shape(shape: &[u8], new: &mut [u8]) -> Result<usize, Refusal> {
     let a = unsafe { archive::silmezga_narrow_shape(shape.as_ptr(), shape.len(), new.as_mut_ptr(), new.len()) };
     accepted(a.number, a.place, a.count)
+}
+
+/// Converts the labels of a table and its shape, stored with labels to 999, by a list of pairs, old label, new label, and so on: refusals 1 to 3,
+/// 5 and 6 with labels to 999, 25 with the first pair to break a rule, 26 with the first row, else the first entry, that has a label above 99 which
+/// is not in the list, and 29 where fewer bytes are lent than the table or the shape has. Else both files stand at the front of what was lent, each
+/// as long as it was, and what lies past them stays as it was. Types stay equal or different, closest rows stay closest, and verdict, second
+/// answer, summary, source list and lines are those of the old files, the lines with their labels converted.
+pub fn convert_labels(
+    width: Width,
+    table: &[u8],
+    shape: &[u8],
+    pairs: &[u16],
+    new_table: &mut [u8],
+    new_shape: &mut [u8],
+) -> Result<Converted, Refusal> {
+    let a = unsafe {
+        archive::silmezga_convert_labels(
+            width,
+            table.as_ptr(),
+            table.len(),
+            shape.as_ptr(),
+            shape.len(),
+            pairs.as_ptr(),
+            pairs.len(),
+            new_table.as_mut_ptr(),
+            new_table.len(),
+            new_shape.as_mut_ptr(),
+            new_shape.len(),
+        )
+    };
+    accepted(a.number, a.place, Converted { rows: a.rows, entries: a.entries })
 }
