@@ -4,9 +4,9 @@ use mathlib.Core.Path.{_≡_, ap}
 use mathlib.Core.List.{List, [], _∷_, _++_}
 use native.Mathlib.Omega.{arith}
 use lib.ListN.{length}
-use Rattle.listing.specs.Text.{decimal}
-use Rattle.listing.specs.Put.{Put}
-use Rattle.listing.proofs.Putting.{as-long, put-as}
+use Rattle.grammar.specs.Text.{decimal}
+use Rattle.names.specs.Put.{Put}
+use Rattle.names.proofs.Putting.{as-long, put-as}
 -- A wrong definition is refused first by the sample that it breaks, so the samples stand before the laws.
 use Rattle.facts.specs.Samples
 

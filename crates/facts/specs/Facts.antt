@@ -5,8 +5,8 @@ use Rattle.paper.specs.Lists.{joined}
 use Rattle.paper.specs.Format.{Format, byte, word, signed}
 use Rattle.paper.specs.Tables.{rowOf, dewey}
 use Rattle.paper.specs.Shapes.{entryOf, named}
-use Rattle.listing.specs.Text.{ascii, space, decimal, signedText, followed}
-use Rattle.listing.specs.Names.{nameText}
+use Rattle.grammar.specs.Text.{ascii, space, decimal, signedText, followed}
+use Rattle.grammar.specs.Names.{nameText}
 use Rattle.listing.specs.Listing.{lined, deweyText}
 
 -- the parts, one after the other, as a line

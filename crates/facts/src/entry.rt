@@ -1,9 +1,9 @@
 // An entry of a shape: its type by label names, or its fields as they stand.
 use listing::line::put_list;
-use listing::names::put_name;
-use listing::put::put_byte;
-use listing::put::put_bytes;
-use listing::put::put_number;
+use names::names::put_name;
+use names::put::put_byte;
+use names::put::put_bytes;
+use names::put::put_number;
 use paper::Format;
 use tables::row::smaller;
 ghost use mathlib.Core.Path.{_≡_};
@@ -13,8 +13,8 @@ ghost use lib.ListN.{length};
 ghost use Rattle.io.specs.Counts.{Counts};
 ghost use Rattle.paper.specs.Format.{entryBytes, words};
 ghost use Rattle.bytes.specs.Served.{Served, mostLevels};
-ghost use Rattle.listing.specs.Text.{decimal};
-ghost use Rattle.listing.specs.Put.{Put};
+ghost use Rattle.grammar.specs.Text.{decimal};
+ghost use Rattle.names.specs.Put.{Put};
 ghost use Rattle.facts.specs.Facts.{namesText, labelsText, entryText, entryHead, entryFields};
 
 // The names of the first n labels of an entry's record, a space before each.

@@ -4,8 +4,8 @@ use crate::entry::put_named;
 use listing::line::put_dewey;
 use listing::line::put_list;
 use listing::line::put_value;
-use listing::put::put_byte;
-use listing::put::put_bytes;
+use names::put::put_byte;
+use names::put::put_bytes;
 use paper::Format;
 ghost use mathlib.Core.Path.{_≡_};
 ghost use Prim.Native.Nat.{_≤_};
@@ -13,7 +13,7 @@ ghost use lib.ListN.{length};
 ghost use Rattle.io.specs.Counts.{Counts};
 ghost use Rattle.paper.specs.Format.{rowBytes, entryBytes};
 ghost use Rattle.bytes.specs.Served.{Served};
-ghost use Rattle.listing.specs.Put.{Put};
+ghost use Rattle.names.specs.Put.{Put};
 ghost use Rattle.facts.specs.Facts.{rowText, rowHead, rowFields};
 
 // A row's number, its Dewey number, the labels of its type and its value, at the front of the buffer. The type is held as an entry's

@@ -19,7 +19,7 @@ use Rattle.paper.specs.Labels.{oldRange, Pair, pairs, occurring, badPair, unlis
 use Rattle.paper.specs.Labels.{noneConverted, converting, Converting, convert}
 use Rattle.paper.proofs.Lists.{or-left, or-right}
 use Rattle.paper.proofs.Calls.{count-rows, count-entries, whole1-3, passed5, passed5-6}
-use Rattle.paper.proofs.ConvertedFiles.{length-same}
+use Rattle.keeping.proofs.ConvertedFiles.{length-same}
 use Rattle.bytes.proofs.Writing.{front-written}
 use Rattle.tables.specs.Place.{placeOf}
 use Rattle.shapes.proofs.Examined.{place-some, place-none}

@@ -7,7 +7,7 @@ use Rattle.paper.specs.Format.{Format}
 use Rattle.paper.specs.Calls.{given, Reply}
 use Rattle.paper.specs.Labels as Labels
 use Rattle.paper.specs.Labels.{pairs, converting, Converting, convert}
-use Rattle.paper.proofs.ConvertedLeft.{converted-left}
+use Rattle.keeping.proofs.ConvertedLeft.{converted-left}
 use Rattle.labels.specs.Answers.{Converts}
 use Rattle.labels.specs.declared.convert.Converted.{Converted}
 

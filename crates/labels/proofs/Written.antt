@@ -8,7 +8,7 @@ use lib.Seq.{sets, take-all}
 use Rattle.paper.specs.Lists.{joinMap}
 use Rattle.paper.specs.Format.{bytes, words}
 use Rattle.paper.specs.Labels.{Pair, converted, recordWith}
-use Rattle.paper.proofs.ConvertedFiles.{parts, front, middle, length-with}
+use Rattle.keeping.proofs.ConvertedFiles.{parts, front, middle, length-with}
 use Rattle.bytes.proofs.Writing.{all-left, part-written}
 
 module _ (ps : List Pair) (i n : ℕ) where

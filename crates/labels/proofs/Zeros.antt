@@ -13,9 +13,8 @@ use Rattle.paper.specs.Tables.{Row, rowOf, rows}
 use Rattle.paper.specs.Shapes.{Entry, entryOf, entries, named, badEntry}
 use Rattle.paper.specs.Labels.{mostOld, oldRange, Pair, listed, taken, occurring, pairKept, badPairFrom, badPair, labelAt}
 use Rattle.paper.proofs.Lists.{both, or-none, has-map}
-use Rattle.paper.proofs.RelabelledShapes.{any-same}
-use Rattle.paper.proofs.WidenedShapes.{each-part}
-use Rattle.paper.proofs.WidenedCalls.{first-same}
+use Rattle.paper.proofs.Kept.{any-same, first-same}
+use Rattle.paper.proofs.Shapes.{each-part}
 use Rattle.tables.specs.Place.{placeOf}
 use Rattle.tables.proofs.Walks.{count-records}
 use Rattle.labels.specs.Records.{standing}

@@ -7,10 +7,10 @@ use mathlib.Core.List.{List, [], _∷_, _++_, map, append-nil}
 use lib.ListN.{take}
 use Rattle.paper.specs.Format.{word, words}
 use Rattle.paper.proofs.Lists.{map-append, join-append}
-use Rattle.listing.specs.Text.{dot, decimal, followed, parted}
+use Rattle.grammar.specs.Text.{dot, decimal, followed, parted}
 use Rattle.listing.specs.Listing.{deweyText}
-use Rattle.listing.specs.Put.{Put}
-use Rattle.listing.proofs.Putting.{put-then, put-as}
+use Rattle.names.specs.Put.{Put}
+use Rattle.names.proofs.Putting.{put-then, put-as}
 
 -- ---- the numbers that a record holds from a byte on
 -- One number more.

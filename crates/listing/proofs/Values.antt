@@ -5,7 +5,7 @@ use mathlib.Core.Path.{_≡_, refl, _∙_, ap}
 use mathlib.Core.List.{List, _∷_}
 use borrow.Author.Tests.{lt-ltb, le-ltb}
 use Rattle.paper.specs.Format.{number, signed}
-use Rattle.listing.specs.Text.{hyphen, decimal, signedText}
+use Rattle.grammar.specs.Text.{hyphen, decimal, signedText}
 
 module _ (b : List ℕ) (x : ℕ) (is : x ≡ number b) where
   -- A value whose bits are below 2 ^ 63 is not below 0.

@@ -1,5 +1,2 @@
-pub mod Text
-pub mod Names
 pub mod Listing
 pub mod Samples
-pub mod Put

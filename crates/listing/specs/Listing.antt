@@ -9,8 +9,8 @@ use Rattle.paper.specs.Tables.{rowOf, dewey}
 use Rattle.paper.specs.NewTable.{entryUnit}
 use Rattle.paper.specs.Verdict.{Judgement, verdictNumbers}
 use Rattle.paper.specs.Calls.{Reply, Reshaping}
-use Rattle.listing.specs.Text.{ascii, newline, space, dot, decimal, signedText, parted}
-use Rattle.listing.specs.Names.{nameText}
+use Rattle.grammar.specs.Text.{ascii, newline, space, dot, decimal, signedText, parted}
+use Rattle.grammar.specs.Names.{nameText}
 
 -- a text and the end of its line
 abbrev pub lined : List ℕ → List ℕ

@@ -10,8 +10,8 @@ use Rattle.paper.specs.Calls.{judge}
 use Rattle.paper.specs.NewTable.{entryUnit}
 use Rattle.paper.specs.Opened.{opened}
 use Rattle.paper.specs.Samples.{row, table, entry, A, portfolio, lessee, lease, asset, reshaped}
-use Rattle.listing.specs.Text.{ascii, digitsIn, decimal, signedText, followed, parted}
-use Rattle.listing.specs.Names.{names, nameOf, nameText}
+use Rattle.grammar.specs.Text.{ascii, digitsIn, decimal, signedText, followed, parted}
+use Rattle.grammar.specs.Names.{names, nameOf, nameText}
 use Rattle.listing.specs.Listing.{refusedText, verdictText, deweyText, lineText, linesText, listingText}
 
 -- what is printed of a table and a shape

@@ -1,13 +1,13 @@
 // The first line of the listing: a refusal, or the verdict.
-use crate::put::put_after;
-use crate::put::put_byte;
-use crate::put::put_bytes;
 use judging::verdict::Verdict;
+use names::put::put_after;
+use names::put::put_byte;
+use names::put::put_bytes;
 ghost use mathlib.Core.List.{_∷_, []};
 ghost use Rattle.io.specs.Counts.{Counts};
 ghost use Rattle.judging.specs.Told.{numbersOf};
 ghost use Rattle.listing.specs.Listing.{refusedText, verdictText};
-ghost use Rattle.listing.specs.Put.{Put};
+ghost use Rattle.names.specs.Put.{Put};
 
 // A refusal's number and place, at the front of the buffer.
 pub fn put_refused(out: &mut [u8; 256], number: usize, place: usize) -> usize

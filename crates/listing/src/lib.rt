@@ -3,5 +3,3 @@
 // has room; which lines are printed, and in what order, is left to the program.
 pub mod answers;
 pub mod line;
-pub mod names;
-pub mod put;

@@ -1,8 +1,8 @@
 // A line of the listing: Dewey number, entry, label name, source row, value.
-use crate::names::put_name;
-use crate::put::put_after;
-use crate::put::put_byte;
-use crate::put::put_number;
+use names::names::put_name;
+use names::put::put_after;
+use names::put::put_byte;
+use names::put::put_number;
 use paper::Format;
 use tables::row::smaller;
 ghost use mathlib.Core.Path.{_≡_};
@@ -13,9 +13,9 @@ ghost use Rattle.io.specs.Counts.{Counts};
 ghost use Rattle.paper.specs.Format.{rowBytes, words, signed};
 ghost use Rattle.paper.specs.Tables.{rowOf, dewey};
 ghost use Rattle.bytes.specs.Served.{Served, mostLevels};
-ghost use Rattle.listing.specs.Text.{dot, decimal, signedText, followed};
+ghost use Rattle.grammar.specs.Text.{dot, decimal, signedText, followed};
 ghost use Rattle.listing.specs.Listing.{deweyText, lineText};
-ghost use Rattle.listing.specs.Put.{Put};
+ghost use Rattle.names.specs.Put.{Put};
 
 // The numbers after the first of the list that a record holds, n of them, each with a dot before it.
 fn put_further(out: &mut [u8], at: usize, held: &[u8], n: usize) -> usize

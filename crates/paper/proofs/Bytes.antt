@@ -1,12 +1,12 @@
--- Records that are written are read back as they were. Assumes nothing.
-use Prim.Native.Nat.{ℕ, suc, _+_, _*_, _/_, _%_, _<_}
-use native.Mathlib.Nat.{zero-div, add-div-left, zero-mul, suc-mul}
+-- Records that are written are read back as they were, and a file is its records. Assumes nothing.
+use Prim.Native.Nat.{ℕ, zero, suc, _+_, _*_, _/_, _%_, _≤_, _<_}
+use native.Mathlib.Nat.{zero-div, add-div-left, zero-mul, suc-mul, div-add-mod', div-mul-le-self}
 use native.Mathlib.Omega.{arith}
 use mathlib.Core.Path.{_≡_, refl, sym, _∙_, ap, ap₂}
 use mathlib.Core.Logic.{inl, inr}
 use mathlib.Core.List.{List, [], _∷_, _++_, map, append-assoc}
-use lib.ListN.{length, getD, take, length-append}
-use lib.Seq.{getD-at, take-at, drop-at}
+use lib.ListN.{length, getD, take, drop, length-append, length-drop}
+use lib.Seq.{getD-at, take-all, take-at, drop-at, take-add, length-take-le}
 use Rattle.paper.specs.Lists.{Has, joinMap}
 use Rattle.paper.specs.Format.{Format, headBytes, listBytes, valueBytes, rowBytes, word, words, span, records, whole, bytes}
 use Rattle.paper.specs.Tables.{Row, rowOf, rowBack, dewey}
@@ -121,3 +121,29 @@ module _ {A : Type 0} (w : ℕ) (pos : 0 < w) (g : A → List ℕ) where
   records-back (x ∷ xs) e =
       ap₂ {C = List (List ℕ)} (λ a l. a ∷ l) (take-at (g x) (joinMap g xs) w (e x (inl refl)))
       (ap (records w (length xs)) (drop-at (g x) (joinMap g xs) w (e x (inl refl))) ∙ records-back xs (λ y h. e y (inr h)))
+
+-- ---- the records of a file
+module _ (w : ℕ) where
+  pub record-size : (m : ℕ) (b : List ℕ) → m * w ≤ length b → (r : List ℕ) → Has r (records w m b) → length r ≡ w
+  record-size zero b le r h = absurd h
+  record-size (suc m) b le r (inl e) = ap length e ∙ length-take-le w b (omega (arith, suc-mul m w))
+  record-size (suc m) b le r (inr h) = record-size m (drop w b) (omega (arith, suc-mul m w, length-drop w b)) r h
+
+  pub file-record : (b r : List ℕ) → Has r (records w (whole w b) b) → length r ≡ w
+  file-record b = record-size (whole w b) b (div-mul-le-self (length b) w)
+
+  joined-records : (m : ℕ) (b : List ℕ) → joinMap (λ r. r) (records w m b) ≡ take (m * w) b
+  joined-records zero b = ap (λ k. take k b) (sym (zero-mul w))
+  joined-records (suc m) b =
+      ap (λ l. take w b ++ l) (joined-records m (drop w b)) ∙ sym (take-add w (m * w) b)
+      ∙ ap (λ k. take k b) more
+    where
+      more : w + m * w ≡ suc m * w
+      more = omega (arith, suc-mul m w)
+
+  -- the bytes of a file of whole records
+  pub whole-length : (b : List ℕ) → length b % w ≡ 0 → whole w b * w ≡ length b
+  whole-length b e = omega (arith, div-add-mod' (length b) w, e)
+
+  pub whole-records : (b : List ℕ) → length b % w ≡ 0 → joinMap (λ r. r) (records w (whole w b) b) ≡ b
+  whole-records b e = joined-records (whole w b) b ∙ take-all (whole w b * w) b (omega (arith, whole-length b e))

@@ -10,7 +10,7 @@ use lib.Dec.{eqb, leb}
 use lib.ListN.{length, getD, take, drop, length-append}
 use lib.Seq.{take-at}
 use borrow.Author.Tests.{eqb-true, eq-eqb, leb-true, leb-false}
-use Rattle.paper.specs.Lists.{Has, keep, all, any, lastOr, most, least, joined, joinMap, same, up, count}
+use Rattle.paper.specs.Lists.{Has, keep, all, any, lastOr, between, most, least, joined, joinMap, same, up, count}
 use Rattle.paper.specs.Verdict.{isEmpty}
 -- A wrong definition is refused first by the sample that it breaks, so the samples stand before every law.
 use Rattle.paper.specs.Samples
@@ -41,6 +41,10 @@ or-right false e = e
 pub or-none : (x : Bool) → x || false ≡ x
 or-none true = refl
 or-none false = refl
+
+-- x lies in a to b
+pub within : (a x b : ℕ) → between a x b ≡ true → (a ≤ x) × (x ≤ b)
+within a x b h = let (lo, hi) = both (leb a x) (leb x b) h in (leb-true a x lo, leb-true x b hi)
 
 pub same-eq : (a b : List ℕ) → same a b ≡ true → a ≡ b
 same-eq [] [] e = refl

@@ -1,5 +1,5 @@
 -- The ways of a shape that keeps the entry rules: each ends at its own entry, starts at entry 0, and is as long as the entry's
--- level; what stands on a way has its own way cut there. Assumes nothing.
+-- level; what stands on a way has its own way cut there. What the rules say of its entries. Assumes nothing.
 use Prim.Native.Nat.{ℕ, zero, suc, _+_, _≤_, _<_, pred}
 use native.Mathlib.Nat.{not-suc-le-zero, le-of-suc-le-suc, zero-add}
 use native.Mathlib.Omega.{arith}
@@ -7,16 +7,17 @@ use mathlib.Core.Path.{_≡_, refl, sym, _∙_, ap, subst}
 use mathlib.Core.Logic.{_⊎_, inl, inr, ⊎-elim}
 use mathlib.Core.Bool.{true, _&&_}
 use mathlib.Core.List.{List, [], _∷_, _++_, map}
+use mathlib.Core.Option.{none}
 use lib.Dec.{leb, eqb}
 use lib.ListN.{length, getD, length-append, length-take, take, drop}
 use lib.Seq.{take-append-seam, take-nil}
 use borrow.Author.Tests.{leb-true, eqb-true}
 use Rattle.paper.specs.Lists.{Has, all, lastOr, between, ways}
-use Rattle.paper.specs.Format.{Format}
-use Rattle.paper.specs.Shapes.{Entry, Shape, named, levelKept, entryKept, steps, shapeOver, way}
-use Rattle.paper.proofs.Lists.{both, all-has, last-has, getD-has, has-getD}
+use Rattle.paper.specs.Format.{Format, headBytes, entryBytes, records, whole}
+use Rattle.paper.specs.Shapes.{Entry, Shape, entryOf, entries, named, levelKept, entryKept, badEntry, steps, shapeOver, way}
+use Rattle.paper.proofs.Lists.{both, within, all-has, map-has, last-has, getD-has, has-getD}
 use Rattle.paper.proofs.Forest.{Kin, above}
-use Rattle.paper.proofs.Tables.{Rules}
+use Rattle.paper.proofs.Tables.{Rules, none-rules, rules-each, length-words}
 
 -- ---- ways, whatever the levels
 take-length-take : (n : ℕ) (w : List ℕ) → take (length (take n w)) w ≡ take n w
@@ -67,10 +68,8 @@ entry-parts f before e h =
     let b = both (l && z && eqb (e .spare) 0 && all (λ x. between 1 x (f .labels)) (named e)) (all (eqb 0) (drop (e .size) (e .labels))) (a .0) in
     let c = both (l && z && eqb (e .spare) 0) (all (λ x. between 1 x (f .labels)) (named e)) (b .0) in
     let d = both l z (both (l && z) (eqb (e .spare) 0) (c .0) .0) in
-    record { level = within (e .level) (d .0); size = within (e .size) (d .1); labels = c .1; zeros = b .1; next = a .1 }
-  where
-    within : (x : ℕ) → between 1 x (f .levels) ≡ true → (1 ≤ x) × (x ≤ f .levels)
-    within x q = let k = both (leb 1 x) (leb x (f .levels)) q in (leb-true 1 x (k .0), leb-true x (f .levels) (k .1))
+    let inside : (x : ℕ) → between 1 x (f .levels) ≡ true → (1 ≤ x) × (x ≤ f .levels) = λ x. within 1 x (f .levels) in
+    record { level = inside (e .level) (d .0); size = inside (e .size) (d .1); labels = c .1; zeros = b .1; next = a .1 }
 
 -- level 1 to the format's, and one more than the level before at the most; after the first at least 2
 entry-level : (f : Format) (before : ℕ) (e : Entry) → entryKept f before e ≡ true
@@ -99,6 +98,24 @@ entry-label f before e laid h =
 
 abbrev pub levelOf : Entry → ℕ
 levelOf e = e .level
+
+pub entries-laid : (f : Format) (s : List ℕ) (e : Entry) → Has e (entries f s) → length (e .labels) ≡ f .levels
+unfolding entries entryOf
+entries-laid f s e h =
+    let (r, hr, q) = map-has (entryOf f) e (records (entryBytes f) (whole (entryBytes f) s) s) h in
+    ap (λ (e : Entry). length (e .labels)) q ∙ length-words (f .levels) r headBytes
+
+-- what the rules say of each entry of a shape that keeps them
+pub each-part : (f : Format) (es : List Entry) → badEntry f es ≡ none → (e : Entry) → Has e es → (before : ℕ) × Parts f before e
+unfolding badEntry
+each-part f es sound e h =
+    let (before, k) = rules-each (entryKept f) levelOf 0 es (none-rules (entryKept f) levelOf 0 0 es sound) e h in
+    (before, entry-parts f before e k)
+
+-- a sound shape's labels lie in its range
+pub sound-named : (f : Format) (es : List Entry) → badEntry f es ≡ none → (e : Entry) → Has e es → (x : ℕ) → Has x (named e) → (1 ≤ x) × (x ≤ f .labels)
+sound-named f es sound e h x i =
+    within 1 x (f .labels) (all-has (λ x. between 1 x (f .labels)) x (named e) (each-part f es sound e h .1 .labels) i)
 
 module _ (f : Format) where
   -- the way of an entry that keeps the rules after the way w

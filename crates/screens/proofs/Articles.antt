@@ -11,9 +11,9 @@ use borrow.Author.Tests.{eq-eqb, ne-eqb, ltb-true, not-true}
 use types.Run.{OneOf}
 use Rattle.paper.specs.Lists.{any, firstOr, count}
 use Rattle.paper.proofs.Lists.{or-left, or-right, all-has, has-count}
-use Rattle.listing.specs.Text.{ascii, digit, digitsIn, decimal}
-use Rattle.listing.specs.Names.{names, named, nameOf, nameText}
-use Rattle.listing.proofs.Naming.{has-name}
+use Rattle.grammar.specs.Text.{ascii, digit, digitsIn, decimal}
+use Rattle.grammar.specs.Names.{names, named, nameOf, nameText}
+use Rattle.names.proofs.Naming.{has-name}
 use Rattle.screens.specs.Screens.{vowel, article}
 -- A wrong definition is refused first by the sample that it breaks, so the samples stand before the laws.
 use Rattle.screens.specs.Samples

@@ -8,10 +8,10 @@ use borrow.Author.Tests.{eq-eqb, ne-eqb}
 use Rattle.io.specs.Counts.{Counts}
 use Rattle.io.proofs.Counting.{counts}
 use Rattle.paper.specs.Adorned.{Summary}
-use Rattle.listing.specs.Text.{ascii}
+use Rattle.grammar.specs.Text.{ascii}
 use Rattle.listing.specs.Listing.{lined}
-use Rattle.listing.specs.Put.{Put}
-use Rattle.listing.proofs.Putting.{as-long, put-then}
+use Rattle.names.specs.Put.{Put}
+use Rattle.names.proofs.Putting.{as-long, put-then}
 use Rattle.screens.specs.Screens.{rowsText, underText, typeText}
 -- A wrong definition is refused first by the sample that it breaks, so the samples stand before the laws.
 use Rattle.screens.specs.Samples

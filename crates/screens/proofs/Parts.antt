@@ -5,7 +5,7 @@ use mathlib.Core.Path.{_≡_, refl, _∙_, ap}
 use mathlib.Core.List.{List, [], _∷_, _++_}
 use lib.ListN.{replicate, replicate-append-replicate}
 use borrow.Author.Tests.{eq-eqb, ne-eqb}
-use Rattle.listing.specs.Text.{space, decimal}
+use Rattle.grammar.specs.Text.{space, decimal}
 use Rattle.screens.specs.Screens.{counted, indent}
 -- A wrong definition is refused first by the sample that it breaks, so the samples stand before the laws.
 use Rattle.screens.specs.Samples

@@ -2,8 +2,8 @@
 use Prim.Native.Nat.{ℕ, _-_, _^_}
 use mathlib.Core.Path.{_≡_, refl}
 use mathlib.Core.List.{List, [], _∷_, _++_, map}
-use Rattle.listing.specs.Text.{ascii, digitsIn, decimal}
-use Rattle.listing.specs.Names.{names, nameOf, nameText}
+use Rattle.grammar.specs.Text.{ascii, digitsIn, decimal}
+use Rattle.grammar.specs.Names.{names, nameOf, nameText}
 use Rattle.screens.specs.Screens.{counted, indent, vowel, article, withArticle, countsText, figuresText, rowsText, underText, typeText}
 
 -- the largest number that is printed

@@ -6,8 +6,8 @@ use lib.Dec.{eqb}
 use lib.ListN.{replicate}
 use Rattle.paper.specs.Lists.{any, firstOr}
 use Rattle.paper.specs.Adorned.{Summary}
-use Rattle.listing.specs.Text.{ascii, space, decimal}
-use Rattle.listing.specs.Names.{nameText}
+use Rattle.grammar.specs.Text.{ascii, space, decimal}
+use Rattle.grammar.specs.Names.{nameText}
 use Rattle.listing.specs.Listing.{lined}
 
 -- ---- words

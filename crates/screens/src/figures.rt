@@ -1,15 +1,15 @@
 // A line of the figures' screen: an entry's number, its label name, and its figures.
 use crate::words::put_counted;
 use crate::words::put_indent;
-use listing::names::put_name;
-use listing::put::put_byte;
-use listing::put::put_bytes;
-use listing::put::put_number;
+use names::names::put_name;
+use names::put::put_byte;
+use names::put::put_bytes;
+use names::put::put_number;
 ghost use Prim.Native.Nat.{_+_, _≤_};
 ghost use lib.ListN.{length};
 ghost use Rattle.io.specs.Counts.{Counts};
 ghost use Rattle.bytes.specs.Served.{mostLevels};
-ghost use Rattle.listing.specs.Put.{Put};
+ghost use Rattle.names.specs.Put.{Put};
 ghost use Rattle.screens.specs.Screens.{countsText, figuresText};
 
 // An entry's figures: its lines, the source rows of its type, copies, and the different source rows in its lines.

@@ -3,16 +3,16 @@ use crate::words::put_counted;
 use crate::words::put_indent;
 use crate::words::put_with_article;
 use adorned::TypeSummary;
-use listing::names::put_name;
-use listing::put::put_byte;
-use listing::put::put_bytes;
-use listing::put::put_number;
+use names::names::put_name;
+use names::put::put_byte;
+use names::put::put_bytes;
+use names::put::put_number;
 ghost use Prim.Native.Nat.{_+_, _≤_};
 ghost use lib.ListN.{length};
 ghost use Rattle.io.specs.Counts.{Counts};
 ghost use Rattle.bytes.specs.Served.{mostLevels};
 ghost use Rattle.adorned.specs.Told.{told};
-ghost use Rattle.listing.specs.Put.{Put};
+ghost use Rattle.names.specs.Put.{Put};
 ghost use Rattle.screens.specs.Screens.{rowsText, underText, typeText};
 
 // The type's name and rows.

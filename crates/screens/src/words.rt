@@ -1,16 +1,16 @@
 // The parts that lines are made of: counts with their words, indents, articles.
-use listing::names::name_bytes;
-use listing::names::put_name;
-use listing::put::put_byte;
-use listing::put::put_bytes;
-use listing::put::put_number;
+use names::names::name_bytes;
+use names::names::put_name;
+use names::put::put_byte;
+use names::put::put_bytes;
+use names::put::put_number;
 ghost use mathlib.Core.Path.{_≡_};
 ghost use Prim.Native.Nat.{_+_, _≤_};
 ghost use lib.ListN.{length};
 ghost use Rattle.paper.specs.Lists.{firstOr};
 ghost use Rattle.bytes.specs.Served.{mostLevels};
-ghost use Rattle.listing.specs.Names.{nameText};
-ghost use Rattle.listing.specs.Put.{Put};
+ghost use Rattle.grammar.specs.Names.{nameText};
+ghost use Rattle.names.specs.Put.{Put};
 ghost use Rattle.screens.specs.Screens.{counted, indent, vowel, article, withArticle};
 
 // A number and the word for what is counted: `one` for 1, `more`, which is no shorter, for any other.

@@ -49,11 +49,11 @@ some-number ts (x ∷ u) lt = refl
 -- ---- the types that are told
 module _ (ts : List (List ℕ)) (parents labels : List ℕ) (count : ℕ) (told : Told ts parents labels count) where
   -- nothing, or a listed type
-  abbrev Known : List ℕ → Type 0
+  abbrev pub Known : List ℕ → Type 0
   Known u = (u ≡ []) ⊎ Has u ts
 
   -- a listed type's number is below 64
-  below-most : (u : List ℕ) → Has u ts → typeNumber ts u < mostTypes
+  pub below-most : (u : List ℕ) → Has u ts → typeNumber ts u < mostTypes
   below-most u h = omega (arith, number-at u ts h .0, told .count-is, told .few)
 
   -- numbers tell the known apart
@@ -68,7 +68,7 @@ module _ (ts : List (List ℕ)) (parents labels : List ℕ) (count : ℕ) (told 
   number-one (x ∷ u) (y ∷ v) (inr h) (inr k) e = number-same (x ∷ u) (y ∷ v) ts h k e
 
   -- what stands above a listed type is known
-  known-up : (u : List ℕ) → Has u ts → Known (up u)
+  pub known-up : (u : List ℕ) → Has u ts → Known (up u)
   known-up u h = go (pred (length u)) (omega arith)
     where
       go : (k : ℕ) → k ≤ length u → Known (take k u)
@@ -76,7 +76,7 @@ module _ (ts : List (List ℕ)) (parents labels : List ℕ) (count : ℕ) (told 
       go (suc k) le = inr (told .above u h (suc k) (omega arith) le)
 
   -- a type is what stands above it and its last label
-  in-two : (u : List ℕ) → Has u ts → u ≡ up u ++ (lastOr 0 u ∷ [])
+  pub in-two : (u : List ℕ) → Has u ts → u ≡ up u ++ (lastOr 0 u ∷ [])
   in-two u h = go u (told .whole u h)
     where
       go : (u : List ℕ) → 0 < length u → u ≡ up u ++ (lastOr 0 u ∷ [])

@@ -1,7 +1,7 @@
 -- `entry::put_entry`: the number, a colon, the labels, and the end of the line. Assumes nothing.
 use native.Mathlib.Omega.{arith}
 use Rattle.io.proofs.Counting.{counts}
-use Rattle.listing.proofs.Putting.{as-long, put-then, put-last}
+use Rattle.names.proofs.Putting.{as-long, put-then, put-last}
 use Rattle.facts.specs.Facts.{joinedLine, entryText}
 use borrow.Author.Needs.{needs}
 use Rattle.facts.proofs.entry.put_entry.Statement.{statement}

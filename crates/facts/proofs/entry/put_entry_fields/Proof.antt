@@ -1,7 +1,7 @@
 -- `entry::put_entry_fields`: the first fields, the labels, and the end of the line. Assumes nothing.
 use Rattle.io.proofs.Counting.{counts}
 use Rattle.paper.specs.Shapes.{entryOf}
-use Rattle.listing.proofs.Putting.{put-then, put-last}
+use Rattle.names.proofs.Putting.{put-then, put-last}
 use Rattle.facts.specs.Facts.{joinedLine, entryFields}
 use Rattle.facts.proofs.Parts.{room}
 use borrow.Author.Needs.{needs}

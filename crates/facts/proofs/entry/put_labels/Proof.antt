@@ -3,7 +3,7 @@ use mathlib.Core.Path.{sym, _∙_, ap}
 use Prim.Native.Nat.{min}
 use lib.ListN.{getD}
 use Rattle.paper.specs.Shapes.{entryOf}
-use Rattle.listing.proofs.Putting.{put-as}
+use Rattle.names.proofs.Putting.{put-as}
 use Rattle.listing.proofs.Dewey.{take-words}
 use Rattle.facts.specs.Facts.{namesText, labelsText}
 use borrow.Author.Needs.{needs}

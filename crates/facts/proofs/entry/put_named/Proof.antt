@@ -1,6 +1,6 @@
 -- `entry::put_named`: the text, and the number after it. Assumes nothing.
 use native.Mathlib.Omega.{arith}
-use Rattle.listing.proofs.Putting.{put-then}
+use Rattle.names.proofs.Putting.{put-then}
 use borrow.Author.Needs.{needs}
 use Rattle.facts.proofs.entry.put_named.Statement.{statement}
 use Rattle.facts.proofs.entry.put_named.Tie as tie

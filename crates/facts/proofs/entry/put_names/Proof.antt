@@ -4,10 +4,10 @@ use native.Mathlib.Omega.{arith}
 use mathlib.Core.Path.{_≡_, refl, ap}
 use mathlib.Core.List.{List}
 use lib.ListN.{length}
-use Rattle.listing.specs.Text.{space, followed}
-use Rattle.listing.specs.Names.{nameText}
-use Rattle.listing.specs.Put.{Put}
-use Rattle.listing.proofs.Putting.{as-long, put-none, put-then, put-as}
+use Rattle.grammar.specs.Text.{space, followed}
+use Rattle.grammar.specs.Names.{nameText}
+use Rattle.names.specs.Put.{Put}
+use Rattle.names.proofs.Putting.{as-long, put-none, put-then, put-as}
 use Rattle.listing.proofs.Dewey.{leading, leading-put}
 use Rattle.facts.specs.Facts.{namesText}
 -- A wrong definition is refused first by the sample that it breaks, so the samples stand before the proofs.

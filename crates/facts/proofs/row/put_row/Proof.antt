@@ -2,7 +2,7 @@
 use Prim.Native.Nat.{_≤_}
 use native.Mathlib.Omega.{arith}
 use Rattle.io.proofs.Counting.{counts}
-use Rattle.listing.proofs.Putting.{put-then, put-last}
+use Rattle.names.proofs.Putting.{put-then, put-last}
 use Rattle.facts.specs.Facts.{joinedLine, rowText}
 use Rattle.facts.proofs.Parts.{room}
 use borrow.Author.Needs.{needs}

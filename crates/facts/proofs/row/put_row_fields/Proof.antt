@@ -1,7 +1,7 @@
 -- `row::put_row_fields`: the first fields, the components, the value, and the end of the line. Assumes nothing.
 use Rattle.io.proofs.Counting.{counts}
 use Rattle.paper.specs.Tables.{rowOf}
-use Rattle.listing.proofs.Putting.{put-then, put-last}
+use Rattle.names.proofs.Putting.{put-then, put-last}
 use Rattle.facts.specs.Facts.{joinedLine, rowFields}
 use Rattle.facts.proofs.Parts.{room}
 use borrow.Author.Needs.{needs}

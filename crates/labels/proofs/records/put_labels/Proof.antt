@@ -8,8 +8,8 @@ use lib.Seq.{sets}
 use Rattle.paper.specs.Lists.{joinMap}
 use Rattle.paper.specs.Format.{bytes, words}
 use Rattle.paper.specs.Labels.{pairs, converted}
+use Rattle.paper.proofs.Kept.{getD-moved}
 use Rattle.paper.proofs.Tables.{length-words}
-use Rattle.paper.proofs.WidenedCalls.{getD-moved}
 use Rattle.bytes.proofs.Writing.{Writing, all-left, all-written, number-written, numbers-end}
 use borrow.Author.Needs.{needs}
 use Rattle.labels.proofs.records.put_labels.Statement.{statement}

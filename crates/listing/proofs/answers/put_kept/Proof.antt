@@ -1,9 +1,9 @@
 -- `answers::put_kept`: the word, the number, and the end of the line. Assumes nothing.
 use native.Mathlib.Omega.{arith}
 use Rattle.io.proofs.Counting.{counts}
-use Rattle.listing.specs.Text.{followed, parted}
+use Rattle.grammar.specs.Text.{followed, parted}
 use Rattle.listing.specs.Listing.{verdictText}
-use Rattle.listing.proofs.Putting.{as-long, put-then, put-last}
+use Rattle.names.proofs.Putting.{as-long, put-then, put-last}
 use borrow.Author.Needs.{needs}
 use Rattle.listing.proofs.answers.put_kept.Statement.{statement}
 use Rattle.listing.proofs.answers.put_kept.Tie as tie

@@ -1,9 +1,9 @@
 -- `answers::put_refused`: the word, the number, the place, and the end of the line. Assumes nothing.
 use native.Mathlib.Omega.{arith}
 use Rattle.io.proofs.Counting.{counts}
-use Rattle.listing.specs.Text.{followed, parted}
+use Rattle.grammar.specs.Text.{followed, parted}
 use Rattle.listing.specs.Listing.{refusedText}
-use Rattle.listing.proofs.Putting.{as-long, put-then, put-last, put-figure}
+use Rattle.names.proofs.Putting.{as-long, put-then, put-last, put-figure}
 use borrow.Author.Needs.{needs}
 use Rattle.listing.proofs.answers.put_refused.Statement.{statement}
 use Rattle.listing.proofs.answers.put_refused.Tie as tie

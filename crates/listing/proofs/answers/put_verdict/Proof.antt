@@ -2,7 +2,7 @@
 use mathlib.Core.Path.{sym, ap}
 use Rattle.judging.specs.Told.{numbersOf}
 use Rattle.listing.specs.Listing.{verdictText}
-use Rattle.listing.proofs.Putting.{put-as}
+use Rattle.names.proofs.Putting.{put-as}
 use borrow.Author.Needs.{needs}
 use Rattle.listing.proofs.answers.put_verdict.Statement.{statement}
 use Rattle.listing.proofs.answers.put_verdict.Tie as tie

@@ -4,7 +4,7 @@ use Prim.Native.Nat.{min}
 use lib.ListN.{getD}
 use Rattle.paper.specs.Tables.{rowOf}
 use Rattle.listing.specs.Listing.{deweyText}
-use Rattle.listing.proofs.Putting.{put-as}
+use Rattle.names.proofs.Putting.{put-as}
 use Rattle.listing.proofs.Dewey.{take-words}
 use borrow.Author.Needs.{needs}
 use Rattle.listing.proofs.line.put_dewey.Statement.{statement}

@@ -2,9 +2,9 @@
 use Prim.Native.Nat.{_+_, _*_, _-_, _≤_}
 use mathlib.Core.Path.{_≡_, refl, ap}
 use lib.ListN.{length}
-use Rattle.listing.specs.Text.{dot, decimal, followed}
-use Rattle.listing.specs.Put.{Put}
-use Rattle.listing.proofs.Putting.{as-long, put-none, put-as}
+use Rattle.grammar.specs.Text.{dot, decimal, followed}
+use Rattle.names.specs.Put.{Put}
+use Rattle.names.proofs.Putting.{as-long, put-none, put-as}
 use Rattle.listing.proofs.Dewey.{further, leading-put}
 use native.Mathlib.Omega.{arith}
 use borrow.Author.Needs.{needs}

@@ -5,10 +5,10 @@ use mathlib.Core.Path.{ap}
 use Rattle.io.proofs.Counting.{counts}
 use Rattle.paper.specs.Tables.{rowOf}
 use Rattle.paper.specs.NewTable.{entryUnit}
-use Rattle.listing.specs.Text.{followed, parted}
-use Rattle.listing.specs.Names.{nameText}
+use Rattle.grammar.specs.Text.{followed, parted}
+use Rattle.grammar.specs.Names.{nameText}
 use Rattle.listing.specs.Listing.{lineText}
-use Rattle.listing.proofs.Putting.{as-long, put-then, put-last, put-as, put-figure}
+use Rattle.names.proofs.Putting.{as-long, put-then, put-last, put-as, put-figure}
 use borrow.Author.Needs.{needs}
 use Rattle.listing.proofs.line.put_line.Statement.{statement}
 use Rattle.listing.proofs.line.put_line.Tie as tie

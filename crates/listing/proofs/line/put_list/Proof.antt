@@ -3,8 +3,8 @@ use native.Mathlib.Omega.{arith}
 use mathlib.Core.Path.{_∙_, ap}
 use mathlib.Core.List.{_++_}
 use Prim.Native.Nat.{_-_}
-use Rattle.listing.specs.Text.{decimal}
-use Rattle.listing.proofs.Putting.{put-none, put-then, put-as}
+use Rattle.grammar.specs.Text.{decimal}
+use Rattle.names.proofs.Putting.{put-none, put-then, put-as}
 use Rattle.listing.proofs.Dewey.{further, list-parts, no-numbers}
 use borrow.Author.Needs.{needs}
 use Rattle.listing.proofs.line.put_list.Statement.{statement}

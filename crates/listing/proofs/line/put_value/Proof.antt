@@ -3,7 +3,7 @@ use native.Mathlib.Omega.{arith}
 use mathlib.Core.Path.{_∙_, ap}
 use Rattle.paper.specs.Format.{number, span}
 use Rattle.paper.specs.Tables.{rowOf}
-use Rattle.listing.proofs.Putting.{put-as}
+use Rattle.names.proofs.Putting.{put-as}
 use Rattle.listing.proofs.Values.{not-below, below}
 use borrow.Author.Needs.{needs}
 use Rattle.listing.proofs.line.put_value.Statement.{statement}

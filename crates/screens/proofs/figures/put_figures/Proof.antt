@@ -1,6 +1,6 @@
 -- `figures::put_figures`: the parts of the line, one after the other. Assumes nothing.
 use native.Mathlib.Omega.{arith}
-use Rattle.listing.proofs.Putting.{put-then}
+use Rattle.names.proofs.Putting.{put-then}
 use Rattle.screens.specs.Screens.{figuresText}
 use Rattle.screens.proofs.Lines.{fits}
 use borrow.Author.Needs.{needs}

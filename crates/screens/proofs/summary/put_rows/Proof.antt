@@ -1,6 +1,6 @@
 -- `summary::put_rows`: the indent, the name, a space, and the rows. Assumes nothing.
 use native.Mathlib.Omega.{arith}
-use Rattle.listing.proofs.Putting.{put-then}
+use Rattle.names.proofs.Putting.{put-then}
 use Rattle.screens.specs.Screens.{rowsText}
 use borrow.Author.Needs.{needs}
 use Rattle.screens.proofs.summary.put_rows.Statement.{statement}

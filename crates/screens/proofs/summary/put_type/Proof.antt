@@ -1,7 +1,7 @@
 -- `summary::put_type`: the rows, below level 1 what they stand under, and the end of the line. Assumes nothing.
 use native.Mathlib.Omega.{arith}
 use Rattle.adorned.specs.Told.{told}
-use Rattle.listing.proofs.Putting.{put-then, put-as}
+use Rattle.names.proofs.Putting.{put-then, put-as}
 use Rattle.screens.proofs.Lines.{fits, root-line, lower-line}
 use borrow.Author.Needs.{needs}
 use Rattle.screens.proofs.summary.put_type.Statement.{statement}

@@ -1,6 +1,6 @@
 -- `summary::put_under`: the parts between the rows and the end of the line. Assumes nothing.
 use native.Mathlib.Omega.{arith}
-use Rattle.listing.proofs.Putting.{put-then}
+use Rattle.names.proofs.Putting.{put-then}
 use Rattle.screens.specs.Screens.{underText}
 use borrow.Author.Needs.{needs}
 use Rattle.screens.proofs.summary.put_under.Statement.{statement}

@@ -1,7 +1,7 @@
 -- `words::put_article`: `an` or `a`, by whether the name begins with a vowel. Assumes nothing.
 use native.Mathlib.Omega.{arith}
-use Rattle.listing.specs.Names.{nameText}
-use Rattle.listing.proofs.Putting.{put-as}
+use Rattle.grammar.specs.Names.{nameText}
+use Rattle.names.proofs.Putting.{put-as}
 use Rattle.screens.proofs.Articles.{article-an, article-a}
 use borrow.Author.Needs.{needs}
 use Rattle.screens.proofs.words.put_article.Statement.{statement}

@@ -1,6 +1,6 @@
 -- `words::put_counted`: the number, a space, and the word that the number takes. Assumes nothing.
 use native.Mathlib.Omega.{arith}
-use Rattle.listing.proofs.Putting.{put-then, put-as}
+use Rattle.names.proofs.Putting.{put-then, put-as}
 use Rattle.screens.proofs.Parts.{counted-one, counted-more}
 use borrow.Author.Needs.{needs}
 use Rattle.screens.proofs.words.put_counted.Statement.{statement}

@@ -4,9 +4,9 @@ use native.Mathlib.Omega.{arith}
 use mathlib.Core.Path.{_≡_, refl}
 use mathlib.Core.List.{[], _∷_}
 use lib.ListN.{length}
-use Rattle.listing.specs.Text.{space}
-use Rattle.listing.specs.Put.{Put}
-use Rattle.listing.proofs.Putting.{as-long, put-none, put-then, put-as}
+use Rattle.grammar.specs.Text.{space}
+use Rattle.names.specs.Put.{Put}
+use Rattle.names.proofs.Putting.{as-long, put-none, put-then, put-as}
 use Rattle.screens.specs.Screens.{indent}
 use Rattle.screens.proofs.Parts.{indent-first, indent-more, indent-same}
 use borrow.Author.Needs.{needs}

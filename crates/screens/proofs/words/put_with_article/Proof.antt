@@ -1,6 +1,6 @@
 -- `words::put_with_article`: the article, a space, and the name. Assumes nothing.
 use native.Mathlib.Omega.{arith}
-use Rattle.listing.proofs.Putting.{put-then}
+use Rattle.names.proofs.Putting.{put-then}
 use Rattle.screens.specs.Screens.{withArticle}
 use borrow.Author.Needs.{needs}
 use Rattle.screens.proofs.words.put_with_article.Statement.{statement}

@@ -1,7 +1,7 @@
 -- `words::vowel_first`: a label with no name is a number, and what is held for a name begins as the name does. Assumes nothing.
 use native.Mathlib.Omega.{arith}
 use mathlib.Core.Path.{_∙_}
-use Rattle.listing.proofs.Naming.{no-name-below, no-name-above}
+use Rattle.names.proofs.Naming.{no-name-below, no-name-above}
 use Rattle.screens.proofs.Articles.{number-first, name-first}
 use borrow.Author.Needs.{needs}
 use Rattle.screens.proofs.words.vowel_first.Statement.{statement}

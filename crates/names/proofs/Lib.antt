@@ -1,0 +1,9 @@
+pub mod Digits
+pub mod Putting
+pub mod Naming
+pub mod Compared
+pub mod Parting
+pub mod Numbered
+pub mod Labelled
+pub mod Reading
+pub mod Guesses

@@ -1,0 +1,63 @@
+-- `word::by_name`: no name but the one that is guessed can be the part. Assumes nothing.
+use Prim.Native.Nat.{ℕ}
+use mathlib.Core.Path.{sym, _∙_, subst}
+use mathlib.Core.List.{List}
+use lib.ListN.{length}
+use Rattle.paper.specs.Lists.{firstOr}
+use borrow.Author.Needs.{needs}
+use Rattle.names.specs.Word.{Guessed}
+use Rattle.names.proofs.Guesses.{first-of, empty-part, long-part, no-guess, other-part, named-part}
+use Rattle.names.proofs.word.by_name.Statement.{statement}
+use Rattle.names.proofs.word.by_name.Tie as tie
+
+abbrev partAt : tie.After-guess → List ℕ
+partAt g = g .before .before .before .before .before .args .part .now
+
+-- the guess is by the part's own first byte
+guessed : (g : tie.After-guess) → Guessed (firstOr 0 (partAt g)) (length (partAt g)) (g .guess .result)
+guessed g = subst (λ a. Guessed a (length (partAt g)) (g .guess .result)) (first-of (partAt g)) (g .guess .ensures)
+
+returns : tie.Need-returns
+returns c = empty-part _ (c .if1 .taken)
+
+returns-2 : tie.Need-returns-2
+returns-2 c = long-part _ (c .if2 .taken)
+
+shared-slice-read-guess : tie.Need-shared-slice-read-guess
+shared-slice-read-guess c = search needs
+
+guess-requires : tie.Need-guess-requires
+guess-requires c κs = search needs
+
+returns-3 : tie.Need-returns-3
+returns-3 c = no-guess (partAt (c .before)) (c .before .guess .result) (guessed (c .before)) (c .if3 .taken)
+
+is-name-requires : tie.Need-is-name-requires
+is-name-requires c κs = search needs
+
+add-result : tie.Need-add-result
+add-result c = search needs
+
+returns-4 : tie.Need-returns-4
+returns-4 c =
+    let g = c .before .before .before in
+    named-part (partAt g) (g .guess .result) (guessed g) (c .before .before .if3 .left) (sym (c .before .is-name .ensures) ∙ c .if4 .taken)
+
+returns-5 : tie.Need-returns-5
+returns-5 c =
+    let g = c .before .before .before in
+    other-part (partAt g) (g .guess .result) (guessed g) (sym (c .before .is-name .ensures) ∙ c .if4 .left)
+
+pub by-name-spec : {M : Type 1} → statement M
+by-name-spec =
+    tie.close
+    (tie.spec
+    returns
+    returns-2
+    shared-slice-read-guess
+    guess-requires
+    returns-3
+    is-name-requires
+    add-result
+    returns-4
+    returns-5)

@@ -1,0 +1,4 @@
+pub mod Held
+pub mod Reading
+pub mod Settles
+pub mod Unique
