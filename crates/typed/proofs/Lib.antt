@@ -1,0 +1,14 @@
+pub mod Upwards
+pub mod Suffix
+pub mod Compared
+pub mod Soles
+pub mod Sizes
+pub mod Backwards
+pub mod Back
+pub mod Firsts
+pub mod Shaped
+pub mod Answers
+pub mod Stages
+pub mod Runs
+pub mod Left
+pub mod Walking

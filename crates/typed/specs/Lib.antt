@@ -1,0 +1,4 @@
+pub mod Matching
+pub mod Entries
+pub mod Walk
+pub mod Read
