@@ -1,7 +1,5 @@
 pub mod Clauses
 pub mod Held
-pub mod Reading
-pub mod ReaderHeld
-pub mod Settles
+pub mod Trees
+pub mod ReadBack
 pub mod Unique
-pub mod ReaderUnique

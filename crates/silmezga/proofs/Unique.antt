@@ -23,6 +23,8 @@ use Rattle.labels.specs.Answers.{Converts}
 use Rattle.labels.specs.declared.convert.Converted.{Converted}
 use Rattle.labels.proofs.Unique.{converts-unique, converts-left}
 use Rattle.bytes.proofs.Laws.{format-served}
+use Rattle.typed.specs.declared.read.TreeRead.{TreeRead}
+use Rattle.spelling.specs.declared.print.TreePrinted.{TreePrinted}
 use Rattle.adorned.specs.Told.{told}
 use Rattle.adorned.specs.Lent.{adornedTypes}
 use Rattle.adorned.specs.declared.TypeSummary.{TypeSummary}
@@ -34,7 +36,8 @@ use Rattle.reshaping.proofs.Unique as reshaping
 use Rattle.reshaping.specs.Reshaped.{summarised}
 use Rattle.reshaping.specs.declared.reshape.Reshaped.{Reshaped}
 use Rattle.reshaping.specs.declared.summarise.Summary.{Summary}
-use Rattle.silmezga.proofs.Settles.{part, Asks-nothing, Settles, Walk-asks-nothing, Walk-settles, nothing, two-clauses}
+use Rattle.reading.proofs.Settles.{part, Asks-nothing, Settles, Walk-asks-nothing, Walk-settles, nothing, two-clauses}
+use Rattle.silmezga.proofs.Trees.{width-named, read-settled, print-settled}
 use Rattle.silmezga.proofs.examine.Reads as examine
 use Rattle.silmezga.proofs.look_up.Reads as look-up
 use Rattle.silmezga.proofs.look_up_refusal.Reads as look-up-refusal
@@ -47,6 +50,8 @@ use Rattle.silmezga.proofs.narrow_table.Reads as narrow-table
 use Rattle.silmezga.proofs.widen_shape.Reads as widen-shape
 use Rattle.silmezga.proofs.narrow_shape.Reads as narrow-shape
 use Rattle.silmezga.proofs.convert_labels.Reads as convert-labels
+use Rattle.silmezga.proofs.read_tree.Reads as read-tree
+use Rattle.silmezga.proofs.print_tree.Reads as print-tree
 
 -- ---- examining and looking up
 pub examine-asks : Asks-nothing examine.Asked
@@ -189,3 +194,16 @@ pub convert-labels-leaves : (κs : _) (a : _) (r : Converted) (e : _) → conver
       take (length (now (a .1 .1 .0))) (now (e .1 .1 .1 .1 .1 .0)),
     )
 convert-labels-leaves κs a r e x = converts-left (formatOf (a .0)) (format-served _ (a .0) refl .small) _ _ _ _ _ r _ _ x
+
+-- ---- typed trees: the answer, and every byte lent for the shape or the line after it
+pub read-tree-asks : Asks-nothing read-tree.Asked
+read-tree-asks κs a = tt
+
+pub read-tree-settled : Settles {X = TreeRead × List ℕ} read-tree.Learnt (λ κs r e. (r, now (e .1 .1 .1 .0)))
+read-tree-settled κs a r s e f = read-settled (formatOf (a .0)) (width-named (a .0)) _ _ _ r s _ _
+
+pub print-tree-asks : Asks-nothing print-tree.Asked
+print-tree-asks κs a = tt
+
+pub print-tree-settled : Settles {X = TreePrinted × List ℕ} print-tree.Learnt (λ κs r e. (r, now (e .1 .1 .0)))
+print-tree-settled κs a r s e f = print-settled _ r s _ _

@@ -1,10 +1,9 @@
-// The six calls, widening and narrowing, and converting labels, each with its whole promise: its refusals in their order, and what every lent byte,
-// place and summary holds afterwards. None asks anything of its caller: a call takes bytes of every kind and gives its answer, or a refusal with a
-// number and a place, and a refused call changes nothing that it was lent. The definitions that the promises name are those of `paper` (specs/Calls,
-// specs/Widths, specs/Labels). The caller says which width its files have, and each promise is over the format that the width names. `reader` is
-// the small reader over a table, under the same rule.
-pub mod reader;
-
+// The thirteen calls: six for tables and shapes, widening and narrowing, converting labels, and typed trees. Each has its whole promise: its refusals in
+// their order, and what every lent byte, place and summary holds afterwards. None asks anything of its caller: a call takes bytes of every kind and
+// gives its answer, or a refusal with a number and a place, and a refused call changes nothing that it was lent. The definitions that the promises
+// name are those of `paper` (specs/Calls, specs/Widths, specs/Labels) and of `grammar` (specs/Grammar, specs/Typed). The caller says which width its
+// files have, and each promise is over the format that the width names. `reader` is the small reader over a table, under the same rule; its file, with
+// its promises, stands in crate `reading`.
 use adorned::Adorned;
 pub use adorned::TypeSummary;
 pub use adorned::lent::AdornedTypes;
@@ -12,10 +11,13 @@ pub use judging::judge::Judged;
 pub use judging::verdict::Verdict;
 pub use labels::convert::Converted;
 pub use paper::Width;
+pub use reading::reader;
 pub use reshaping::reshape::Reshaped;
 pub use reshaping::summarise::Summary;
+pub use spelling::print::TreePrinted;
 pub use tables::table::Examined;
 pub use tables::table::Refusal;
+pub use typed::read::TreeRead;
 pub use widths::moves::Moved;
 ghost use mathlib.Core.Path.{_≡_};
 ghost use mathlib.Core.List.{map};
@@ -23,11 +25,14 @@ ghost use Rattle.paper.specs.Format.{base, eight};
 ghost use Rattle.paper.specs.Widths.{formatOf, moveTable, moveShape};
 ghost use Rattle.paper.specs.Calls.{examine, lookUp, adorn, judge, summarise};
 ghost use Rattle.paper.specs.Labels.{convert};
+ghost use Rattle.grammar.specs.Typed.{printTree};
 ghost use Rattle.tables.specs.Reply.{examined, HandsBack};
 ghost use Rattle.adorned.specs.Told.{told, Says, adornFigures};
 ghost use Rattle.adorned.specs.Lent.{adornedTypes};
 ghost use Rattle.widths.specs.Answers.{Moves};
 ghost use Rattle.labels.specs.Answers.{Converts};
+ghost use Rattle.typed.specs.Read.{ReadsTree};
+ghost use Rattle.spelling.specs.Printed.{Prints};
 ghost use Rattle.judging.specs.Judged.{judged, inNumbers};
 ghost use Rattle.reshaping.specs.Reshaped.{Reshapes, summarised};
 
@@ -164,4 +169,24 @@ pub fn convert_labels(
         new_table,
         new_shape,
     )
+}
+
+// Reads a wanted tree that is typed as a line of text, as `asset [ lease [ lessee ] ]`, over a table: refusals 1 to 4; 12 with the first byte of the
+// first token that no wanted tree has there, or the text's length where it ends early, or 1,536 where it has more bytes; 5 for more than 16 entries;
+// 6 with the first entry whose level is too deep; 13 with the first entry whose name matches no type of the table, or several; then 29, or the count of
+// entries, with the records of the shape at the front of what was lent. What lies past them stays as it was. No call refuses that shape with 5, 6 or
+// 7 over the same table.
+pub fn read_tree(width: Width, table: &[u8], text: &[u8], shape: &mut [u8]) -> TreeRead
+    ensures { λ r. ⌜ ReadsTree (formatOf width) (now (table .entry)) (now (text .entry)) (now (shape .entry)) r (now (shape .exit)) ⌝ }
+{
+    typed::read::read_tree(table, text, paper::format_of(width), shape)
+}
+
+// Prints a shape as a line of text, with whole dotted paths, each with a leading dot, and single spaces: refusals 5 and 6, then 29, or the count of bytes,
+// with the line at the front of what was lent. It has no more than 1,360 bytes, and is read back as the same shape over every table past 1 to 4
+// that holds its types.
+pub fn print_tree(width: Width, shape: &[u8], text: &mut [u8]) -> TreePrinted
+    ensures { λ r. ⌜ Prints (printTree (formatOf width) (now (shape .entry)) (now (text .entry))) r (now (text .exit)) ⌝ }
+{
+    spelling::print::print_tree(shape, paper::format_of(width), text)
 }

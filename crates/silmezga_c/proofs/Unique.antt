@@ -21,10 +21,13 @@ use Rattle.reshaping.specs.Reshaped.{summarised}
 use Rattle.reshaping.specs.declared.reshape.Reshaped.{Reshaped}
 use Rattle.reshaping.specs.declared.summarise.Summary.{Summary}
 use Rattle.widths.specs.declared.moves.Moved.{Moved}
-use Rattle.silmezga.proofs.Settles.{Asks-nothing, Settles, Walk-asks-nothing, Walk-settles, nothing, two-clauses}
+use Rattle.reading.proofs.Settles.{Asks-nothing, Settles, Walk-asks-nothing, Walk-settles, nothing, two-clauses}
 use Rattle.labels.specs.declared.convert.Converted.{Converted}
+use Rattle.typed.specs.declared.read.TreeRead.{TreeRead}
+use Rattle.spelling.specs.declared.print.TreePrinted.{TreePrinted}
+use Rattle.silmezga.proofs.Trees.{width-named, read-settled, print-settled}
 use Rattle.silmezga.proofs.Unique.{adorn-unique, moved-settled, converted-settled}
-use Rattle.silmezga_c.specs.Told.{formatNumbered, LooksUp, inFour, fourNumbers}
+use Rattle.silmezga_c.specs.Told.{widthOf, formatNumbered, LooksUp, inFour, fourNumbers}
 use Rattle.silmezga_c.specs.declared.LookedUp.{LookedUp}
 use Rattle.silmezga_c.specs.declared.JudgedNumbers.{JudgedNumbers}
 use Rattle.silmezga_c.proofs.silmezga_examine.Reads as examine
@@ -38,6 +41,8 @@ use Rattle.silmezga_c.proofs.silmezga_narrow_table.Reads as narrow-tabl
 use Rattle.silmezga_c.proofs.silmezga_widen_shape.Reads as widen-shape
 use Rattle.silmezga_c.proofs.silmezga_narrow_shape.Reads as narrow-shape
 use Rattle.silmezga_c.proofs.silmezga_convert_labels.Reads as convert-labels
+use Rattle.silmezga_c.proofs.silmezga_read_tree.Reads as read-tree
+use Rattle.silmezga_c.proofs.silmezga_print_tree.Reads as print-tree
 
 -- ---- examining and looking up
 pub examine-asks : Asks-nothing examine.Asked
@@ -168,3 +173,16 @@ convert-labels-asks κs a = tt
 
 pub convert-labels-settled : Settles {X = Converted × (List ℕ × List ℕ)} convert-labels.Learnt (λ κs r e. (r, (now (e .1 .1 .1 .1 .0), now (e .1 .1 .1 .1 .1 .0))))
 convert-labels-settled κs a r s e f = converted-settled _ r s _ _ _ _
+
+-- ---- typed trees: the answer, and every byte lent for the shape or the line after it
+pub read-tree-asks : Asks-nothing read-tree.Asked
+read-tree-asks κs a = tt
+
+pub read-tree-settled : Settles {X = TreeRead × List ℕ} read-tree.Learnt (λ κs r e. (r, now (e .1 .1 .1 .0)))
+read-tree-settled κs a r s e f = read-settled (formatNumbered (a .0)) (width-named (widthOf (a .0))) _ _ _ r s _ _
+
+pub print-tree-asks : Asks-nothing print-tree.Asked
+print-tree-asks κs a = tt
+
+pub print-tree-settled : Settles {X = TreePrinted × List ℕ} print-tree.Learnt (λ κs r e. (r, now (e .1 .1 .0)))
+print-tree-settled κs a r s e f = print-settled _ r s _ _

@@ -8,6 +8,8 @@ use reshaping::reshape::Reshaped;
 use reshaping::summarise::Summary;
 use silmezga::Converted;
 use silmezga::Moved;
+use silmezga::TreePrinted;
+use silmezga::TreeRead;
 use silmezga::Verdict;
 use silmezga::Width;
 use tables::table::Examined;
@@ -17,12 +19,15 @@ ghost use Rattle.paper.specs.Format.{base, eight};
 ghost use Rattle.paper.specs.Widths.{moveTable, moveShape};
 ghost use Rattle.paper.specs.Calls.{examine, adorn, judge, summarise};
 ghost use Rattle.paper.specs.Labels.{convert};
+ghost use Rattle.grammar.specs.Typed.{printTree};
 ghost use Rattle.tables.specs.Reply.{examined};
 ghost use Rattle.adorned.specs.Told.{told};
 ghost use Rattle.adorned.specs.Lent.{adornedTypes};
 ghost use Rattle.reshaping.specs.Reshaped.{Reshapes, summarised};
 ghost use Rattle.widths.specs.Answers.{Moves};
 ghost use Rattle.labels.specs.Answers.{Converts};
+ghost use Rattle.typed.specs.Read.{ReadsTree};
+ghost use Rattle.spelling.specs.Printed.{Prints};
 ghost use Rattle.silmezga_c.specs.Told.{widthOf, formatNumbered, LooksUp, asNumber, inFour, fourNumbers};
 
 // The width that a number names.
@@ -238,4 +243,26 @@ pub extern "C" fn silmezga_convert_labels(
         Converts asked r (now («new_table» .exit)) (now («new_shape» .exit))) ⌝ }
 {
     silmezga::convert_labels(width_of(width), table, shape, pairs, new_table, new_shape)
+}
+
+// Refusals 1 to 4, 12, 5, 6, 13 and 29, or the count of entries, with the shape of the typed tree at the front of what was lent; what lies past it
+// stays as it was.
+#[no_mangle]
+pub extern "C" fn silmezga_read_tree(
+    width: u32,
+    table: &[u8],
+    text: &[u8],
+    shape: &mut [u8],
+) -> TreeRead
+    ensures { λ r. ⌜ ReadsTree (formatNumbered width) (now (table .entry)) (now (text .entry)) (now (shape .entry)) r (now (shape .exit)) ⌝ }
+{
+    silmezga::read_tree(width_of(width), table, text, shape)
+}
+
+// Refusals 5, 6 and 29, or the count of bytes, with the shape's line of text at the front of what was lent; what lies past it stays as it was.
+#[no_mangle]
+pub extern "C" fn silmezga_print_tree(width: u32, shape: &[u8], text: &mut [u8]) -> TreePrinted
+    ensures { λ r. ⌜ Prints (printTree (formatNumbered width) (now (shape .entry)) (now (text .entry))) r (now (text .exit)) ⌝ }
+{
+    silmezga::print_tree(width_of(width), shape, text)
 }

@@ -1,0 +1,29 @@
+-- `silmezga_c::silmezga_print_tree` meets its contract. Assumes nothing.
+use mathlib.Core.Path.{subst}
+use Rattle.paper.specs.Widths.{formatOf}
+use Rattle.paper.specs.declared.Width.{Width}
+use Rattle.grammar.specs.Typed.{printTree}
+use Rattle.spelling.specs.Printed.{Prints}
+use borrow.Author.Needs.{needs}
+use Rattle.silmezga_c.proofs.silmezga_print_tree.Statement.{statement}
+use Rattle.silmezga_c.proofs.silmezga_print_tree.Tie as tie
+
+width-of-requires : tie.Need-width-of-requires
+width-of-requires c κs = search needs
+
+print-tree-requires : tie.Need-print-tree-requires
+print-tree-requires c κs = search needs
+
+same-length : tie.Need-same-length
+same-length c = search needs
+
+returns : tie.Need-returns
+returns c =
+    let v = c .before .before in
+    let k = v .before .before in
+    let a = k .before .before .before .args in
+    subst (λ (w : Width). Prints (printTree (formatOf w) (a .shape .now) (a .text .now)) (v .print-tree .result) (v .print-tree .last .1 .1 .0))
+    (k .width-of .ensures) (v .print-tree .ensures)
+
+pub silmezga-print-tree-spec : {M : Type 1} → statement M
+silmezga-print-tree-spec = tie.close (tie.spec width-of-requires print-tree-requires same-length returns)

@@ -1,0 +1,28 @@
+-- `silmezga_c::silmezga_read_tree` meets its contract. Assumes nothing.
+use mathlib.Core.Path.{subst}
+use Rattle.paper.specs.Widths.{formatOf}
+use Rattle.paper.specs.declared.Width.{Width}
+use Rattle.typed.specs.Read.{ReadsTree}
+use borrow.Author.Needs.{needs}
+use Rattle.silmezga_c.proofs.silmezga_read_tree.Statement.{statement}
+use Rattle.silmezga_c.proofs.silmezga_read_tree.Tie as tie
+
+width-of-requires : tie.Need-width-of-requires
+width-of-requires c κs = search needs
+
+read-tree-requires : tie.Need-read-tree-requires
+read-tree-requires c κs = search needs
+
+same-length : tie.Need-same-length
+same-length c = search needs
+
+returns : tie.Need-returns
+returns c =
+    let v = c .before .before in
+    let k = v .before .before in
+    let a = k .before .before .before .before .args in
+    subst (λ (w : Width). ReadsTree (formatOf w) (a .table .now) (a .text .now) (a .shape .now) (v .read-tree .result) (v .read-tree .last .1 .1 .1 .0))
+    (k .width-of .ensures) (v .read-tree .ensures)
+
+pub silmezga-read-tree-spec : {M : Type 1} → statement M
+silmezga-read-tree-spec = tie.close (tie.spec width-of-requires read-tree-requires same-length returns)
