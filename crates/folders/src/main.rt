@@ -1,10 +1,10 @@
 // The gate's run of what the program does: every screen of every folder that is named, one after the other, with a heading each. What the
 // program reports to the command stands in the listing here.
 use libc::STDOUT_FILENO;
-use listing::put::put_byte;
-use listing::put::put_bytes;
+use names::put::put_byte;
+use names::put::put_bytes;
+use printing::folder::print_screen;
 use printing::out::print;
-use printing::screen::print_screen;
 use printing::screen::screen_named;
 ghost use Rattle.io.specs.Counts.{Counts};
 
@@ -28,15 +28,20 @@ fn print_in(folder: &[u8], word: &[u8]) -> bool {
     let mut shape8 = [0u8; 128];
     let mut source = [0u8; 128];
     let mut shape = [0u8; 128];
+    let mut tree = [0u8; 128];
     let n8 = put_path(&mut source8, folder, b"source8.tab");
     let m8 = put_path(&mut shape8, folder, b"shape8.tab");
     let n = put_path(&mut source, folder, b"source.tab");
     let m = put_path(&mut shape, folder, b"shape.tab");
+    let k = put_path(&mut tree, folder, b"shape.txt");
     print_screen(
         &source8[..n8],
         &shape8[..m8],
         &source[..n],
         &shape[..m],
+        &tree[..k],
+        b"",
+        false,
         screen_named(word),
         STDOUT_FILENO,
     )
@@ -72,7 +77,10 @@ fn print_folder(folder: &[u8]) -> bool {
     if !print_headed(b"-- summary\n", folder, b"summary") {
         return false;
     }
-    print_headed(b"-- types\n", folder, b"types")
+    if !print_headed(b"-- types\n", folder, b"types") {
+        return false;
+    }
+    print_headed(b"-- print\n", folder, b"print")
 }
 
 fn print_named(i: usize) -> bool {

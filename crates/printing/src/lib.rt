@@ -3,9 +3,13 @@
 // proved below this crate; what is read and written is the system's, and no theorem speaks of it.
 pub mod figures;
 pub mod files;
+pub mod folder;
+pub mod marked;
 pub mod new_table;
 pub mod out;
 pub mod report;
 pub mod screen;
+pub mod typed_tree;
 pub mod types_tree;
+pub mod wanted;
 pub mod width;

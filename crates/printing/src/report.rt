@@ -98,8 +98,15 @@ fn report_broken_entry(channel: i32, width: Width, shape: &[u8], e: usize) -> bo
     report(channel, &text[..n])
 }
 
+// A refusal.
+pub fn report_answer(channel: i32, number: usize, place: usize) -> bool {
+    let mut text = [0u8; 256];
+    let n = put_refused(&mut text, number, place);
+    report(channel, &text[..n])
+}
+
 // The row or the entry that a refusal names; refusals that name none report nothing more.
-fn report_at_fault(
+pub fn report_at_fault(
     channel: i32,
     width: Width,
     table: &[u8],
@@ -134,9 +141,7 @@ pub fn report_refused(
     if channel == NOWHERE {
         return true;
     }
-    let mut text = [0u8; 256];
-    let n = put_refused(&mut text, number, place);
-    if !report(channel, &text[..n]) {
+    if !report_answer(channel, number, place) {
         return false;
     }
     report_at_fault(channel, width, table, shape, number, place)

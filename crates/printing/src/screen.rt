@@ -1,5 +1,4 @@
-// The screens of the program, each of two files by their names.
-use crate::files::read_open;
+// The screens of the program, each of a table and a shape.
 use crate::new_table::print_listing;
 use crate::out::NOWHERE;
 use check::same;
@@ -11,6 +10,7 @@ pub enum Screen {
     Reported, // the listing, with what its first line names reported
     Summary,
     Types,
+    Printed, // the wanted tree as a line of text
 }
 
 // The screen that a word asks for: with none the listing alone, and with a word that is no other screen's the listing with its report.
@@ -24,78 +24,41 @@ pub fn screen_named(word: &[u8]) -> Screen {
     if same(word, b"types") {
         return Screen::Types;
     }
+    if same(word, b"print") {
+        return Screen::Printed;
+    }
     Screen::Reported
 }
 
-fn print_of(width: Width, table: &[u8], shape: &[u8], screen: Screen, channel: i32) -> bool {
+// Does the screen show anything of the wanted tree?
+pub fn shows_tree(screen: Screen) -> bool {
+    match screen {
+        Screen::Listing => true,
+        Screen::Reported => true,
+        Screen::Summary => true,
+        Screen::Types => false,
+        Screen::Printed => true,
+    }
+}
+
+// The channel that a screen is reported on.
+pub fn channel_of(screen: Screen, channel: i32) -> i32 {
+    match screen {
+        Screen::Listing => NOWHERE,
+        Screen::Reported => channel,
+        Screen::Summary => NOWHERE,
+        Screen::Types => NOWHERE,
+        Screen::Printed => NOWHERE,
+    }
+}
+
+// Prints a screen; a report goes to the channel.
+pub fn print_of(width: Width, table: &[u8], shape: &[u8], screen: Screen, channel: i32) -> bool {
     match screen {
         Screen::Listing => print_listing(width, table, shape, NOWHERE),
         Screen::Reported => print_listing(width, table, shape, channel),
         Screen::Summary => crate::figures::print_summary(width, table, shape),
         Screen::Types => crate::types_tree::print_types(width, table),
+        Screen::Printed => crate::typed_tree::print_shape(width, shape),
     }
-}
-
-// Reads two files of a width into what is lent, the table's opened already, and prints a screen of them.
-fn print_files(
-    width: Width,
-    opened: i32,
-    source: &[u8],
-    wanted: &[u8],
-    table: &mut [u8],
-    shape: &mut [u8],
-    screen: Screen,
-    channel: i32,
-) -> bool {
-    let t = read_open(opened, source, table);
-    let s = read_open(os::open_read(wanted), wanted, shape);
-    let n = t.bytes;
-    let m = s.bytes;
-    if !t.good {
-        return false;
-    }
-    if !s.good {
-        return false;
-    }
-    print_of(width, &table[..n], &shape[..m], screen, channel)
-}
-
-// Prints a screen of two files: the wide ones where the wide table opens, else the narrow ones. One byte more than a table or a shape may
-// have is read of each, so that one that is too long is refused. A report goes to the channel.
-pub fn print_screen(
-    source8: &[u8],
-    shape8: &[u8],
-    source: &[u8],
-    shape: &[u8],
-    screen: Screen,
-    channel: i32,
-) -> bool {
-    let wide = os::open_read(source8);
-    if 0 <= wide {
-        let mut t = [0u8; 28673];
-        let mut s = [0u8; 321];
-        return print_files(
-            Width::Eight,
-            wide,
-            source8,
-            shape8,
-            &mut t,
-            &mut s,
-            screen,
-            channel,
-        );
-    }
-    let narrow = os::open_read(source);
-    let mut t = [0u8; 24577];
-    let mut s = [0u8; 257];
-    print_files(
-        Width::Six,
-        narrow,
-        source,
-        shape,
-        &mut t,
-        &mut s,
-        screen,
-        channel,
-    )
 }

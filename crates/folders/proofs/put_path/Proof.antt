@@ -1,7 +1,7 @@
 -- `put_path`: the names and the slash have room. Assumes nothing.
 use native.Mathlib.Omega.{arith}
 use Rattle.io.proofs.Counting.{counts}
-use Rattle.listing.proofs.Putting.{as-long}
+use Rattle.names.proofs.Putting.{as-long}
 use borrow.Author.Needs.{needs}
 use Rattle.folders.proofs.put_path.Statement.{statement}
 use Rattle.folders.proofs.put_path.Tie as tie
