@@ -1,14 +1,14 @@
-"""A case of the program cases: what it holds, how it is written, and the line that it must give by paper01.py.
+"""A case of the program cases: what it holds, how it is written, and the line that it must give by paper01.py and typed_trees.py.
 
 crates/cases/src/main.rt says what the bytes and the line are.
 """
 import functools, typing
 
-import paper01
+import paper01, typed_trees
 
-# the program's rooms: some records and places more than a reshape uses, a summary more than there are types, some bytes more than a table, and the
-# numbers of a list of pairs
-MOST_RECORDS, MOST_SUMMARIES, MOST_MOVED, MOST_NUMBERS = 4100, 65, 30000, 1024
+# the program's rooms: some records and places more than a reshape uses, a summary more than there are types, some bytes more than a table, the
+# numbers of a list of pairs, and the bytes of a text
+MOST_RECORDS, MOST_SUMMARIES, MOST_MOVED, MOST_NUMBERS, MOST_HELD = 4100, 65, 30000, 1024, 4096
 
 # a narrow file is widened, and a wide one narrowed
 OTHER = {6: 8, 8: 6}
@@ -20,7 +20,7 @@ MARK = (7777,) * 6
 class Case(typing.NamedTuple):
     """What a case leaves open, `filled` chooses. The room is of whole records, of bytes past them, and of places. Where there is a shape of
     a second reshape, the case is a chain. `moved` is the bytes lent for the table and for the shape in the other width, and as many for both with
-    their labels converted. The numbers are a list of pairs of labels."""
+    their labels converted. The numbers are a list of pairs of labels. `typed` is the bytes lent for the shape of a text and for a printed line."""
     table: bytes
     shape: bytes = b""
     row: typing.Optional[int] = None
@@ -30,6 +30,8 @@ class Case(typing.NamedTuple):
     levels: int = 6
     moved: typing.Optional[typing.Tuple[int, int]] = None
     numbers: typing.Tuple[int, ...] = ()
+    text: bytes = b""
+    typed: typing.Optional[typing.Tuple[int, int]] = None
 
     @property
     def row_length(self):
@@ -56,6 +58,14 @@ def adorning(table, lent, levels):
     return paper01.adorn(table, [MARK] * lent, levels=levels)
 
 
+def typing_in(case, text, lent):
+    return typed_trees.read_tree(case.table, text, lent, case.levels)
+
+
+def printing(case, lent):
+    return typed_trees.print_tree(case.shape, lent, case.levels)
+
+
 def total(case):
     """The number of lines; 0 where the summary is refused."""
     return sum(summary(case.table, case.shape, case.levels)[2][0])
@@ -76,9 +86,15 @@ def to_move(case):
     return len(case.table) // case.row_length * paper01.row_length(to), len(case.shape) // case.entry_length * paper01.entry_length(to)
 
 
+def to_type(case):
+    """The bytes of the text's shape, or where it has none of the case's own, and those of the shape's line."""
+    entries = typing_in(case, case.text, bytes(MOST_MOVED))[0][2] if case.text else 0
+    return case.entry_length * entries or len(case.shape), printing(case, bytes(MOST_MOVED))[0][2]
+
+
 def filled(case, at):
     """The case with a row, rooms and summaries that change from case to case: enough, just enough, and one short."""
-    row, room, summaries, moved = case.row, case.room, case.summaries, case.moved
+    row, room, summaries, moved, typed = case.row, case.room, case.summaries, case.moved, case.typed
     if row is None:
         row = at % (len(case.table) // case.row_length + 2)
     if room is None:
@@ -91,7 +107,10 @@ def filled(case, at):
     if moved is None:
         more = ((0, 0), (1, 3), (-1, 0), (7, -1), (0, 20))[at % 5]
         moved = tuple(within(0, n + k, MOST_MOVED) for n, k in zip(to_move(case), more))
-    return case._replace(row=row, room=room, summaries=summaries, moved=moved)
+    if typed is None:
+        more = ((0, 0), (1, 3), (0, -1), (0, 0), (-1, 0), (30, 1), (0, 50))[at % 7]
+        typed = tuple(within(0, n + k, MOST_MOVED) for n, k in zip(to_type(case), more))
+    return case._replace(row=row, room=room, summaries=summaries, moved=moved, typed=typed)
 
 
 # ---- how cases are written
@@ -118,14 +137,15 @@ def packed(all_cases):
     for case in all_cases:
         records, past, places = case.room
         assert case.row_length * records + past <= case.row_length * MOST_RECORDS and places <= MOST_RECORDS, "more lent than there is"
-        assert case.summaries <= MOST_SUMMARIES and max(case.moved) <= MOST_MOVED, "more lent than there is"
+        assert case.summaries <= MOST_SUMMARIES and max(case.moved + case.typed) <= MOST_MOVED, "more lent than there is"
         assert max(len(case.table), 2 * len(case.shape), 4 * len(case.again)) <= 32768, "more bytes than the program holds"
-        assert len(case.numbers) <= MOST_NUMBERS, "more numbers than there is room for"
-        parts = (0, case.table), (32768, case.shape), (49152, case.again), (57344, paper01.written(case.numbers, len(case.numbers)))
+        assert len(case.numbers) <= MOST_NUMBERS and len(case.text) <= MOST_HELD, "a longer list or text than there is room for"
+        parts = ((0, case.table), (32768, case.shape), (49152, case.again), (57344, paper01.written(case.numbers, len(case.numbers))),
+                 (61440, case.text))
         made = [change for start, data in parts for change in changes(held, start, data)]
         lengths = ((len(made), 2), (len(case.table), 2), (len(case.shape), 2))
         fields = (*lengths, (case.row, 8), (records, 2), (past, 1), (case.summaries, 1), (places, 2), (len(case.again), 2), (case.levels, 1),
-                  *((lent, 2) for lent in case.moved), (len(case.numbers), 2))
+                  *((lent, 2) for lent in case.moved), (len(case.numbers), 2), (len(case.text), 2), *((lent, 2) for lent in case.typed))
         yield b"".join(x.to_bytes(size, "little") for x, size in fields) + b"".join(made)
 
 
@@ -224,6 +244,18 @@ def converted(case):
     return [reply, ("sum", folded(1, table + shape))]
 
 
+def typed(case, text):
+    """What reading a text answers, and the sum over all that was lent."""
+    reply, left = typing_in(case, text, bytes_lent(case.typed[0]))
+    return [reply, ("sum", folded(1, left))]
+
+
+def printed(case):
+    """What printing the shape answers, and the sum over all that was lent; then what reading the line back does, an empty one where there is none."""
+    reply, left = printing(case, bytes_lent(case.typed[1]))
+    return {"printing": [reply, ("sum", folded(1, left))], "reading back": typed(case, left[:reply[2]])}
+
+
 def told(case):
     """The parts of a case's line, each a list of pieces."""
     parts = {
@@ -231,7 +263,8 @@ def told(case):
         "look-up": looked_up(case), "adorning": adorned(case), "judging": judged(case),
         "reshaping": reshaped(*reshaping(case)), "summarising": summarised(case),
         "moving a table": moved(paper01.move_table, case.table, case.moved[0], case.levels),
-        "moving a shape": moved(paper01.move_shape, case.shape, case.moved[1], case.levels), "converting": converted(case)}
+        "moving a shape": moved(paper01.move_shape, case.shape, case.moved[1], case.levels), "converting": converted(case),
+        "reading a text": typed(case, case.text), **printed(case)}
     return {**parts, "again": chained(case)} if case.again else parts
 
 

@@ -4,7 +4,7 @@
 """
 import pathlib, re, struct
 
-import paper01, samples, table_text
+import paper01, samples, table_text, typed_trees
 
 PAGE = pathlib.Path(__file__).resolve().parents[2] / "docs" / "HELP.md"
 
@@ -54,6 +54,23 @@ def broken_entry(_table, shape, at, levels):
     return [f"entry {at}: level {level}, length of its type {size}, zero bytes {zero}, labels {table_text.dotted(labels)}"]
 
 
+def marked(text, at):
+    """A typed tree on one line, and a mark under its byte `at`, or behind the last."""
+    if len(text) > typed_trees.MOST_TEXT:
+        return ["tree: more than 1,536 bytes"]
+    return ["tree: " + "".join(chr(byte) if 32 <= byte < 127 else "?" for byte in text), " " * (len("tree: ") + at) + "^"]
+
+
+def word_of_entry(text, at):
+    """Where the word of an entry begins."""
+    return [place for word, place in typed_trees.tokens(text) if word not in (b"[", b"]")][at]
+
+
+def faults_of_text(text, number, place):
+    """What a refusal names in a typed tree: a place, or an entry."""
+    return marked(text, place if number == 12 else word_of_entry(text, place))
+
+
 # what the numbers of an answer are, past its first two words
 NAMED = {
     "verdict 1": (entry, row), "verdict 2": (entry, entry), "verdict 3": (entry, entry),
@@ -61,24 +78,27 @@ NAMED = {
 }
 
 
-def facts(table, shape, answer, levels):
+def facts(table, wanted, answer, levels):
     """What an answer names, a line each."""
     kind, places = " ".join(answer.split(" ")[:2]), answer.split(" ")[2:]
+    *refusal, shape = samples.shaped(table, wanted, levels)
+    if refusal[0] in (6, 12, 13):
+        return faults_of_text(wanted.text, *refusal)
     return [line for tell, place in zip(NAMED.get(kind, ()), places) for line in tell(table, shape, int(place), levels)]
 
 
-def second(table, shape, answer, levels):
+def second(table, wanted, answer, levels):
     """The second answer in the program's words, in a list; none beside a refusal."""
     if answer.startswith("refused"):
         return []
-    *_, none_apart = paper01.judge(table, shape, levels=levels)
+    *_, none_apart = paper01.judge(table, samples.shaped(table, wanted, levels)[2], levels=levels)
     return ["none apart" if none_apart else "some apart"]
 
 
-def reported(table, shape, levels=6):
+def reported(table, wanted, levels=6):
     """The answer, what it names, and the second answer, a line each."""
-    answer = samples.listing(table, shape, levels=levels).split("\n")[0]
-    return [answer, *facts(table, shape, answer, levels), *second(table, shape, answer, levels)]
+    answer = samples.listing(table, wanted, levels).split("\n")[0]
+    return [answer, *facts(table, wanted, answer, levels), *second(table, wanted, answer, levels)]
 
 
 def helped(answer):
@@ -98,10 +118,10 @@ def tried_seconds():
     return re.findall(r"(?m)^\| (\w+) \| (\S.*?) \| `(verdict .*?)` \| `((?:none|some) apart)` \|", PAGE.read_text())
 
 
-def explained(table, shape, levels=6):
+def explained(table, wanted, levels=6):
     """What ./intake --explain says on standard error."""
-    answer = reported(table, shape, levels)[0]
-    found = [helped(each) for each in (answer, *second(table, shape, answer, levels))]
-    lines = [answer, f"What it means: {found[0][0]}", *(f"  {fact}" for fact in facts(table, shape, answer, levels))]
+    answer = reported(table, wanted, levels)[0]
+    found = [helped(each) for each in (answer, *second(table, wanted, answer, levels))]
+    lines = [answer, f"What it means: {found[0][0]}", *(f"  {fact}" for fact in facts(table, wanted, answer, levels))]
     lines += [f"Second answer: {means}" for means, _ in found[1:]]
     return "\n".join([*lines, f"What to do next: {' '.join(then for _, then in found)}"]) + "\n"

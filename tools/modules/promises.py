@@ -1,8 +1,8 @@
-"""What is promised of a new table, of a summary, of a widened file and of a converted one, held to the second reading's own answers: demand 3
-of the order, and requests 3, 9, 10 and 12 of document 02."""
+"""What is promised of a new table, of a summary, of a widened file, of a converted one, of a typed tree and of a printed line, held to the second
+reading's own answers: demand 3 of the order, and requests 1, 3, 9, 10 and 12 of document 02."""
 import sys
 
-import paper01
+import paper01, typed_trees
 
 
 def links_kept(work, lines):
@@ -183,6 +183,40 @@ def broken_conversion(table, shape, numbers, levels=6, lines=True):
         yield from broken_new_lines(*given)
 
 
+# ---- request 1: a text read over a table, and a shape printed
+def table_of(kinds, levels):
+    """A table that holds these types, each in a tree of its own."""
+    rows = [((tree, *[1] * k), kind[k]) for tree, kind in enumerate(kinds, 1) for k in range(len(kind))]
+    return b"".join(paper01.row_record(paper01.Row(dewey, label, bytes(8)), levels) for dewey, label in rows)
+
+
+def broken_line(table, shape, **width):
+    """The promises of a printed line that a shape whose types the table holds does not keep, in words."""
+    (number, _, size), line = typed_trees.print_tree(shape, bytes(typed_trees.MOST_TEXT), **width)
+    if number:
+        yield f"a shape is refused {number} as a line"
+    elif typed_trees.read_tree(table, line[:size], shape, **width) != ((0, 0, len(shape) // paper01.entry_length(width["levels"])), shape):
+        yield "a printed line does not read back to its shape"
+
+
+def broken_typed(table, text, shape, **width):
+    """The promises of request 1 that a text over a table, and a shape, do not keep, in words."""
+    room = paper01.MOST_ENTRIES * paper01.entry_length(width["levels"])
+    (number, _, count), read = typed_trees.read_tree(table, text, bytes(room), **width)
+    if number == 0:
+        read = read[:count * paper01.entry_length(width["levels"])]
+        if paper01.judge(table, read, **width)[0]:
+            yield "a typed tree is accepted, and its shape is refused"
+        else:
+            yield from broken_line(table, read, **width)
+    try:
+        holding = table_of(dict.fromkeys(entry.type for entry in paper01.read_shape(shape, **width)), width["levels"])
+        paper01.Work(holding, shape, **width)
+    except paper01.Refused:
+        return
+    yield from broken_line(holding, shape, **width)
+
+
 # ---- all of them
 def stop_at(broken, table, shape):
     for words in broken:
@@ -197,6 +231,12 @@ def hold_widths(table, shape, levels=6, lines=True):
 def hold_conversion(table, shape, numbers, levels=6, lines=True):
     """Stops where a promise on converted files is broken."""
     stop_at(broken_conversion(table, shape, numbers, levels, lines), table, shape)
+
+
+def hold_typed(table, text, shape, **width):
+    """Stops where a promise on typed trees and printed lines is broken."""
+    for words in broken_typed(table, text, shape, **width):
+        sys.exit(f"table {table.hex()}, text {text}, shape {shape.hex()}: {words}")
 
 
 def hold(table, shape, **width):

@@ -1,7 +1,7 @@
-"""The folders of samples/, and the texts of the program by paper01.py: listing, summary and types."""
-import pathlib
+"""The folders of samples/, and the texts of the program by paper01.py and typed_trees.py: listing, summary, types and the printed tree."""
+import pathlib, re, typing
 
-import paper01, table_text
+import paper01, table_text, typed_trees
 
 FOLDER = pathlib.Path(__file__).resolve().parents[2] / "samples"
 # the program's room for lines
@@ -10,26 +10,72 @@ ROOM = 1024
 FIGURES = ("line", "lines"), ("row", "rows"), ("copy", "copies"), ("different row", "different rows")
 
 
+# the file of a typed tree, which is read where there is no shape file
+TREE = "shape.txt"
+
+
+class Typed(typing.NamedTuple):
+    """A wanted tree that is a text and no shape."""
+    text: bytes
+
+
 def folders():
     return sorted(path.parent for path in FOLDER.glob("*/listing"))
 
 
+def read_files(folder):
+    """The files of a folder that the program may read."""
+    return [*folder.glob("*.tab"), *folder.glob(TREE)]
+
+
+def line_of(file):
+    """What a file says on its line: all of it, without one newline, or carriage return and newline, at its end."""
+    return re.sub(rb"\r?\n\Z", b"", file)
+
+
 def read(folder):
-    """The table, the shape and the levels that the program reads: the wide files where there is a wide table, and none of the others then."""
+    """The table, the wanted tree and the levels that the program reads: the wide files where there is a wide table, and none of the others
+    then; a typed tree where there is one and no shape file."""
     mark, levels = ("8", table_text.WIDE) if (folder / "source8.tab").exists() else ("", table_text.NARROW)
-    files = (folder / f"{name}{mark}.tab" for name in ("source", "shape"))
-    return *(file.read_bytes() if file.exists() else b"" for file in files), levels
+    source, shape = (folder / f"{name}{mark}.tab" for name in ("source", "shape"))
+    table = source.read_bytes() if source.exists() else b""
+    if (folder / TREE).exists() and not shape.exists():
+        return table, Typed(line_of((folder / TREE).read_bytes())), levels
+    return table, shape.read_bytes() if shape.exists() else b"", levels
 
 
-def samples():
-    """(name, table, shape, levels) of each folder."""
+def every():
+    """(name, table, wanted tree, levels) of each folder."""
     for folder in folders():
         yield folder.name, *read(folder)
 
 
+def samples():
+    """(name, table, shape, levels) of each folder whose wanted tree is not typed."""
+    return (sample for sample in every() if not isinstance(sample[2], Typed))
+
+
 def by_name():
-    """The table, the shape and the levels of each folder, by its name."""
-    return {name: sample for name, *sample in samples()}
+    """The table, the wanted tree and the levels of each folder, by its name."""
+    return {name: sample for name, *sample in every()}
+
+
+def shaped(table, wanted, levels):
+    """The number and the place of a typed tree's refusal, zeros where it has none, and the shape; any other wanted tree is its own shape."""
+    if not isinstance(wanted, Typed):
+        return 0, 0, wanted
+    lent = bytes(table_text.a_shape(levels).size)
+    (number, place, entries), shape = typed_trees.read_tree(cut(table, b"", levels)[0], wanted.text, lent, levels)
+    return number, place, shape[:entries * paper01.entry_length(levels)]
+
+
+def of_shape(screen):
+    """A screen of a table and a shape as one of a wanted tree of either kind: a typed tree is refused, or read first."""
+    def of_wanted(table, wanted, levels=table_text.NARROW):
+        number, place, shape = shaped(table, wanted, levels)
+        return f"refused {number} {place}\n" if number else screen(table, shape, levels)
+    of_wanted.__doc__ = screen.__doc__
+    return of_wanted
 
 
 def cut(table, shape, levels):
@@ -37,7 +83,8 @@ def cut(table, shape, levels):
     return table[:table_text.a_table(levels).size + 1], shape[:table_text.a_shape(levels).size + 1]
 
 
-def listing(table, shape, levels=table_text.NARROW):
+@of_shape
+def listing(table, shape, levels):
     """What the program prints."""
     table, shape = cut(table, shape, levels)
     (number, place, _), _, _ = paper01.reshape(table, shape, bytes(paper01.row_length(levels) * ROOM), [0] * ROOM, levels)
@@ -55,7 +102,8 @@ def counted(number, one, several):
     return f"{number} {one if number == 1 else several}"
 
 
-def summary(table, shape, levels=table_text.NARROW):
+@of_shape
+def summary(table, shape, levels):
     """A line for each entry, indented by its level: its number and label, lines, source rows, copies and different rows."""
     number, place, figures = paper01.summarise(table, shape, levels=levels)
     if number:
@@ -65,6 +113,13 @@ def summary(table, shape, levels=table_text.NARROW):
         said = (counted(figure, *words) for figure, words in zip(four, FIGURES))
         text += f"{'  ' * (entry.level - 1)}{at} {table_text.name(entry.type[-1])}: {', '.join(said)}\n"
     return text
+
+
+@of_shape
+def printed(table, shape, levels):
+    """The wanted tree as a line of text."""
+    (number, place, size), line = typed_trees.print_tree(cut(table, shape, levels)[1], bytes(typed_trees.MOST_TEXT), levels)
+    return f"refused {number} {place}\n" if number else f"{line[:size].decode()}\n"
 
 
 def types(table, levels=table_text.NARROW):

@@ -41,10 +41,12 @@ class Bench(InFolder):
         wide = itertools.product(self.TAPES + self.DEEP, ["wide"], [1024], self.CALLS)
         figures = "".join(f"{tape}\t{width}\t{n}\t{call}\t{n}\t{2 * n}\t{n}\tanswer\n" for tape, width, n, call in (*narrow, *wide))
         figures += "book\tnarrow\t1024\twiden\t1\t-\t2\tanswer\nbook\twide\t1024\tnarrow\t1\t-\t4\tanswer\n"
-        self.program("driver", f"#!/bin/sh\ncat <<'END'\n{figures}END\n")
+        trees = "book\tnarrow\twhole paths\t500\t1000\t1500\nbook\twide\twhole paths\t500\t1000\t1600\n"
+        for program, printed in ("driver", figures), ("trees", trees):
+            self.program(program, f"#!/bin/sh\ncat <<'END'\n{printed}END\n")
         self.program("bin/uname", "#!/bin/sh\necho x86_64\n")
         self.program("bin/rt", "#!/bin/sh\n")
-        self.program("bin/cc", "#!/bin/sh\nif [ \"$*\" = --version ]; then echo cc of a test; else cp driver target/bench/driver; fi\n")
+        self.program("bin/cc", "#!/bin/sh\nif [ \"$*\" = --version ]; then echo cc of a test; else cp driver trees target/bench; fi\n")
         (self.folder / "bin/python3").symlink_to(sys.executable)
 
     def bench(self, *words):
@@ -59,6 +61,8 @@ class Bench(InFolder):
         self.assertIn("## Hostile tables", printed)
         self.assertIn("| book | widen | 1 ns | 2 ns | 0.50× |", printed)
         self.assertIn("| book | narrow | 1 ns | 4 ns | 0.25× |", printed)
+        self.assertIn("| book | narrow | whole paths | 500 | 1 µs | 1.5 µs | 1.50× | 1.50× | pass |", printed)
+        self.assertIn("| book | wide | whole paths | 500 | 1 µs | 1.6 µs | 1.50× | 1.60× | MISS |", printed)
         self.assertEqual(self.bench("--write"), (0, printed, ""))
         self.assertTrue(self.page.read_text().startswith("# Bench\n\nWritten by `bench/run --write`;"))
         self.assertIn(printed[printed.index("## Bars"):].strip(), self.page.read_text())

@@ -19,7 +19,8 @@ class Samples(unittest.TestCase):
         "labels_22a": ("verdict 0", 23), "labels_22b": ("verdict 0", 19), "cut_off": ("refused 2 0", 0), "label_100": ("refused 6 2", 0),
         "hidden_by_1": ("verdict 1 3 8", 9), "hidden_by_3": ("verdict 3 1 3", 6),
         "level_8": ("verdict 0", 8), "level_9": ("refused 3 8", 0), "both_widths": ("verdict 0", 8), "shape8_missing": ("refused 5 0", 0),
-        "source8_missing": ("verdict 0", 9),
+        "source8_missing": ("verdict 0", 9), "typed": ("verdict 0", 9), "typed_wide": ("verdict 0", 6), "typed_early": ("refused 12 20", 0),
+        "typed_empty": ("refused 12 17", 0), "typed_none": ("refused 13 2", 0), "typed_several": ("refused 13 2", 0),
     }
 
     def listed(self, name):
@@ -29,7 +30,7 @@ class Samples(unittest.TestCase):
         for name, (first, lines) in self.BY_HAND.items():
             self.assertEqual((self.listed(name).split("\n")[0], self.listed(name).count("\n") - 1), (first, lines), name)
         self.assertEqual(self.listed("p4"), P4)
-        self.assertEqual((self.listed("source8_missing"), self.listed("both_widths")), (P4, self.listed("level_8")))
+        self.assertEqual((self.listed("source8_missing"), self.listed("both_widths"), self.listed("typed")), (P4, self.listed("level_8"), P4))
         for name, verdict in (("fans_by_lessee", 0), ("fans_by_asset", 0), ("fans_lost", 1), ("fans_made_up", 2), ("fans_missing", 3),
                               ("subleases", 0), ("subleases_up", 1)):
             self.assertTrue(self.listed(name).startswith(f"verdict {verdict}"), name)
@@ -42,23 +43,24 @@ class Samples(unittest.TestCase):
     def test_whole(self):
         """Bytes and listings are those that the texts and paper01.py give, and every folder is in the README."""
         told = (samples.FOLDER / "README.md").read_text()
-        found = list(samples.samples())
+        found = list(samples.every())
         self.assertEqual({p.name for p in samples.FOLDER.iterdir() if p.is_dir()}, {name for name, *_ in found})
-        for name, table, shape, levels in found:
-            self.assertEqual(samples.listing(table, shape, levels), self.listed(name), name)
+        for name, *sample in found:
+            self.assertEqual(samples.listing(*sample), self.listed(name), name)
             self.assertRegex(told, rf"\b{name}\b")
             for mark, each in (("", 6), ("8", 8)):
                 self.hold_texts(samples.FOLDER / name, mark, each)
 
     def hold_texts(self, folder, mark, levels):
         """The files of a folder are those that its texts give."""
-        source, shape = (folder / f"{file}{mark}" for file in ("source", "shape"))
-        table = source.with_suffix(".tab").read_bytes() if source.with_suffix(".tab").exists() else b""
-        if source.with_suffix(".txt").exists():
-            self.assertEqual(table_text.table_from(source.with_suffix(".txt").read_text(), levels), table, folder.name)
-        if shape.with_suffix(".txt").exists():
-            made = table_text.shape_from(shape.with_suffix(".txt").read_text(), table_text.kinds_of(table, levels), levels=levels)
-            self.assertEqual(made, shape.with_suffix(".tab").read_bytes(), folder.name)
+        source, shape = (folder / f"{file}{mark}.tab" for file in ("source", "shape"))
+        text, entries = (folder / f"{file}{mark}.txt" for file in ("source", "entries"))
+        table = source.read_bytes() if source.exists() else b""
+        if text.exists():
+            self.assertEqual(table_text.table_from(text.read_text(), levels), table, folder.name)
+        if entries.exists():
+            made = table_text.shape_from(entries.read_text(), table_text.kinds_of(table, levels), levels=levels)
+            self.assertEqual(made, shape.read_bytes(), folder.name)
 
     # what is wrong with the tables and shapes that no text can say
     TABLES = {"rows_1025": "at most 1,024 rows", "level_7": "row 6 breaks a rule: its level is 7", "cut_off": "the last 23 bytes are no whole row",
@@ -84,7 +86,36 @@ class Samples(unittest.TestCase):
         for mark, several in (("", command.texts()), ("8", command.wide_texts())):
             for name, source, shape in several:
                 self.assertEqual((samples.FOLDER / name / f"source{mark}.txt").read_text(), source, name)
-                self.assertEqual((samples.FOLDER / name / f"shape{mark}.txt").read_text(), shape, name)
+                self.assertEqual((samples.FOLDER / name / f"entries{mark}.txt").read_text(), shape, name)
+
+    def test_typed_trees_are_as_made(self):
+        """The folders with a typed tree have no shape, and the page on the samples shows each line."""
+        told = (samples.FOLDER / "README.md").read_text()
+        made = loaded("make_samples").OF_TYPED_TREES
+        self.assertEqual({name for name, _, wanted, _ in samples.every() if isinstance(wanted, samples.Typed)}, set(made))
+        for name, (_, _, text) in made.items():
+            self.assertEqual((samples.FOLDER / name / samples.TREE).read_bytes(), text.encode(), name)
+            self.assertIn(f"| {name} | {text.strip()} |", told)
+
+    def test_lines_of_files(self):
+        """One end of a line is left out, and no more."""
+        for file, line in ((b"a", b"a"), (b"a\n", b"a"), (b"a\r\n", b"a"), (b"a\r", b"a\r"), (b"a\n\n", b"a\n"), (b"a\r\n\r\n", b"a\r\n"), (b"\n", b""),
+                           (b"\r\n", b""), (b"", b""), (b"a\nb", b"a\nb"), (b"\na", b"\na"), (b"a\n ", b"a\n ")):
+            self.assertEqual(samples.line_of(file), line)
+
+    def test_printed(self):
+        """Worked out by hand; and a printed tree is read back as the same shape, over its own table."""
+        both = samples.by_name()
+        p4 = ".portfolio.lessee.lease [ .portfolio.lessee .portfolio.lessee.lease.asset ]\n"
+        p9b = ".portfolio [ .portfolio.lessee.lease .portfolio.lessee.lease ]\n"
+        for name, line in (("p4", p4), ("typed", p4), ("p9b", p9b), ("p1", ".lease [ .lessee .asset ]\n"), ("label_100", "refused 6 2\n"),
+                           ("shape8_missing", "refused 5 0\n"), ("typed_none", "refused 13 2\n")):
+            self.assertEqual(samples.printed(*both[name]), line, name)
+        self.assertIn(f"\n    $ ./intake --print samples/p4\n    {p4}", explained.PAGE.read_text())
+        for name, (table, wanted, levels) in both.items():
+            if self.listed(name).startswith("verdict"):
+                line = samples.Typed(samples.printed(table, wanted, levels).strip("\n").encode())
+                self.assertEqual(samples.shaped(table, line, levels), samples.shaped(table, wanted, levels), name)
 
     def test_subleases(self):
         """300 rows or more, rows and entries on all eight levels, and no table that six levels take."""
@@ -109,7 +140,7 @@ class Samples(unittest.TestCase):
         home = ROOT / "crates/folders"
         names = sorted(folder.name for folder in samples.folders())
         self.assertEqual((home / "args").read_text().splitlines(), names)
-        files = {str(path.relative_to(samples.FOLDER)) for path in samples.FOLDER.glob("*/*.tab")}
+        files = {str(path.relative_to(samples.FOLDER)) for folder in samples.folders() for path in samples.read_files(folder)}
         self.assertEqual({str(path.relative_to(home / "data")) for path in (home / "data").rglob("*") if not path.is_dir()}, files)
         for file in files:
             self.assertFalse((home / "data" / file).is_symlink())
@@ -119,10 +150,11 @@ class Samples(unittest.TestCase):
         both = samples.by_name()
         for name, text in zip(parts[1::2], parts[2::2]):
             table, _, levels = both[name]
-            texts = re.split("(?m)^-- (?:report|summary|types)\n", text)
+            texts = re.split("(?m)^-- (?:report|summary|types|print)\n", text)
             first, lines = self.listed(name).split("\n", 1)
             report = "\n".join([first, *explained.reported(*both[name]), lines])
-            self.assertEqual(texts, [self.listed(name), report, samples.summary(*both[name]), samples.types(table, levels)], name)
+            screens = [samples.summary(*both[name]), samples.types(table, levels), samples.printed(*both[name])]
+            self.assertEqual(texts, [self.listed(name), report, *screens], name)
 
     def test_second_answers(self):
         """The table of docs/HELP.md that shows the second answer, which every verdict but 0 has in each way that it can."""
@@ -143,7 +175,10 @@ class Samples(unittest.TestCase):
             "p5": ["verdict 1 1 8", "entry 1: portfolio lessee lease", "row 8: 1.2.1, portfolio lessee lease, value 800", "none apart"],
             "p6": ["verdict 2 1 2", "entry 1: portfolio lessee", "entry 2: portfolio lessee lease asset", "some apart"],
             "p7": ["verdict 3 0 2", "entry 0: portfolio lease", "entry 2: portfolio payment", "none apart"],
-            "p1": ["refused 7 0", "entry 0: lease"], "cut_off": ["refused 2 0"]}
+            "p1": ["refused 7 0", "entry 0: lease"], "cut_off": ["refused 2 0"], "typed": ["verdict 0", "none apart"],
+            "typed_early": ["refused 12 20", "tree: lease [ lessee asset", "                          ^"],
+            "typed_empty": ["refused 12 17", "tree: lease [ lessee [ ] asset ]", "                       ^"],
+            "typed_none": ["refused 13 2", "tree: lease [ lessee asset.lease ]", "                     ^"]}
         both = samples.by_name()
         for name, lines in reports.items():
             self.assertEqual(explained.reported(*both[name]), lines, name)
@@ -156,6 +191,12 @@ class Samples(unittest.TestCase):
             self.assertEqual((lines[4], lines[6:]), (f"Second answer: {means}", [""]), name)
             self.assertTrue(lines[5].startswith("What to do next: ") and lines[5].endswith(f" {then}"), name)
         self.assertNotIn("Second answer", explained.explained(*both["p1"]))
+
+    def test_explained_tree(self):
+        """docs/HELP.md shows the mark under the place of a typed tree."""
+        first, _, *marked, _, _ = explained.explained(*samples.by_name()["typed_empty"]).split("\n")
+        shown = "".join(f"    {line}\n" for line in (first, "...", *marked))
+        self.assertIn(f"\n    $ ./intake --explain samples/typed_empty\n{shown}\n", explained.PAGE.read_text())
 
     def test_fans(self):
         """The tape kept by asset is the new table of the tape kept by lessee."""

@@ -5,8 +5,9 @@ ghost use mathlib.Core.Path.{_≡_};
 ghost use Prim.Native.Nat.{_<_};
 ghost use lib.ListN.{length};
 
-// What a case asks for beside its table and its shapes: the width and the number that says it to C, the row to look up, the summaries lent, the
-// bytes and the places lent for a reshape, and the bytes lent for the table and for the shape in the other width or with their labels converted.
+// What a case asks for beside its table, its shapes and its text: the width and the number that says it to C, the row to look up, the summaries
+// lent, the bytes and the places lent for a reshape, the bytes lent for the table and for the shape in the other width or with their labels
+// converted, and the bytes lent for the shape of a text and for the line of the shape.
 pub struct Ask {
     pub width: Width,
     pub said: u32,
@@ -16,6 +17,8 @@ pub struct Ask {
     pub places: usize,
     pub for_table: usize,
     pub for_shape: usize,
+    pub for_tree: usize,
+    pub for_line: usize,
 }
 
 fn width_of(levels: usize) -> Width {
@@ -33,7 +36,7 @@ fn bytes_lent(width: Width, records: usize, past: usize) -> usize
 }
 
 pub fn asked(head: &[u8]) -> Ask
-    requires { ⌜ length (now head) ≡ 29 ⌝ }
+    requires { ⌜ length (now head) ≡ 35 ⌝ }
 {
     let levels = bytes::wide(head[22]);
     let width = width_of(levels);
@@ -46,5 +49,7 @@ pub fn asked(head: &[u8]) -> Ask
         places: bytes::word(head, 18),
         for_table: bytes::word(head, 23),
         for_shape: bytes::word(head, 25),
+        for_tree: bytes::word(head, 31),
+        for_line: bytes::word(head, 33),
     }
 }

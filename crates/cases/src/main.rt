@@ -2,14 +2,15 @@
 // that they leave in what they are lent can be compared.
 //
 // A case is a width, a table, a shape, a row to look up, the room lent for a reshape, the number of summaries lent, the shape of a second
-// reshape, which most cases lack, the bytes lent for the table and for the shape in the other width or with their labels converted, and the
-// numbers of a list of pairs. It is written as what differs from the case before, since most cases change little. The table's bytes are held
-// from place 0, the shape's from 32,768, the second shape's from 49,152 and the list's from 57,344, and all begin as zeros. A head of 29 bytes,
-// least byte first: the number of changes (2 bytes), the length of the table (2) and of the shape (2), the row (8), the whole records lent (2),
-// the bytes lent past them (1), the summaries lent (1), the places lent for the source list (2), the length of the second shape (2), 0 where
-// there is none, the levels of the width (1), 8 or else 6, the bytes lent for the table (2) and for the shape (2) in the other width, and how
-// many numbers the list has (2). Then each change: its place (2 bytes), its length (1) and its bytes. Records are counted because the bytes of
-// 4,096 do not fit two bytes.
+// reshape, which most cases lack, the bytes lent for the table and for the shape in the other width or with their labels converted, the
+// numbers of a list of pairs, a text, and the bytes lent for its shape and for the line of the shape. It is written as what differs from the case
+// before, since most cases change little. The table's bytes are held from place 0, the shape's from 32,768, the second shape's from 49,152, the
+// list's from 57,344 and the text's from 61,440, and all begin as zeros. A head of 35 bytes, least byte first: the number of changes (2 bytes),
+// the length of the table (2) and of the shape (2), the row (8), the whole records lent (2), the bytes lent past them (1), the summaries lent (1),
+// the places lent for the source list (2), the length of the second shape (2), 0 where there is none, the levels of the width (1), 8 or else 6,
+// the bytes lent for the table (2) and for the shape (2) in the other width, how many numbers the list has (2), the length of the text (2), and
+// the bytes lent for its shape (2) and for the line (2). Then each change: its place (2 bytes), its length (1) and its bytes. Records are counted
+// because the bytes of 4,096 do not fit two bytes.
 //
 // The line has a part for each call, with ": " between them, and pieces of a part have "; " between them:
 // - examining's number, place and rows;
@@ -27,6 +28,9 @@
 // - the number, place and count of widening the table where it is narrow, of narrowing it where it is wide, and the sum over every lent
 //   byte after it; then the same of the shape;
 // - converting's number, place, rows and entries, and the sum over every byte lent for the table and for the shape after it;
+// - the number, place and entries of reading the text over the table, and the sum over every lent byte after it;
+// - the number, place and bytes of printing the shape, and the sum over every lent byte after it; then of reading what was printed, an empty text
+//   where nothing was, the same as of the text;
 // - with a second shape, what reshaping to it the lines that the case's own reshape leaves gives, in the form of reshaping's part, with
 //   4,100 records and places lent; or `none`, where the case's own reshape is refused or leaves more than 1,024 lines.
 // A sum is that of `print::folded`.
@@ -40,12 +44,14 @@ pub mod lent;
 pub mod marked;
 pub mod moved;
 pub mod print;
+pub mod trees;
 
 use ask::Ask;
 use ask::asked;
 use libc::STDIN_FILENO;
 use libc::STDOUT_FILENO;
 use moved::File;
+ghost use mathlib.Core.Path.{_≡_};
 ghost use Prim.Native.Nat.{_+_, _<_};
 ghost use lib.ListN.{length};
 
@@ -61,7 +67,7 @@ fn print_answers(t: &[u8], s: &[u8], ask: Ask) {
 }
 
 // A case's line.
-fn print_case(t: &[u8], s: &[u8], again: &[u8], list: &[u8], ask: Ask) {
+fn print_case(t: &[u8], s: &[u8], again: &[u8], list: &[u8], text: &[u8], ask: Ask) {
     let width = ask.width;
     print_answers(t, s, ask);
     lent::print_reshaped(t, s, ask);
@@ -69,6 +75,8 @@ fn print_case(t: &[u8], s: &[u8], again: &[u8], list: &[u8], ask: Ask) {
     moved::print_moved(File::Table, width, t, ask.for_table);
     moved::print_moved(File::Shape, width, s, ask.for_shape);
     converted::print_converted(t, s, list, ask);
+    trees::print_text(t, text, ask);
+    trees::print_line(t, s, ask);
     chain::print_chain(width, t, s, again, ask.bytes, ask.places);
     io::write_all(STDOUT_FILENO, b"\n");
 }
@@ -111,20 +119,17 @@ fn read_changes(held: &mut [u8], count: usize) -> bool {
     true
 }
 
-// Reads a case and prints its line, or answers false where there is no whole one that fits what is held.
-fn run_case(held: &mut [u8]) -> bool {
-    let mut head = [0u8; 29];
-    if io::read_full(STDIN_FILENO, &mut head) < 29 {
-        return false;
-    }
-    if !read_changes(held, bytes::word(&head, 0)) {
-        return false;
-    }
-    let n = bytes::word(&head, 2);
-    let end = 32768 + bytes::word(&head, 4);
-    let last = 49152 + bytes::word(&head, 20);
-    let listed = 57344 + 2 * bytes::word(&head, 27);
-    if held.len() < n || held.len() < end || held.len() < last || held.len() < listed {
+// Prints a case's line, or answers false where it does not fit what is held.
+fn print_held(held: &[u8], head: &[u8]) -> bool
+    requires { ⌜ length (now head) ≡ 35 ⌝ }
+{
+    let n = bytes::word(head, 2);
+    let end = 32768 + bytes::word(head, 4);
+    let last = 49152 + bytes::word(head, 20);
+    let listed = 57344 + 2 * bytes::word(head, 27);
+    let read = 61440 + bytes::word(head, 29);
+    let most = held.len();
+    if most < n || most < end || most < last || most < listed || most < read {
         return false;
     }
     print_case(
@@ -132,9 +137,22 @@ fn run_case(held: &mut [u8]) -> bool {
         &held[32768..end],
         &held[49152..last],
         &held[57344..listed],
-        asked(&head),
+        &held[61440..read],
+        asked(head),
     );
     true
+}
+
+// Reads a case and prints its line, or answers false where there is no whole one that fits what is held.
+fn run_case(held: &mut [u8]) -> bool {
+    let mut head = [0u8; 35];
+    if io::read_full(STDIN_FILENO, &mut head) < 35 {
+        return false;
+    }
+    if !read_changes(held, bytes::word(&head, 0)) {
+        return false;
+    }
+    print_held(held, &head)
 }
 
 // A proved loop has to end, and nothing says that the input does: the loop counts down from a number that no run uses up.

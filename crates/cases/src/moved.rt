@@ -1,8 +1,7 @@
 // A table and a shape in the other width: what is narrow is widened and what is wide is narrowed, into lent bytes that are filled before
 // the call, so that what it leaves in each can be told.
 use crate::lent::fill_bytes;
-use crate::print::folded_bytes;
-use crate::print::number;
+use crate::print::print_left;
 use silmezga::Moved;
 use silmezga::Width;
 use tables::row::smaller;
@@ -44,13 +43,9 @@ fn moved(file: File, width: Width, b: &[u8], new: &mut [u8]) -> Moved {
     }
 }
 
-// The sum is over all that was lent.
 fn print_answered(file: File, width: Width, b: &[u8], new: &mut [u8]) {
     let r = moved(file, width, b, new);
-    number(b": ", r.number);
-    number(b" ", r.place);
-    number(b" ", r.count);
-    number(b"; sum ", folded_bytes(1, new));
+    print_left(r.number, r.place, r.count, new);
 }
 
 // Lends so many bytes, as far as there are any.

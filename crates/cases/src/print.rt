@@ -30,3 +30,11 @@ pub fn folded_bytes(sum: usize, b: &[u8]) -> usize {
     }
     sum
 }
+
+// A part of a line: what a call answers, and the sum over all that it was lent.
+pub fn print_left(refusal: usize, place: usize, count: usize, lent: &[u8]) {
+    number(b": ", refusal);
+    number(b" ", place);
+    number(b" ", count);
+    number(b"; sum ", folded_bytes(1, lent));
+}
