@@ -4,23 +4,21 @@
  * them alike. Prints a line for each tape and call, with tabs between: tape, width, rows, call, nanoseconds of Silmezga, of the former
  * program (- where it has no such call) and of the plain one, the answer.
  */
-#define _POSIX_C_SOURCE 199309L
 #include <stdio.h>
 #include <stdlib.h>
 #include <string.h>
-#include <time.h>
 
+#include "clock.h"
 #include "former.h"
 #include "moves.h"
 #include "plain.h"
 #include "tapes.h"
 
-enum { ROUNDS = 11, PROGRAMS = 3, KINDS = 13, SIZES = 4, DEEP_KINDS = 2, LINES = SILMEZGA_MOST_LINES, MOST_ROWS = SILMEZGA_MOST_ROWS };
+enum { PROGRAMS = 3, KINDS = 13, SIZES = 4, DEEP_KINDS = 2, LINES = SILMEZGA_MOST_LINES, MOST_ROWS = SILMEZGA_MOST_ROWS };
 enum { NARROW_TAPES = KINDS * SIZES, TAPES = NARROW_TAPES + KINDS + DEEP_KINDS };    /* wide ones are of 1,024 rows only */
 enum { EXAMINE, JUDGE, RESHAPE, SUMMARISE, WIDEN, NARROW, CALLS };
 enum { FOR_ALL_CALLS = 9 };    /* so many of the kinds of tapes; those after them, where one table has two shapes, are for judging */
 
-static const double batch_seconds = 0.002;
 static const char *const calls[] = {"examine", "judge", "reshape", "summarise", "widen", "narrow"};
 
 typedef struct {
@@ -173,13 +171,6 @@ static void compare_widths(void)
     }
 }
 
-static double seconds(void)
-{
-    struct timespec now;
-    clock_gettime(CLOCK_PROCESS_CPUTIME_ID, &now);
-    return (double)now.tv_sec + 1e-9 * (double)now.tv_nsec;
-}
-
 static double batch(int p, const tape *t, int call, size_t times)
 {
     double began = seconds();
@@ -194,22 +185,10 @@ static double batch(int p, const tape *t, int call, size_t times)
 static size_t times_for(int p, const tape *t, int call)
 {
     size_t times = 1;
-    while (batch(p, t, call, times) < batch_seconds) {
+    while (batch(p, t, call, times) < BATCH_SECONDS) {
         times *= 2;
     }
     return times;
-}
-
-static int by_size(const void *a, const void *b)
-{
-    double x = *(const double *)a, y = *(const double *)b;
-    return (x > y) - (x < y);
-}
-
-static double median(double *seconds_a_call)
-{
-    qsort(seconds_a_call, ROUNDS, sizeof *seconds_a_call, by_size);
-    return seconds_a_call[ROUNDS / 2];
 }
 
 static void print_count(size_t refusal, size_t count, const char *of)

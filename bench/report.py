@@ -1,4 +1,4 @@
-"""Turns the figures of bench/driver.c into tables: report.py FIGURES MACHINE COMPILER [PAGE]. Prints them, and writes PAGE if named."""
+"""Turns the figures of bench/driver.c and bench/trees.c into tables: report.py FIGURES TREES MACHINE COMPILER [PAGE]. Prints them, and writes PAGE if named."""
 import sys
 
 CALLS = "examine", "judge", "reshape", "summarise"
@@ -19,6 +19,8 @@ BARS = {
 MOST_GROWTH = 9.0
 # The most that judging with verdict 1 may take, for one with verdict 0 on the same table.
 MOST_MISSING = 1.0
+# The most that reading a typed tree of 16 entries may take, for examining and typing the table.
+MOST_READING = 1.5
 SPREAD = 0.05  # what the ratios of two runs of the same code differ by
 KEPT, MISSING = ", verdict 0", ", verdict 1"  # how the names of such a table's two tapes end
 
@@ -51,6 +53,8 @@ width costs the other anything; Silmezga has one body for both. Tables are narro
 | lone sixteen | the same table; judged only | 16 entries on 6 levels: asset[lessee asset[asset[..]] ..] for verdict 0, a lease as the last entry for verdict 1 |
 | eight levels | wide only: one root, two rows below each row down to level 7, one below each of those | 8 entries: the levels upside down |
 | siblings on 8 | wide only: one way down to level 7, all other rows on level 8 beneath it | 3 entries: level 8, and beneath it levels 7 and 6 |
+| long names | one way down to the last level, all other rows there beneath it, every row labelled insurance; typed only | 16 entries of the last type |
+| same ends | hostile: ways down of documents under different roots, 60 types, wide 64; typed only | 16 entries of the types on the last level |
 """
 
 GOES = """
@@ -76,6 +80,10 @@ of these three lists and not of all rows. And beneath a line it walks only the c
 SAME_TABLE = f"""One table, judged with two shapes of as many entries. Verdict 1 is to cost no more than verdict 0, also where it comes at the last entry and names
 the last row, as here. The ratios of two runs of the same code differ by up to {SPREAD}, which the bar allows for."""
 
+TREES = """Each tree has 16 entries on all levels of its width, of the table's deepest types, all that there are up to 16. Whole paths are the line that is printed of the shape;
+the shortest names are as many last labels as tell the types apart. Examining and typing the table is what reading an empty text takes. The bar
+is for every tape."""
+
 WIDE = """The same tapes widened, and two that are eight levels deep. The ratio to narrow is the time over that on the narrow tape."""
 MOVES = """The plain program tests the table with `bench/plain.c`, and copies record by record."""
 
@@ -88,6 +96,12 @@ def read(path):
         found = {program: float(ns) for program, ns in zip(PROGRAMS, measured) if ns != "-"}
         figures[width][tape, int(rows), call] = dict(found, answer=answer)
     return figures["narrow"], figures["wide"]
+
+
+def read_trees(path):
+    """Of each typed tree: tape, width, names, bytes of the text, and the nanoseconds of examining and typing and of reading."""
+    lines = [line.rstrip("\n").split("\t") for line in open(path)]
+    return [(tape, width, names, int(size), float(typing), float(reading)) for tape, width, names, size, typing, reading in lines]
 
 
 def time(ns):
@@ -186,11 +200,17 @@ def verdicts(figures, machine):
     return table(["tape", "rows", *programs, "answers", "machine"], rows)
 
 
-def passed(ratios, growths):
+def tree_bars(trees, machine):
+    """A row for each typed tree: the times, the most that is wanted, the ratio, and whether the bar is passed."""
+    return [[tape, width, names, f"{size:,}", time(typing), time(reading), times(MOST_READING)] + held(reading / typing, MOST_READING) + [machine]
+            for tape, width, names, size, typing, reading in trees]
+
+
+def passed(ratios, growths, typed):
     """How many bars are passed, in a sentence."""
-    former, plain, own = [sum(row[at] == "pass" for row in rows) for rows, at in ((ratios, 4), (ratios, 6), (growths, 4))]
+    former, plain, own, read = [sum(row[at] == "pass" for row in rows) for rows, at in ((ratios, 4), (ratios, 6), (growths, 4), (typed, 8))]
     return (f"Of the {len(ratios)} bars on ratios Silmezga passes {former} against the former program, on which they were set, and {plain} "
-            f"against the best plain C.\nOf the {len(growths)} bars on its own growth it passes {own}.")
+            f"against the best plain C.\nOf the {len(growths)} bars on its own growth it passes {own}, of the {len(typed)} on reading typed trees {read}.")
 
 
 def section(title, rows):
@@ -198,12 +218,15 @@ def section(title, rows):
 
 
 def main():
-    path, machine, compiler, *page = sys.argv[1:]
+    path, trees, machine, compiler, *page = sys.argv[1:]
     figures, wide = read(path)
+    typed = tree_bars(read_trees(trees), machine)
     ratios, growths = ratio_bars(figures, machine), growth_bars(figures, machine)
     parts = section("Bars: ratios at 1,024 rows", table(["tape", "call", "at most", "to former", "", "to plain", "", "machine"], ratios))
     parts += section("Bars: greatest growth, 128 to 1,024 rows", table(["tape", "call", "at most", "Silmezga", "", "machine"], growths))
     parts += section("Judging with verdict 1 beside verdict 0", [SAME_TABLE, ""] + verdicts(figures, machine))
+    head = ["tape", "width", "names", "bytes of text", "examining and typing", "reading", "at most", "ratio", "", "machine"]
+    parts += section("Reading a typed tree over 1,024 rows", [TREES, ""] + table(head, typed))
     parts += section("At 1,024 rows", beside(figures, machine, [(tape, 1024) for tape in USUAL]))
     parts += section("Wide tables at 1,024 rows", [WIDE, ""] + beside(wide, machine, [(tape, 1024) for tape in TAPES + DEEP], figures))
     parts += section("Widening and narrowing 1,024 rows", [MOVES, ""] + moves(figures, wide, machine))
@@ -214,7 +237,7 @@ def main():
     print(text)
     if page:
         with open(page[0], "w") as out:
-            out.write(ABOUT.format(compiler=compiler, many=MANY_LINES, passed=passed(ratios, growths)) + "\n" + text + GOES)
+            out.write(ABOUT.format(compiler=compiler, many=MANY_LINES, passed=passed(ratios, growths, typed)) + "\n" + text + GOES)
 
 
 main()

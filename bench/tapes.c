@@ -2,7 +2,7 @@
 
 #include <string.h>
 
-enum { PORTFOLIO = 1, LESSEE, LEASE, ASSET, PAYMENT };
+enum { PORTFOLIO = 1, LESSEE, LEASE, ASSET, PAYMENT, INSURANCE = 10, DOCUMENT = 20 };
 
 static void put_word(uint8_t *b, size_t x)
 {
@@ -348,4 +348,36 @@ void make_lone_sixteen_missing(tape *t, silmezga_width width, size_t rows)
 {
     start_lone(t, width, "lone sixteen, verdict 1", rows);
     sixteen_entries(t, 4, 3);
+}
+
+static unsigned levels_of(const tape *t)
+{
+    return t->width == SILMEZGA_EIGHT ? SILMEZGA_WIDE_MOST_LEVELS : SILMEZGA_MOST_LEVELS;
+}
+
+void make_long_names(tape *t, silmezga_width width, size_t rows)
+{
+    unsigned level;
+    start(t, width, "long names");
+    for (level = 1; level < levels_of(t); level++) {
+        add_row(t, level, INSURANCE);
+    }
+    while (t->rows < rows) {
+        add_row(t, level, INSURANCE);
+    }
+}
+
+void make_same_ends(tape *t, silmezga_width width, size_t rows)
+{
+    unsigned level, root;
+    start(t, width, "same ends");
+    for (root = 1; root <= SILMEZGA_MOST_TYPES / levels_of(t); root++) {
+        add_row(t, 1, root);
+        for (level = 2; level <= levels_of(t); level++) {
+            add_row(t, level, DOCUMENT);
+        }
+    }
+    while (t->rows < rows) {
+        add_row(t, levels_of(t), DOCUMENT);
+    }
 }

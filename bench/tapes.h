@@ -56,6 +56,14 @@ void make_lone_lease_missing(tape *t, silmezga_width width, size_t rows);
 void make_lone_sixteen_kept(tape *t, silmezga_width width, size_t rows);
 void make_lone_sixteen_missing(tape *t, silmezga_width width, size_t rows);
 
+/* For typed trees alone: their shapes are left empty, and the trees are made of their deepest types. */
+
+/* One way down and siblings on the last level, all labelled insurance: no name of a label is longer. */
+void make_long_names(tape *t, silmezga_width width, size_t rows);
+
+/* Hostile: 60 types, 64 where wide, on ways down whose roots alone differ, so that a name is compared with each type up to its root. */
+void make_same_ends(tape *t, silmezga_width width, size_t rows);
+
 /* For the wide width alone. */
 
 /* One tree of eight levels, to a shape of 8 entries that has the levels upside down. */

@@ -2,10 +2,10 @@
  * Silmezga: moves a seller's table of lease records into the tree that a buyer wants, says whether the move keeps the links between
  * records, and writes the new table with the source row of every line.
  *
- * Six calls, four that widen and narrow files, and one that converts labels, each a function of its arguments alone: no call keeps
- * anything, allocates, reads or writes a file, or stops the program. Each takes bytes of every kind. It gives its answer, or a refusal
- * with a number and a place, and a refused call changes nothing that it was lent. What each call answers is proved for every input
- * (docs/PROVED.md).
+ * Thirteen calls: six for tables and shapes, four that widen and narrow files, one that converts labels, and two for trees as a line of
+ * text. Each is a function of its arguments alone: no call keeps anything, allocates, reads or writes a file, or stops the program. Each
+ * takes bytes of every kind. It gives its answer, or a refusal with a number and a place, and a refused call changes nothing that it was
+ * lent. What each call answers is proved for every input (docs/PROVED.md).
  *
  * The archive is target/staticlib/libsilmezga_c.a, made by `rt staticlib silmezga_c`. It is for x86-64 Linux, and all that it takes from other
  * libraries is memcpy and memset. This header is C99 and C++. Calls from several threads do not disturb each other, as long as nothing
@@ -16,7 +16,8 @@
  *   - A pointer and the length behind it tell of memory that is there: `table` has table_len bytes, and so on. No length passes the
  *     object's own.
  *   - No pointer is NULL, also where the length is 0: then pass the address of any object of the pointer's type.
- *   - What a call writes to (`new_table`, `new_shape`, `sources`, `summaries`) overlaps nothing else that is lent to the same call.
+ *   - What a call writes to (`new_table`, `new_shape`, `sources`, `summaries`; `shape` in reading a tree, `text` in printing one)
+ *     overlaps nothing else that is lent to the same call.
  *   - `sources`, `summaries` and `pairs` are aligned as their types ask, which they are when declared or allocated as such.
  *
  * Widths
@@ -61,15 +62,15 @@ extern "C" {
 #endif
 
 /* The version of the project; CHANGELOG.md says what each brought. */
-#define SILMEZGA_VERSION "3.0.0"
+#define SILMEZGA_VERSION "3.1.0"
 
 /* The archive's numbers have 64 bits: this line refuses a target whose size_t has not. */
 typedef char silmezga_size_t_has_64_bits[sizeof(size_t) == 8 ? 1 : -1];
 
 /*
  * ---- Widths
- * The first argument of each of the six calls, and of the one that converts labels: the width of the table and of the shape that it is lent, and
- * of what it writes. It is passed as a number of 32 bits. 8 means eight levels, and every other number six.
+ * The first argument of each of the six calls, of the one that converts labels and of the two for trees as a line of text: the width of the table and of
+ * the shape that it is lent, and of what it writes. It is passed as a number of 32 bits. 8 means eight levels, and every other number six.
  */
 typedef enum silmezga_width {
     SILMEZGA_SIX = 6,       /* narrow: six levels */
@@ -101,17 +102,20 @@ typedef char silmezga_width_has_32_bits[sizeof(silmezga_width) == 4 ? 1 : -1];
 #define SILMEZGA_MOST_TYPES 64         /* types of a table */
 #define SILMEZGA_MOST_ENTRIES 16       /* entries of a shape, of which there is at least 1 */
 #define SILMEZGA_MOST_LINES 4096       /* lines of a new table */
+#define SILMEZGA_MOST_TEXT_BYTES 1536  /* of a tree as a line of text; a printed line has at most 1,360 */
 
 /*
  * ---- Refusals
- * In the order in which they are tested. Each is given exactly then; 0 means that the call is accepted, and its place is 0.
+ * In the order in which they are tested, but for reading a typed tree, whose order stands beside it. Each is given exactly then; 0 means that the call is
+ * accepted, and its place is 0.
  *
  *   examine    1 to 3            widen_table     1 to 3, 29
  *   look_up    1 to 3, 11        narrow_table    1 to 3, 24, 29
  *   adorn      1 to 4, 10        widen_shape     5 and 6, 29
  *   judge      1 to 7            narrow_shape    5 and 6, 24, 29
  *   reshape    1 to 8            convert_labels  1 to 3, 5 and 6 with labels to 999; 25, 26, 29
- *   summarise  1 to 8
+ *   summarise  1 to 8            read_tree       1 to 4, then 12, 5, 6, 13, 29
+ *                                print_tree      5 and 6, 29
  */
 enum {
     SILMEZGA_ACCEPTED = 0,
@@ -125,10 +129,13 @@ enum {
     SILMEZGA_NO_ROOM = 8,            /* more lines than there is room for; place 0 */
     SILMEZGA_FEW_SUMMARIES = 10,     /* fewer lent summaries than types; place 0 */
     SILMEZGA_NO_SUCH_ROW = 11,       /* no such row; place: the row asked for */
+    SILMEZGA_BAD_TEXT = 12,          /* the typed tree is over 1,536 bytes or not in the grammar; place: 1,536 where it is too long, else the
+                                        first byte of the first token that no wanted tree has there, or the text's length where it ends early */
+    SILMEZGA_BAD_NAME = 13,          /* a typed name matches no type of the table, or several; place: the first such entry */
     SILMEZGA_TOO_DEEP = 24,          /* for narrowing, a level or the length of a type over 6; place: the first such row or entry */
     SILMEZGA_BAD_PAIR = 25,          /* for converting, a pair breaks a rule below; place: the first such pair */
     SILMEZGA_UNLISTED_LABEL = 26,    /* for converting, a label above 99 is not in the list; place: the first such row, else entry */
-    SILMEZGA_FEW_BYTES = 29          /* for widening, narrowing and converting, fewer lent bytes than are written; place 0 */
+    SILMEZGA_FEW_BYTES = 29          /* for all calls but the first six, fewer lent bytes than are written; place 0 */
 };
 
 /* Number 9 is unused: no call gives it. The name stays only so that a program that has it still compiles. */
@@ -223,6 +230,18 @@ typedef struct silmezga_converted {
     size_t entries;             /* entries of the shape */
 } silmezga_converted;
 
+typedef struct silmezga_tree_read {
+    size_t number;
+    size_t place;
+    size_t entries;             /* entries written */
+} silmezga_tree_read;
+
+typedef struct silmezga_tree_printed {
+    size_t number;
+    size_t place;
+    size_t bytes;               /* bytes written */
+} silmezga_tree_printed;
+
 /* ---- The six calls */
 
 /* Examines a table: refusals 1 to 3, or the number of rows. */
@@ -311,6 +330,43 @@ silmezga_moved silmezga_narrow_shape(const uint8_t *shape, size_t shape_len, uin
 silmezga_converted silmezga_convert_labels(silmezga_width width, const uint8_t *table, size_t table_len, const uint8_t *shape, size_t shape_len,
                                            const uint16_t *pairs, size_t numbers, uint8_t *new_table, size_t new_table_len,
                                            uint8_t *new_shape, size_t new_shape_len);
+
+/*
+ * ---- Trees as a line of text
+ * A wanted tree may be typed: `asset [ lease [ lessee ] ]`. This is the grammar.
+ *
+ *   text   one tree; spaces between tokens, before the first and after the last are free
+ *   tree   a name, or a name, `[`, one tree or more, `]`
+ *   name   parts with single dots between them, and a dot before the first or none
+ *   part   one of the twenty names of labels 1 to 20, or a number from 21 to 99 without leading zeros
+ *   token  `[`, `]`, or a longest run of bytes other than space and these two; a name is one token
+ *
+ * The names of labels 1 to 20: portfolio, lessee, lease, asset, payment, meter, guarantor, invoice, site, insurance, deposit, vendor, schedule,
+ * residual, tax, service, reading, contact, currency, document. Large letters, tabs and line ends are bytes of a token like others, so that a text
+ * which ends with a line end is refused.
+ *
+ * A name stands for a type of the table: `lessee.lease` for the one whose list of labels ends so, `.portfolio.lessee.lease`, with a dot before it,
+ * for the one whose whole list that is. It must match exactly one. A name of more labels than there are levels matches none.
+ */
+
+/*
+ * Reads a typed tree over a table: refusals 1 to 4 of the table, then 12, then 5 (place 0) for more than 16 entries, 6 for a level above 6, wide 8
+ * (place: the first such entry), 13 and 29; or the records of the shape, at the front of the lent bytes, which are `shape_len`. Bytes past them
+ * stay as they were. 12 is given exactly for texts that are over 1,536 bytes or not in the grammar. An entry of the shape is a name of the text, in
+ * the text's order: its level is one more than the brackets that are open there, its type the one that the name matches.
+ *
+ * The shape takes entries x 16 bytes, wide 20; SILMEZGA_MOST_SHAPE_BYTES, wide SILMEZGA_WIDE_MOST_SHAPE_BYTES, are always enough.
+ */
+silmezga_tree_read silmezga_read_tree(silmezga_width width, const uint8_t *table, size_t table_len, const uint8_t *text, size_t text_len,
+                                      uint8_t *shape, size_t shape_len);
+
+/*
+ * Prints a shape as a line: refusals 5, 6 and 29, or the line at the front of the lent bytes, which are `text_len`; bytes past it stay as they
+ * were. Each entry's type is written whole, with a dot before it, and there is one space between two tokens; no line end. The line has at
+ * most 1,360 bytes, so that SILMEZGA_MOST_TEXT_BYTES are always enough. Read with the same width over any table that is not refused with 1 to 4 and
+ * that has all types of the shape, it gives back the same shape.
+ */
+silmezga_tree_printed silmezga_print_tree(silmezga_width width, const uint8_t *shape, size_t shape_len, uint8_t *text, size_t text_len);
 
 #ifdef __cplusplus
 }

@@ -1,7 +1,7 @@
 //! What the archive exports, as `include/silmezga.h` declares it.
 use crate::{TypeSummary, Width, MOST_ENTRIES};
 
-/// The answer of examining, adorning, reshaping, widening and narrowing: a count of rows, types, lines or entries.
+/// The answer of examining, adorning, reshaping, widening, narrowing, and of reading and printing a tree: a count of rows, types, lines, entries or bytes.
 #[repr(C)]
 pub struct Counted {
     pub number: usize,
@@ -79,4 +79,14 @@ extern "C" {
         new_shape: *mut u8,
         new_shape_len: usize,
     ) -> BothConverted;
+    pub fn silmezga_read_tree(
+        width: Width,
+        table: *const u8,
+        table_len: usize,
+        text: *const u8,
+        text_len: usize,
+        shape: *mut u8,
+        shape_len: usize,
+    ) -> Counted;
+    pub fn silmezga_print_tree(width: Width, shape: *const u8, shape_len: usize, text: *mut u8, text_len: usize) -> Counted;
 }

@@ -1,5 +1,5 @@
-//! The six calls of Silmezga over its static library, those that widen and narrow files and the one that converts labels, safe: slices in, an
-//! answer or a refusal out.
+//! The six calls of Silmezga over its static library, those that widen and narrow files, the one that converts labels and the two for trees as a
+//! line of text, safe: slices in, an answer or a refusal out.
 //!
 //! The layouts of tables and shapes, the limits, and when each refusal is given stand in `include/silmezga.h`. What the calls answer
 //! is proved of the archive's functions; this file, which passes slices to them, is not covered by a proof.
@@ -55,6 +55,8 @@ pub const MOST_TYPES: usize = 64;
 pub const MOST_ENTRIES: usize = 16;
 /// The most lines of a new table.
 pub const MOST_LINES: usize = 4_096;
+/// The most bytes of a tree as a line of text: so many are always enough for printing.
+pub const MOST_TEXT_BYTES: usize = 1_536;
 
 /// Why a call was refused: the number, 1 to 29, and the place that the refusal names, 0 where it names none.
 #[derive(Clone, Copy, Debug, PartialEq, Eq)]
@@ -248,4 +250,31 @@ pub fn convert_labels(
         )
     };
     accepted(a.number, a.place, Converted { rows: a.rows, entries: a.entries })
+}
+
+/// Reads a wanted tree that is typed as a line of text, as `asset [ lease [ lessee ] ]`, over a table: refusals 1 to 4; 12 with the first byte of the
+/// first token that no wanted tree has there, or the text's length where it ends early, or 1,536 where it has more bytes; 5 for more than 16
+/// entries; 6 with the first entry whose level is too deep; 13 with the first entry whose name matches no type of the table, or several; and 29; or the
+/// number of entries, whose records then stand at the front of `shape`, 16 or 20 bytes each. What lies past them stays as it was.
+pub fn read_tree(width: Width, table: &[u8], text: &[u8], shape: &mut [u8]) -> Result<usize, Refusal> {
+    let a = unsafe {
+        archive::silmezga_read_tree(
+            width,
+            table.as_ptr(),
+            table.len(),
+            text.as_ptr(),
+            text.len(),
+            shape.as_mut_ptr(),
+            shape.len(),
+        )
+    };
+    accepted(a.number, a.place, a.count)
+}
+
+/// Prints a shape as a line of text, with whole dotted paths, each with a leading dot, and single spaces: refusals 5, 6 and 29, or the number of bytes,
+/// which then stand at the front of `text`; what lies past them stays as it was. A line has at most 1,360 bytes. Read over any table that is not
+/// refused with 1 to 4 and that has all types of the shape, it gives back the same shape.
+pub fn print_tree(width: Width, shape: &[u8], text: &mut [u8]) -> Result<usize, Refusal> {
+    let a = unsafe { archive::silmezga_print_tree(width, shape.as_ptr(), shape.len(), text.as_mut_ptr(), text.len()) };
+    accepted(a.number, a.place, a.count)
 }
