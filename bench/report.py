@@ -36,6 +36,9 @@ over the table, sets of types, and lines that are walked to be counted. `bench/p
 algorithms, and no machine-word tricks. Both are compiled once for each width, with the number of levels as a constant, so that neither
 width costs the other anything; Silmezga has one body for both. Tables are narrow, and the bars are on narrow ones, where nothing else is said.
 
+The figures of judging include, in all three programs, the numbers of every edge, whatever the verdict: the least and the greatest number of
+children under a row of the parent entry's type, and of parents of a row of the entry's own.
+
 {passed}
 
 | tape | what it is | shape |
@@ -68,12 +71,15 @@ entry, however many lines there are. When lines are written, the first and the n
 child entry for them. A row's type is tried first where it was last found after a row of the same type, and else searched for among the
 types listed so far.
 
-With verdict 1 no edge is walked past the first row without a partner, and the search for that row begins in its run; then the pairs of entries are
-looked at for a 2 only, for which full edges do not matter.
+Judging counts along eight edges in one walk of all rows, each edge in a place of its own, so that shapes of more than eight entries take two
+walks. Every row ends the runs of some edges or of none, without a branch; rows deeper than where any run begins are only counted. The walks are the same
+with every verdict. With verdict 1 the search for the row without a partner begins in its run; then the pairs of entries are looked at for a 2
+only, for which full edges do not matter.
 
 `bench/plain.c` is quicker because it does less. It numbers the labels, so that a type is looked up. It lists the rows of each type, and
-the rows of the ancestor type that an edge's two types share cut their lists into runs, so that the lines of an entry are counted by a walk
-of these three lists and not of all rows. And beneath a line it walks only the child entries that have lines.
+the rows of the ancestor type that an edge's two types share cut their lists into runs, so that the numbers of an edge and the lines of an
+entry are counted by a walk of these lists and not of all rows; for the numbers, two types are walked once, however many edges join them. And beneath a
+line it walks only the child entries that have lines.
 """
 
 

@@ -10,7 +10,7 @@
  * The archive is target/staticlib/libsilmezga_c.a, made by `rt staticlib silmezga_c`. It is for x86-64 Linux, and all that it takes from other
  * libraries is memcpy and memset. This header is C99 and C++. Calls from several threads do not disturb each other, as long as nothing
  * that one of them writes to is lent to another. Reshaping and summarising took at most 63 KB of stack when measured,
- * the others at most 6 KB; the proofs say nothing of stack.
+ * the others at most 7 KB; the proofs say nothing of stack.
  *
  * What a caller owes
  *   - A pointer and the length behind it tell of memory that is there: `table` has table_len bytes, and so on. No length passes the
@@ -61,8 +61,11 @@
 extern "C" {
 #endif
 
-/* The version of the project; CHANGELOG.md says what each brought. */
-#define SILMEZGA_VERSION "3.1.0"
+/*
+ * The version of the project; CHANGELOG.md says what each brought. A program is compiled with the header of the archive that it is linked to:
+ * silmezga_judged is larger than before version 3.2.
+ */
+#define SILMEZGA_VERSION "3.2.0"
 
 /* The archive's numbers have 64 bits: this line refuses a target whose size_t has not. */
 typedef char silmezga_size_t_has_64_bits[sizeof(size_t) == 8 ? 1 : -1];
@@ -153,6 +156,12 @@ enum {
  * is 1 exactly when none of them would earn a 2. Then a reshape makes nothing up, also with verdict 1 or 3: any two lines of different
  * entries that hang under, or are, one line of their fork entry have closest source rows. With verdict 0 it is 1, with verdict 2 it is 0.
  * It holds one way only: 0 does not mean that something is made up.
+ *
+ * Beside them stand the numbers of each edge, whatever the verdict; an edge is named by its lower entry. The children of a row of the parent
+ * entry's type are the rows of the entry's type closest to it, the parents of a row of the entry's type its partners. Every row of the two
+ * types counts, also one that no line shows and one that has none: least and greatest are over all of them, and each is the number of some
+ * row. So an edge is full exactly where the least number of children is not 0, each row of the entry's type has a partner exactly where the
+ * least number of parents is not 0, and where the two types do not meet all four are 0.
  */
 enum {
     SILMEZGA_KEPT = 0,       /* the move keeps every link and makes up none */
@@ -200,6 +209,10 @@ typedef struct {
     size_t first;               /* verdict 1: the entry; 2 and 3: the earlier entry; 0: zero */
     size_t second;              /* verdict 1: the row; 2 and 3: the later entry; 0: zero */
     size_t none_apart;          /* the second answer: 1 where no pair of entries would earn a 2, else 0 */
+    size_t least_children[SILMEZGA_MOST_ENTRIES];     /* for each entry, over all rows of its parent entry's type, the least number of children */
+    size_t greatest_children[SILMEZGA_MOST_ENTRIES];  /* and the greatest; zeros for entry 0 and past the last entry, here and below */
+    size_t least_parents[SILMEZGA_MOST_ENTRIES];      /* for each entry, over all rows of its own type, the least number of parents */
+    size_t greatest_parents[SILMEZGA_MOST_ENTRIES];   /* and the greatest */
 } silmezga_judged;
 
 typedef struct {
@@ -256,7 +269,7 @@ silmezga_looked_up silmezga_look_up(silmezga_width width, const uint8_t *table, 
  */
 silmezga_adorned silmezga_adorn(silmezga_width width, const uint8_t *table, size_t table_len, silmezga_type_summary *summaries, size_t lent);
 
-/* Judges a table and a shape: refusals 1 to 7, or the verdict in numbers and the second answer. */
+/* Judges a table and a shape: refusals 1 to 7, or the verdict in numbers, the second answer, and four numbers of each edge. */
 silmezga_judged silmezga_judge(silmezga_width width, const uint8_t *table, size_t table_len, const uint8_t *shape, size_t shape_len);
 
 /*
@@ -286,7 +299,8 @@ silmezga_summary silmezga_summarise(silmezga_width width, const uint8_t *table, 
  *
  * A record is widened by two zero components (in a shape, labels) behind the six that it has; narrowed, it loses the last two, which are
  * zero. So narrowing what was widened gives back the same bytes, and widening what was narrowed too. A widened table has the same types
- * as the narrow one, and with the widened shape the same verdict, second answer, summary and source list, and the same lines, widened.
+ * as the narrow one, and with the widened shape the same verdict, second answer, numbers of edges, summary and source list, and the same
+ * lines, widened.
  */
 
 /* Widens a narrow table: refusals 1 to 3 of the narrow width and 29. SILMEZGA_WIDE_MOST_TABLE_BYTES are always enough. */
@@ -325,7 +339,7 @@ silmezga_moved silmezga_narrow_shape(const uint8_t *shape, size_t shape_len, uin
  *
  * What is written is always accepted at its width: with no refusal 1 to 3, or 5 and 6. Two rows have equal types afterwards exactly if they had
  * before, and closest rows stay closest. So refusals 4 and 7 come exactly where the old range would have them, and the verdict, the second answer,
- * the summary and the source list are those of the old files; the lines too, with their labels converted.
+ * the numbers of edges, the summary and the source list are those of the old files; the lines too, with their labels converted.
  */
 silmezga_converted silmezga_convert_labels(silmezga_width width, const uint8_t *table, size_t table_len, const uint8_t *shape, size_t shape_len,
                                            const uint16_t *pairs, size_t numbers, uint8_t *new_table, size_t new_table_len,

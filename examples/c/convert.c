@@ -70,7 +70,8 @@ static void show_judged(void)
     if (answer.number != SILMEZGA_ACCEPTED) {
         printf("judge the new files: refused %zu at %zu\n", answer.number, answer.place);
     } else {
-        printf("judge the new files: verdict %zu\n", answer.verdict);
+        printf("judge the new files: verdict %zu, edge 1: children %zu..%zu parents %zu..%zu\n", answer.verdict, answer.least_children[1],
+               answer.greatest_children[1], answer.least_parents[1], answer.greatest_parents[1]);
     }
 }
 

@@ -127,10 +127,20 @@ static void show_adorned(const files *read, size_t lent)
 }
 
 /* What the second answer adds to verdicts 1 and 3. Verdict 0 says as much already, and verdict 2 names two entries that are apart. */
-static void show_none_apart(silmezga_judged answer)
+static void show_none_apart(const silmezga_judged *answer)
 {
-    if (answer.verdict == SILMEZGA_MISSING || answer.verdict == SILMEZGA_UNSURE) {
-        printf("  %s\n", answer.none_apart ? "no two entries are apart: nothing is made up" : "two entries are apart: something may be made up");
+    if (answer->verdict == SILMEZGA_MISSING || answer->verdict == SILMEZGA_UNSURE) {
+        printf("  %s\n", answer->none_apart ? "no two entries are apart: nothing is made up" : "two entries are apart: something may be made up");
+    }
+}
+
+/* The numbers of each edge: of children under a row of the parent entry's type, of parents of a row of the entry's own. Entry 0 has none. */
+static void show_edges(const silmezga_judged *answer, size_t entries)
+{
+    size_t e;
+    for (e = 1; e < entries; e++) {
+        printf("  edge %zu: children %zu..%zu parents %zu..%zu\n", e, answer->least_children[e], answer->greatest_children[e],
+               answer->least_parents[e], answer->greatest_parents[e]);
     }
 }
 
@@ -153,7 +163,8 @@ static void show_judged(const files *read)
     default:
         printf("judge: verdict 3, entries %zu and %zu\n", answer.first, answer.second);
     }
-    show_none_apart(answer);
+    show_none_apart(&answer);
+    show_edges(&answer, read->shape_len / entry_bytes(read->width));
 }
 
 static void show_reshaped(const files *read)

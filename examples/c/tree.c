@@ -46,11 +46,18 @@ static int refused(const char *call, size_t number, size_t place)
     return number != SILMEZGA_ACCEPTED;
 }
 
+/* The verdict, and the numbers of each edge. */
 static void show_judged(const file *read, const uint8_t *shape, size_t shape_len)
 {
     silmezga_judged answer = silmezga_judge(read->width, read->table, read->table_len, shape, shape_len);
-    if (!refused("judge", answer.number, answer.place)) {
-        printf("  judge: verdict %zu\n", answer.verdict);
+    size_t e;
+    if (refused("judge", answer.number, answer.place)) {
+        return;
+    }
+    printf("  judge: verdict %zu\n", answer.verdict);
+    for (e = 1; e < shape_len / entry_bytes(read->width); e++) {
+        printf("  edge %zu: children %zu..%zu parents %zu..%zu\n", e, answer.least_children[e], answer.greatest_children[e],
+               answer.least_parents[e], answer.greatest_parents[e]);
     }
 }
 

@@ -22,6 +22,8 @@ verdict 0
 2.1.1 2 asset 6 600
 3 0 lessee 8 700
 3.1 1 lease 7 800
+edge 1 1 1 1 1
+edge 2 0 2 1 1
 """
 
 

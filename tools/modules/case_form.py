@@ -215,9 +215,15 @@ def chained(case):
     return reshaped(*second) if second else [("none",)]
 
 
+def by_entry(lists):
+    """Four lists as a piece for each entry that has a number that is not 0."""
+    return [(e, *four) for e, four in enumerate(zip(*lists)) if any(four)]
+
+
 def judged(case):
-    number, place, verdict, none_apart = judging(case.table, case.shape, case.levels)
-    return [(number, place, *(*verdict, 0, 0)[:3], int(none_apart))]
+    """The answer, and the numbers of each entry that has any."""
+    number, place, verdict, none_apart, edges = judging(case.table, case.shape, case.levels)
+    return [(number, place, *(*verdict, 0, 0)[:3], int(none_apart)), *by_entry(edges)]
 
 
 def looked_up(case):
@@ -228,7 +234,7 @@ def looked_up(case):
 
 def summarised(case):
     number, place, entries = summary(case.table, case.shape, case.levels)
-    return [(number, place)] + [(e, *four) for e, four in enumerate(zip(*entries)) if any(four)]
+    return [(number, place), *by_entry(entries)]
 
 
 def moved(move, data, lent, levels):

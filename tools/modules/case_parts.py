@@ -1,8 +1,9 @@
 """What the lists of cases are written with: tables and shapes in brackets, answers by hand, and the room lent.
 
 An answer by hand is document 01's or worked out by hand: what judging says (`verdict 2 1 2`, `refused 7 0`), its second answer (`yes` or
-`no`), the lines of each entry (`3 3 3`, or the summary's refusal) or another figure of each (`rows 3 3 2`, `copies 0 1 2`, `different 3 2 1`),
-or some of these with commas between. The tools stop if paper01.py says something else.
+`no`), the numbers of each edge (`edges 1 1 1 2 / 0 2 1 1`: least and greatest children of entry 1, least and greatest parents, then of entry 2),
+the lines of each entry (`3 3 3`, or the summary's refusal) or another figure of each (`rows 3 3 2`, `copies 0 1 2`, `different 3 2 1`), or some of
+these with commas between. The tools stop if paper01.py says something else.
 """
 import itertools, sys
 
@@ -29,15 +30,21 @@ def many(label, count):
 
 
 # ---- answers by hand
+def edges_said(edges, entries):
+    """The four numbers of each entry but the first."""
+    return " ".join(["edges", " / ".join(" ".join(map(str, four)) for four in [*zip(*edges)][1:entries])]).strip()
+
+
 def said(case):
-    """What judging says in the words of document 01's program, its second answer, and the lines of each entry, or the summary's refusal.
-    Where it is not refused, the other figures too."""
-    number, place, verdict, none_apart = judging(case.table, case.shape, case.levels)
+    """What judging says in the words of document 01's program, its second answer, the numbers of each edge, and the lines of each entry, or the
+    summary's refusal. Where it is not refused, the other figures too."""
+    number, place, verdict, none_apart, edges = judging(case.table, case.shape, case.levels)
     judged = f"refused {number} {place}" if number else " ".join(map(str, ("verdict", *verdict)))
     number, place, figures = summary(case.table, case.shape, case.levels)
-    lines, *others = (" ".join(map(str, x[:len(case.shape) // case.entry_length])) for x in figures)
+    entries = len(case.shape) // case.entry_length
+    lines, *others = (" ".join(map(str, x[:entries])) for x in figures)
     shown = [f"refused {number} {place}"] if number else [lines, *map(" ".join, zip(("rows", "copies", "different"), others))]
-    return judged, "yes" if none_apart else "no", *shown
+    return judged, "yes" if none_apart else "no", edges_said(edges, entries), *shown
 
 
 def by_hand(case, hand):

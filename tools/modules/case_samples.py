@@ -17,6 +17,8 @@ verdict 0
 2.2 2 asset 6 600
 3 0 lease 8 800
 3.1 1 lessee 7 700
+edge 1 1 1 1 2
+edge 2 0 2 1 1
 """
 
 # row k has value 100 × k

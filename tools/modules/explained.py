@@ -7,6 +7,11 @@ import pathlib, re, struct
 import paper01, samples, table_text, typed_trees
 
 PAGE = pathlib.Path(__file__).resolve().parents[2] / "docs" / "HELP.md"
+# the names of labels for several rows, and the names that take `an`
+SEVERAL = dict(zip(table_text.NAMES, (
+    "portfolios lessees leases assets payments meters guarantors invoices sites insurances deposits vendors schedules residuals taxes services "
+    "readings contacts currencies documents").split()))
+WITH_AN = "asset", "invoice", "insurance"
 
 
 def unpacked(form, held, at):
@@ -91,14 +96,24 @@ def second(table, wanted, answer, levels):
     """The second answer in the program's words, in a list; none beside a refusal."""
     if answer.startswith("refused"):
         return []
-    *_, none_apart = paper01.judge(table, samples.shaped(table, wanted, levels)[2], levels=levels)
+    none_apart = paper01.judge(table, samples.shaped(table, wanted, levels)[2], levels=levels)[3]
     return ["none apart" if none_apart else "some apart"]
 
 
+def edges(table, wanted, answer, levels):
+    """Of each entry but the first: the entry, the label of the entry above it, its own, and its four numbers; none beside a refusal."""
+    if answer.startswith("refused"):
+        return []
+    work = paper01.Work(table, samples.shaped(table, wanted, levels)[2], levels)
+    labels = [table_text.name(entry.type[-1]) for entry in work.entries]
+    return [(e, labels[work.parent[e]], labels[e], *work.partner_numbers(e)) for e in range(1, len(labels))]
+
+
 def reported(table, wanted, levels=6):
-    """The answer, what it names, and the second answer, a line each."""
+    """The answer, what it names, the second answer, and the edges, a line each."""
     answer = samples.listing(table, wanted, levels).split("\n")[0]
-    return [answer, *facts(table, wanted, answer, levels), *second(table, wanted, answer, levels)]
+    given = table, wanted, answer, levels
+    return [answer, *facts(*given), *second(*given), *(" ".join(map(str, ("edge", *edge))) for edge in edges(*given))]
 
 
 def helped(answer):
@@ -113,6 +128,24 @@ def helped(answer):
     raise ValueError(f"{PAGE.name} has nothing on {answer!r}")
 
 
+# ---- how many belong together, in words
+def so_many(label, least, greatest):
+    """So many rows with a label, or a range of them."""
+    one, several = (f"row labelled {label}", f"rows labelled {label}") if label.isdigit() else (label, SEVERAL[label])
+    number = str(least) if least == greatest else f"{least} to {greatest}"
+    return f"{number} {one if number == '1' else several}"
+
+
+def each_has(label, other, least, greatest):
+    """How many rows with another label belong to a row with this one."""
+    row_of = f"a row labelled {label}" if label.isdigit() else f"{'an' if label in WITH_AN else 'a'} {label}"
+    return f"{row_of} has {so_many(other, least, greatest)}"
+
+
+def in_words(e, above, own, least_children, greatest_children, least_parents, greatest_parents):
+    return f"edge {e}: {each_has(above, own, least_children, greatest_children)}, {each_has(own, above, least_parents, greatest_parents)}"
+
+
 def tried_seconds():
     """(sample, tree, answer, second answer) of each row of the table in docs/HELP.md that shows the second answer."""
     return re.findall(r"(?m)^\| (\w+) \| (\S.*?) \| `(verdict .*?)` \| `((?:none|some) apart)` \|", PAGE.read_text())
@@ -124,4 +157,6 @@ def explained(table, wanted, levels=6):
     found = [helped(each) for each in (answer, *second(table, wanted, answer, levels))]
     lines = [answer, f"What it means: {found[0][0]}", *(f"  {fact}" for fact in facts(table, wanted, answer, levels))]
     lines += [f"Second answer: {means}" for means, _ in found[1:]]
+    told = [f"  {in_words(*edge)}" for edge in edges(table, wanted, answer, levels)]
+    lines += ["How many belong together:", *told] if told else []
     return "\n".join([*lines, f"What to do next: {' '.join(then for _, then in found)}"]) + "\n"

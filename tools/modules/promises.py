@@ -1,6 +1,6 @@
-"""What is promised of a new table, of a summary, of a widened file, of a converted one, of a typed tree and of a printed line, held to the second
-reading's own answers: demand 3 of the order, and requests 1, 3, 9, 10 and 12 of document 02."""
-import sys
+"""What is promised of a new table, of a summary, of the numbers of an edge, of a widened file, of a converted one, of a typed tree and of a printed
+line, held to the second reading's own answers: demand 3 of the order, and requests 1, 3, 5, 9, 10 and 12 of document 02."""
+import collections, sys
 
 import paper01, typed_trees
 
@@ -29,8 +29,57 @@ def broken_figures(work, lines):
             yield f"verdict 0, and entry {e} has not as many different rows as rows"
 
 
+# ---- request 5: how many partners
+def numbers_around(work, kind, other):
+    """How many rows of another type each row of a type has in the tree around it, on the level where the two types meet."""
+    level = work.types_meet(kind, other)
+    trees = collections.Counter(work.rows[s].dewey[:level] for s in work.by_type[other])
+    return {r: trees[work.rows[r].dewey[:level]] if level else 0 for r in work.by_type[kind]}
+
+
+def is_range(numbers, least, greatest):
+    """Does every number lie between the two, and is each of them reached?"""
+    return all(least <= number <= greatest for number in numbers) and {least, greatest} <= set(numbers)
+
+
+def broken_edge(work, e, children, least_children, greatest_children, least_parents, greatest_parents):
+    """The promises that the numbers of an edge do not keep, in words. The children are those of each row of the parent entry's type."""
+    parents = numbers_around(work, work.entries[e].type, work.entries[work.parent[e]].type)
+    if not is_range(children.values(), least_children, greatest_children):
+        yield f"edge {e} has a row with another number of children than between the two, or does not reach them"
+    if not is_range(parents.values(), least_parents, greatest_parents):
+        yield f"edge {e} has a row with another number of parents than between the two, or does not reach them"
+    if work.full(e) != (least_children > 0):
+        yield f"edge {e} is full with 0 as its least number of children, or not full with another"
+
+
+def broken_beneath(work, lines, children):
+    """The promise that the lines do not keep, in words: beneath each line stand of each child entry as many as its source row has children."""
+    beneath = collections.Counter((dewey[:-1], e) for e, _, dewey in lines)
+    for at, r, dewey in lines:
+        for e, above in enumerate(work.parent):
+            if above == at and beneath[dewey, e] != children[e][r]:
+                yield f"a line of entry {at} has not as many lines of entry {e} beneath it as its source row has children"
+                return
+
+
+def broken_edges(work, lines):
+    """The promises that the numbers of the edges do not keep, in words."""
+    edges, verdict, used = work.edges(), work.verdict(), range(1, len(work.entries))
+    children = {e: numbers_around(work, work.entries[work.parent[e]].type, work.entries[e].type) for e in used}
+    for e, four in enumerate(zip(*edges)):
+        if e in used:
+            yield from broken_edge(work, e, children[e], *four)
+        elif any(four):
+            yield f"entry {e} has no edge, and numbers that are not 0"
+    first = next((e for e in used if edges[2][e] == 0), None)
+    if first != (verdict[1] if verdict[0] == 1 else None):
+        yield "verdict 1 names another entry than the first whose least number of parents is 0, or one of the two is not there"
+    yield from broken_beneath(work, lines, children)
+
+
 def broken(work, lines):
-    """The promises that the lines and their figures do not keep, in words."""
+    """The promises that the lines, their figures and the numbers of the edges do not keep, in words."""
     verdict, none = work.verdict(), work.none_apart()
     if verdict[0] == 0 and not links_kept(work, lines):
         yield "verdict 0, and a link is missing or made up"
@@ -43,6 +92,7 @@ def broken(work, lines):
     if verdict[0] == 2 and none:
         yield "verdict 2, and the second answer is yes"
     yield from broken_figures(work, lines)
+    yield from broken_edges(work, lines)
 
 
 # ---- request 9: a file and the same on more levels, whether it is sound or not
@@ -92,7 +142,7 @@ def is_shape(shape, levels):
 def broken_lines(table, shape, wide, wide_shape, levels, to):
     """A table of whole rows and a shape that is accepted."""
     if paper01.judge(table, shape, levels=levels) != paper01.judge(wide, wide_shape, levels=to):
-        yield "a widened table and shape have another verdict or second answer"
+        yield "a widened table and shape are judged otherwise"
     if paper01.summarise(table, shape, levels=levels) != paper01.summarise(wide, wide_shape, levels=to):
         yield "a widened table and shape have another summary"
     room, places = paper01.MOST_LINES, [7] * paper01.MOST_LINES
@@ -178,7 +228,7 @@ def broken_conversion(table, shape, numbers, levels=6, lines=True):
     yield from broken_files(*given)
     judged = paper01.judge(table, shape, **old_range(levels))
     if judged != paper01.judge(new, new_shape, levels=levels):
-        yield "a converted table and shape are refused otherwise, or have another verdict or second answer"
+        yield "a converted table and shape are judged otherwise"
     elif judged[0] == 0 and lines:
         yield from broken_new_lines(*given)
 

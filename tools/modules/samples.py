@@ -85,7 +85,7 @@ def cut(table, shape, levels):
 
 @of_shape
 def listing(table, shape, levels):
-    """What the program prints."""
+    """What the program prints: the verdict, the lines, and of each entry but the first how many belong together."""
     table, shape = cut(table, shape, levels)
     (number, place, _), _, _ = paper01.reshape(table, shape, bytes(paper01.row_length(levels) * ROOM), [0] * ROOM, levels)
     if number:
@@ -95,6 +95,7 @@ def listing(table, shape, levels):
     for entry, row, dewey in work.lines(ROOM):
         value = int.from_bytes(work.rows[row].value, "little", signed=True)
         lines.append(f"{table_text.dotted(dewey)} {entry} {table_text.name(work.entries[entry].type[-1])} {row} {value}")
+    lines += [f"edge {entry} {' '.join(map(str, work.partner_numbers(entry)))}" for entry in range(1, len(work.entries))]
     return "\n".join(lines) + "\n"
 
 

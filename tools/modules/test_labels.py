@@ -90,7 +90,7 @@ class Promises(unittest.TestCase):
             (number, *_), new, new_shape = paper01.convert(table, shape, numbers, bytes(len(table)), bytes(len(shape)), levels)
             seen[number] += 1
             if number == 0:
-                after, _, verdict, none_apart = paper01.judge(new, new_shape, levels=levels)
+                after, _, verdict, none_apart, _ = paper01.judge(new, new_shape, levels=levels)
                 seen["after", after or (verdict[0], none_apart)] += 1
         after = {key[1] for key in seen if isinstance(key, tuple)}
         self.assertEqual({key for key in seen if isinstance(key, int)}, {0, 1, 2, 3, 5, 6, 25, 26})
@@ -118,7 +118,7 @@ class Promises(unittest.TestCase):
         self.assertIn("types are equal that were not, or are not that were", merged)
         self.assertIn("closest rows do not stay closest, or others are", merged)
         gone = self.broken_where(lambda t, s: (t, brackets.with_byte(s, 6, 5)))
-        self.assertIn("a converted table and shape are refused otherwise, or have another verdict or second answer", gone)
+        self.assertIn("a converted table and shape are judged otherwise", gone)
         self.assertIn("a converted shape has other entries than new labels for old ones", gone)
         with self.assertRaises(SystemExit), unittest.mock.patch.object(paper01, "judge", lambda *data, **width: width):
             promises.hold_conversion(*one(100), [100, 1])

@@ -1,5 +1,5 @@
-"""Tests of the second answer, of the figures and of widening and narrowing in paper01.py, and of what is promised of a new table, of a summary
-and of a widened file, on the second reading's own answers."""
+"""Tests of the second answer, of the figures, of the numbers of an edge and of widening and narrowing in paper01.py, and of what is promised of a
+new table, of a summary, of the numbers of an edge and of a widened file, on the second reading's own answers."""
 import collections, itertools, random, unittest, unittest.mock
 
 import brackets, cases, paper01, promises
@@ -43,7 +43,7 @@ class Promises(unittest.TestCase):
         with unittest.mock.patch.object(work, "verdict", lambda: (0,)):
             self.assertEqual(list(promises.broken(work, lines)), [
                 "verdict 0, and a link is missing or made up", "verdict 0, and the second answer is no",
-                "verdict 0, and entry 3 has not as many different rows as rows"])
+                "verdict 0, and entry 3 has not as many different rows as rows", Edges.NOT_FIRST])
         with unittest.mock.patch.object(work, "verdict", lambda: (1, 3, 2)):
             self.assertEqual(list(promises.broken(work, lines)), ["verdict 1 names a row that stands in a line of its entry"])
         case = bracketed(brackets.A, "1[2 4]")
@@ -114,6 +114,71 @@ class Figures(unittest.TestCase):
         self.assertEqual(len(seen), 4)
 
 
+class Edges(unittest.TestCase):
+    NOT_FIRST = "verdict 1 names another entry than the first whose least number of parents is 0, or one of the two is not there"
+    CHILDREN, PARENTS = (f"edge %s has a row with another number of {those} than between the two, or does not reach them" for those in ("children", "parents"))
+    NOT_FULL = "edge %s is full with 0 as its least number of children, or not full with another"
+
+    def test_by_hand(self):
+        """Document 01's samples; a refusal, and a shape of one entry, have zeros alone."""
+        wanted = {
+            (brackets.A, "3[2 4]"): [(1, 1, 1, 2), (0, 2, 1, 1)], (brackets.A, "4[3[2]]"): [(1, 1, 0, 2), (1, 1, 1, 2)],
+            (brackets.A, "1[2 4]"): [(2, 2, 1, 1), (3, 3, 1, 1)], ("1[3[4] 3 5]", "3[4[5]]"): [(0, 1, 1, 1), (1, 1, 1, 1)],
+            (brackets.A, "3[3]"): [(1, 1, 1, 1)], (brackets.A, "1[3 3]"): [(3, 3, 1, 1)] * 2, ("2 3", "2[3]"): [(0, 0, 0, 0)], (brackets.A, "4"): []}
+        for texts, numbers in wanted.items():
+            case = bracketed(*texts)
+            edges = [(0, 0, 0, 0), *numbers] + [(0, 0, 0, 0)] * (15 - len(numbers))
+            self.assertEqual(list(zip(*paper01.judge(case.table, case.shape)[4])), edges, texts)
+        self.assertEqual(paper01.judge(b"", b"")[4], [[0] * 16] * 4)
+
+    def test_row_by_row(self):
+        """Over all rows of the table: who is closest to whom. Each kind of edge comes up."""
+        seen = set()
+        for work, _ in drawn(200, 9):
+            for e, four in list(enumerate(zip(*work.edges())))[1:len(work.entries)]:
+                above, own = ([r for r, kind in enumerate(work.kinds) if kind == work.entries[at].type] for at in (work.parent[e], e))
+                children, parents = ([sum(work.closest(r, s) for s in there) for r in here] for here, there in ((above, own), (own, above)))
+                self.assertEqual(four, (min(children), max(children), min(parents), max(parents)))
+                seen.add(tuple(min(number, 2) for number in four))
+        self.assertLessEqual({(0, 0, 0, 0), (1, 1, 1, 1), (0, 1, 1, 1), (1, 1, 0, 2), (0, 2, 1, 1), (2, 2, 2, 2), (1, 2, 1, 2)}, seen)
+
+    def broken_with(self, e, *four):
+        """What is found broken of table A and asset[lease[lessee]] where an entry has these numbers."""
+        work, lines = work_of(brackets.A, "4[3[2]]")
+        self.assertEqual(list(promises.broken(work, lines)), [])
+        edges = work.edges()
+        for of_all, number in zip(edges, four):
+            of_all[e] = number
+        with unittest.mock.patch.object(work, "edges", lambda: edges):
+            return list(promises.broken(work, lines))
+
+    def test_broken_ones_are_found(self):
+        """Each law by itself: entry 1 has 1, 1, 0, 2, and entry 2 has 1, 1, 1, 2, where lessee 7 and lease 8, which no line shows, count."""
+        for e, four, words in (
+                (1, (1, 2, 0, 2), [self.CHILDREN]), (1, (0, 1, 0, 2), [self.CHILDREN, self.NOT_FULL]), (1, (1, 1, 0, 1), [self.PARENTS]),
+                (1, (1, 1, 1, 2), [self.PARENTS, self.NOT_FIRST]), (2, (1, 1, 2, 2), [self.PARENTS]), (2, (1, 1, 0, 2), [self.PARENTS]),
+                (2, (2, 2, 1, 2), [self.CHILDREN])):
+            self.assertEqual(self.broken_with(e, *four), [each % e if "%s" in each else each for each in words], (e, four))
+        for e in (0, 3, 15):
+            self.assertEqual(self.broken_with(e, 0, 0, 0, 1), [f"entry {e} has no edge, and numbers that are not 0"])
+
+    def test_lines_beneath(self):
+        """A new table that lacks a line, or has one too many, beneath some line."""
+        work, lines = work_of(brackets.A, "3[2 4]")
+        said = ["a line of entry 0 has not as many lines of entry 2 beneath it as its source row has children"]
+        self.assertEqual(list(promises.broken_edges(work, lines)), [])
+        self.assertEqual(list(promises.broken_edges(work, [line for line in lines if line[2] != (1, 3)])), said)
+        self.assertEqual(list(promises.broken_edges(work, [*lines, (2, 6, (3, 2))])), said)
+
+    def test_hold(self):
+        """Numbers of the shown rows alone do not pass."""
+        case = bracketed(brackets.A, "4[3[2]]")
+        promises.hold(case.table, case.shape)
+        of_shown = [[0, number, other] + [0] * 13 for number, other in ((1, 1), (1, 1), (1, 2), (2, 2))]
+        with unittest.mock.patch.object(paper01.Work, "edges", lambda self: of_shown), self.assertRaises(SystemExit):
+            promises.hold(case.table, case.shape)
+
+
 class MadeUp(unittest.TestCase):
     def made_up(self, table_text, shape_text):
         work, lines = work_of(table_text, shape_text)
@@ -149,10 +214,10 @@ class MadeUp(unittest.TestCase):
 
 class Second(unittest.TestCase):
     def test_refused(self):
-        self.assertEqual(paper01.judge(b"", b""), (5, 0, (0,), False))
+        self.assertEqual(paper01.judge(b"", b"")[:4], (5, 0, (0,), False))
         case = bracketed(brackets.A, "3[2 4]")
-        self.assertEqual(paper01.judge(case.table, case.shape), (0, 0, (0,), True))
-        self.assertEqual(paper01.judge(case.table[:-1], case.shape), (2, 0, (0,), False))
+        self.assertEqual(paper01.judge(case.table, case.shape)[:4], (0, 0, (0,), True))
+        self.assertEqual(paper01.judge(case.table[:-1], case.shape)[:4], (2, 0, (0,), False))
 
     def test_earned_by_each_pair(self):
         """The verdict, where it is no 1, is the first that a pair earns; the second answer looks at all of them."""
@@ -212,7 +277,7 @@ class Widths(unittest.TestCase):
         self.assertIn(zeros, self.broken_where("written", lambda numbers, levels: bytes(2 * (levels - len(numbers))) + bytes(2 * len(numbers))))
         for name, words in (
                 ("examine", "a widened table is not accepted, or refused, as the table is"),
-                ("judge", "a widened table and shape have another verdict or second answer"),
+                ("judge", "a widened table and shape are judged otherwise"),
                 ("summarise", "a widened table and shape have another summary")):
             call = getattr(paper01, name)
             self.assertEqual(self.broken_where(name, call), set())

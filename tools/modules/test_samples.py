@@ -8,7 +8,7 @@ from testing import ROOT, loaded
 
 
 class Samples(unittest.TestCase):
-    # document 01: the first line, and the number of lines
+    # document 01: the first line, and the number of lines; how many belong together stands behind them
     BY_HAND = {
         "p1": ("refused 7 0", 0), "p2": ("verdict 0", 9), "p3": ("verdict 0", 5), "p4": ("verdict 0", 9),
         "p5": ("verdict 1 1 8", 9), "p6": ("verdict 2 1 2", 6), "p7": ("verdict 3 0 2", 4), "p8": ("verdict 0", 2),
@@ -23,12 +23,30 @@ class Samples(unittest.TestCase):
         "typed_empty": ("refused 12 17", 0), "typed_none": ("refused 13 2", 0), "typed_several": ("refused 13 2", 0),
     }
 
+    # request 5: the numbers of each edge, by hand
+    EDGES = {
+        "p1": "", "p2": "2 2 1 1 / 1 2 1 1 / 0 2 1 1", "p3": "0 3 1 1", "p4": "1 1 1 2 / 0 2 1 1", "p5": "1 1 0 2 / 1 1 1 2", "p6": "2 2 1 1 / 3 3 1 1",
+        "p7": "0 1 1 1 / 1 1 1 1", "p8": "1 1 1 1", "p9a": "1 1 1 1", "p9b": "3 3 1 1 / 3 3 1 1", "p10": "0 0 0 0", "rows_1024": "1 1 1 1", "rows_1025": "",
+        "entries_16": " / ".join(["1 1 1 1"] * 15), "level_8": " / ".join(["1 1 1 1"] * 7), "lines_1024": "31 31 1 1 / 1 1 31 31 / 31 31 1 1",
+        "hidden_by_1": "2 2 1 1 / 3 3 1 1 / 1 1 0 2", "hidden_by_3": "2 2 1 1 / 0 1 1 1 / 1 1 1 1 / 1 1 1 1",
+    }
+
     def listed(self, name):
         return (samples.FOLDER / name / "listing").read_text()
 
+    def parts(self, name):
+        """The first line of a listing, its lines, and the lines of its edges, which stand last."""
+        first, *lines = self.listed(name).splitlines()
+        edges = [line for line in lines if line.startswith("edge ")]
+        self.assertEqual(lines[len(lines) - len(edges):], edges, name)
+        return first, lines[:len(lines) - len(edges)], edges
+
     def test_by_hand(self):
         for name, (first, lines) in self.BY_HAND.items():
-            self.assertEqual((self.listed(name).split("\n")[0], self.listed(name).count("\n") - 1), (first, lines), name)
+            self.assertEqual((self.parts(name)[0], len(self.parts(name)[1])), (first, lines), name)
+        for name, numbers in self.EDGES.items():
+            edges = [f"edge {e} {four}" for e, four in enumerate(filter(None, numbers.split(" / ")), 1)]
+            self.assertEqual(self.parts(name)[2], edges, name)
         self.assertEqual(self.listed("p4"), P4)
         self.assertEqual((self.listed("source8_missing"), self.listed("both_widths"), self.listed("typed")), (P4, self.listed("level_8"), P4))
         for name, verdict in (("fans_by_lessee", 0), ("fans_by_asset", 0), ("fans_lost", 1), ("fans_made_up", 2), ("fans_missing", 3),
@@ -131,7 +149,7 @@ class Samples(unittest.TestCase):
         """Both folders have one table, and all labels and the values at both ends stand in their listings."""
         tables = [(samples.FOLDER / name / "source.tab").read_bytes() for name in ("labels_22a", "labels_22b")]
         self.assertEqual(*tables)
-        lines = [line.split() for name in ("labels_22a", "labels_22b") for line in self.listed(name).splitlines()[1:]]
+        lines = [line.split() for name in ("labels_22a", "labels_22b") for line in self.parts(name)[1]]
         self.assertEqual({label for _, _, label, _, _ in lines}, {*table_text.NAMES, "21", "99"})
         self.assertLess({str(-2**63), "-500", "-1", str(2**63 - 1)}, {value for *_, value in lines})
 
@@ -156,6 +174,13 @@ class Samples(unittest.TestCase):
             screens = [samples.summary(*both[name]), samples.types(table, levels), samples.printed(*both[name])]
             self.assertEqual(texts, [self.listed(name), report, *screens], name)
 
+    def test_program_on_p4(self):
+        """The gate runs the program on P4, which has files of its own there, and what it must write is P4's listing."""
+        home = ROOT / "crates/intake"
+        for file in ("source.tab", "shape.tab"):
+            self.assertEqual((home / "data" / file).read_bytes(), (samples.FOLDER / "p4" / file).read_bytes())
+        self.assertEqual((home / "stdout").read_text(), P4)
+
     def test_second_answers(self):
         """The table of docs/HELP.md that shows the second answer, which every verdict but 0 has in each way that it can."""
         tried, kinds = explained.tried_seconds(), set()
@@ -163,19 +188,23 @@ class Samples(unittest.TestCase):
         for name, tree, answer, second in tried:
             table, shape, _ = both[name]
             self.assertEqual(table_text.shape_from(brackets.indented(tree), table_text.kinds_of(table)), shape, name)
-            first, *_, last = explained.reported(table, shape)
-            self.assertEqual((first, last), (answer, second), name)
+            first, *told = explained.reported(table, shape)
+            self.assertEqual((first, [line for line in told if line.endswith(" apart")]), (answer, [second]), name)
             kinds.add((answer.split()[1], second))
         self.assertEqual(kinds, {("1", "none apart"), ("1", "some apart"), ("2", "some apart"), ("3", "none apart"), ("3", "some apart")})
 
     def test_report(self):
-        """Worked out by hand: what is reported of a verdict with each second answer, and of a refusal, which has none."""
+        """Worked out by hand: what is reported of a verdict with each second answer, with the edges, and of a refusal, which has neither."""
+        of_p4 = ["verdict 0", "none apart", "edge 1 lease lessee 1 1 1 2", "edge 2 lease asset 0 2 1 1"]
         reports = {
-            "p4": ["verdict 0", "none apart"],
-            "p5": ["verdict 1 1 8", "entry 1: portfolio lessee lease", "row 8: 1.2.1, portfolio lessee lease, value 800", "none apart"],
-            "p6": ["verdict 2 1 2", "entry 1: portfolio lessee", "entry 2: portfolio lessee lease asset", "some apart"],
-            "p7": ["verdict 3 0 2", "entry 0: portfolio lease", "entry 2: portfolio payment", "none apart"],
-            "p1": ["refused 7 0", "entry 0: lease"], "cut_off": ["refused 2 0"], "typed": ["verdict 0", "none apart"],
+            "p4": of_p4, "typed": of_p4,
+            "p5": ["verdict 1 1 8", "entry 1: portfolio lessee lease", "row 8: 1.2.1, portfolio lessee lease, value 800", "none apart",
+                   "edge 1 asset lease 1 1 0 2", "edge 2 lease lessee 1 1 1 2"],
+            "p6": ["verdict 2 1 2", "entry 1: portfolio lessee", "entry 2: portfolio lessee lease asset", "some apart",
+                   "edge 1 portfolio lessee 2 2 1 1", "edge 2 portfolio asset 3 3 1 1"],
+            "p7": ["verdict 3 0 2", "entry 0: portfolio lease", "entry 2: portfolio payment", "none apart", "edge 1 lease asset 0 1 1 1",
+                   "edge 2 asset payment 1 1 1 1"],
+            "p1": ["refused 7 0", "entry 0: lease"], "cut_off": ["refused 2 0"],
             "typed_early": ["refused 12 20", "tree: lease [ lessee asset", "                          ^"],
             "typed_empty": ["refused 12 17", "tree: lease [ lessee [ ] asset ]", "                       ^"],
             "typed_none": ["refused 13 2", "tree: lease [ lessee asset.lease ]", "                     ^"]}
@@ -184,13 +213,37 @@ class Samples(unittest.TestCase):
             self.assertEqual(explained.reported(*both[name]), lines, name)
 
     def test_explained(self):
-        """The second answer stands between the facts and the advice, and a refusal is explained without it."""
+        """The second answer and the edges stand between the facts and the advice; a refusal is explained without them, and one entry has no
+        edge."""
         both = samples.by_name()
+        edges = {"p5": ["  edge 1: an asset has 1 lease, a lease has 0 to 2 assets", "  edge 2: a lease has 1 lessee, a lessee has 1 to 2 leases"],
+                 "p6": ["  edge 1: a portfolio has 2 lessees, a lessee has 1 portfolio", "  edge 2: a portfolio has 3 assets, an asset has 1 portfolio"]}
         for name, second in (("p5", "none apart"), ("p6", "some apart")):
-            lines, (means, then) = explained.explained(*both[name]).split("\n"), explained.helped(second)
-            self.assertEqual((lines[4], lines[6:]), (f"Second answer: {means}", [""]), name)
-            self.assertTrue(lines[5].startswith("What to do next: ") and lines[5].endswith(f" {then}"), name)
-        self.assertNotIn("Second answer", explained.explained(*both["p1"]))
+            *lines, last, end = explained.explained(*both[name]).split("\n")
+            means, then = explained.helped(second)
+            self.assertEqual((lines[4:], end), ([f"Second answer: {means}", "How many belong together:", *edges[name]], ""), name)
+            self.assertTrue(last.startswith("What to do next: ") and last.endswith(f" {then}"), name)
+        lease = table_text.shape_from("lease\n", table_text.kinds_of(A_BYTES))
+        for sample, second in ((both["p1"], False), ((A_BYTES, lease), True)):
+            said = explained.explained(*sample)
+            self.assertEqual(("Second answer" in said, "belong together:" in said), (second, False))
+
+    def test_edges_in_words(self):
+        """One, several and a range of each name, and of labels without one; docs/HELP.md shows one of P4's."""
+        words = {
+            (2, "lease", "asset", 0, 2, 1, 1): "edge 2: a lease has 0 to 2 assets, an asset has 1 lease",
+            (1, "tax", "currency", 2, 2, 0, 1): "edge 1: a tax has 2 currencies, a currency has 0 to 1 taxes",
+            (9, "invoice", "insurance", 0, 0, 0, 0): "edge 9: an invoice has 0 insurances, an insurance has 0 invoices",
+            (15, "21", "23", 0, 2, 1, 1): "edge 15: a row labelled 21 has 0 to 2 rows labelled 23, a row labelled 23 has 1 row labelled 21",
+            (3, "site", "99", 1, 1, 10, 1022): "edge 3: a site has 1 row labelled 99, a row labelled 99 has 10 to 1022 sites"}
+        for edge, said in words.items():
+            self.assertEqual(explained.in_words(*edge), said)
+        for name in table_text.NAMES:
+            article = "an" if name[0] in "aeiou" else "a"
+            several = re.sub("y$", "ie", name) + ("es" if name.endswith("x") else "s")
+            self.assertEqual(explained.in_words(1, name, name, 1, 1, 2, 2), f"edge 1: {article} {name} has 1 {name}, {article} {name} has 2 {several}")
+        shown = explained.explained(*samples.by_name()["p4"]).split("\n")[5]
+        self.assertIn(f"\n    {shown.strip()}\n", explained.PAGE.read_text())
 
     def test_explained_tree(self):
         """docs/HELP.md shows the mark under the place of a typed tree."""

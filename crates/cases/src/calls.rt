@@ -122,6 +122,25 @@ pub fn print_adorned(said: u32, t: &[u8], lent: usize) {
     print_summaries(all, count, 7777);
 }
 
+// An entry's four numbers, unless all of them are 0.
+fn print_entry(entry: usize, first: usize, second: usize, third: usize, fourth: usize) {
+    if first != 0 || second != 0 || third != 0 || fourth != 0 {
+        number(b"; ", entry);
+        number(b" ", first);
+        number(b" ", second);
+        number(b" ", third);
+        number(b" ", fourth);
+    }
+}
+
+fn print_entries(first: [usize; 16], second: [usize; 16], third: [usize; 16], fourth: [usize; 16]) {
+    let mut e = 0;
+    while e < 16 {
+        print_entry(e, first[e], second[e], third[e], fourth[e]);
+        e += 1;
+    }
+}
+
 pub fn print_judged(said: u32, t: &[u8], s: &[u8]) {
     let j = silmezga_c::silmezga_judge(said, t, s);
     number(b": ", j.number);
@@ -130,17 +149,16 @@ pub fn print_judged(said: u32, t: &[u8], s: &[u8]) {
     number(b" ", j.first);
     number(b" ", j.second);
     number(b" ", j.none_apart);
-}
-
-// An entry's figures, unless all of them are 0.
-fn print_entry(entry: usize, lines: usize, rows: usize, copies: usize, different: usize) {
-    if lines != 0 || rows != 0 || copies != 0 || different != 0 {
-        number(b"; ", entry);
-        number(b" ", lines);
-        number(b" ", rows);
-        number(b" ", copies);
-        number(b" ", different);
-    }
+    let least_children = j.least_children;
+    let greatest_children = j.greatest_children;
+    let least_parents = j.least_parents;
+    let greatest_parents = j.greatest_parents;
+    print_entries(
+        least_children,
+        greatest_children,
+        least_parents,
+        greatest_parents,
+    );
 }
 
 pub fn print_summarised(said: u32, t: &[u8], s: &[u8]) {
@@ -151,9 +169,5 @@ pub fn print_summarised(said: u32, t: &[u8], s: &[u8]) {
     let different = r.different;
     number(b": ", r.number);
     number(b" ", r.place);
-    let mut e = 0;
-    while e < 16 {
-        print_entry(e, lines[e], rows[e], copies[e], different[e]);
-        e += 1;
-    }
+    print_entries(lines, rows, copies, different);
 }

@@ -1,11 +1,11 @@
--- What is reported of a row or an entry that an answer names. Assumes nothing.
+-- What is reported of a row or an entry that an answer names, and of an edge. Assumes nothing.
 use Prim.Native.Nat.{ℕ}
 use mathlib.Core.List.{List, [], _∷_, map}
 use Rattle.paper.specs.Lists.{joined}
 use Rattle.paper.specs.Format.{Format, byte, word, signed}
 use Rattle.paper.specs.Tables.{rowOf, dewey}
 use Rattle.paper.specs.Shapes.{entryOf, named}
-use Rattle.grammar.specs.Text.{ascii, space, decimal, signedText, followed}
+use Rattle.grammar.specs.Text.{ascii, space, decimal, signedText, followed, parted}
 use Rattle.grammar.specs.Names.{nameText}
 use Rattle.listing.specs.Listing.{lined, deweyText}
 
@@ -77,3 +77,7 @@ entryHead e entry =
 -- every field of an entry, whether or not it keeps the rules
 unfoldable pub entryFields : Format → ℕ → List ℕ → List ℕ
 entryFields f e entry = joinedLine (entryHead e entry ∷ ascii ", labels " ∷ deweyText (entryOf f entry .labels) ∷ [])
+
+-- `edge`, the entry, the last labels of its parent entry's type and of its own, and its four numbers
+unfoldable pub edgeFact : ℕ → ℕ → ℕ → List ℕ → List ℕ
+edgeFact e over own numbers = lined (parted space (ascii "edge" ∷ decimal e ∷ nameText over ∷ nameText own ∷ map decimal numbers))

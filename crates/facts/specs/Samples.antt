@@ -8,7 +8,7 @@ use Rattle.paper.specs.Samples.{row, entry, portfolio, lessee, lease, asset}
 use Rattle.grammar.specs.Text.{ascii, digitsIn, decimal, signedText, followed, parted}
 use Rattle.grammar.specs.Names.{names, nameOf, nameText}
 use Rattle.listing.specs.Listing.{deweyText}
-use Rattle.facts.specs.Facts.{joinedLine, namesText, labelsText, entryText, rowText, rowHead, rowFields, entryHead, entryFields}
+use Rattle.facts.specs.Facts.{joinedLine, namesText, labelsText, entryText, rowText, rowHead, rowFields, entryHead, entryFields, edgeFact}
 use Rattle.facts.specs.Typed.{shown, markedText}
 
 -- a level 7, and labels that are not there
@@ -40,6 +40,9 @@ samples =
     ∷ (rowText eight 9 wideRow wideEntry, ascii "row 9: 1.2.3.4.5.6.7.256, portfolio lessee lease lease lease lease lease 99, value 9\n")
     ∷ (rowFields eight 9 wideRow, ascii "row 9: level 8, zero byte 0, label 4, number 1.2.3.4.5.6.7.256, value 9\n")
     ∷ (entryFields eight 3 wideEntry, ascii "entry 3: level 8, length of its type 8, zero bytes 0, labels 1.2.3.3.3.3.3.99\n")
+    -- edges, with and without names
+    ∷ (edgeFact 2 3 4 (0 ∷ 2 ∷ 1 ∷ 1 ∷ []), ascii "edge 2 lease asset 0 2 1 1\n")
+    ∷ (edgeFact 15 21 99 (0 ∷ 1023 ∷ 1 ∷ 1022 ∷ []), ascii "edge 15 21 99 0 1023 1 1022\n")
     -- typed trees, marked at a byte, at a tab among bytes that are not shown, and behind the last byte
     ∷ (markedText (ascii "lease [ ]") 8, ascii "tree: lease [ ]\n              ^\n")
     ∷ (markedText (ascii " ~" ++ 9 ∷ 31 ∷ 127 ∷ 200 ∷ []) 2, ascii "tree:  ~????\n        ^\n")
@@ -49,5 +52,5 @@ samples =
 -- every sample is reported as it should be
 pub samples-hold : map (λ (p : List ℕ × List ℕ). p .0) samples ≡ map (λ (p : List ℕ × List ℕ). p .1) samples
 unfolding opened eight row entry portfolio lessee lease asset digitsIn decimal signedText followed parted names nameOf nameText deweyText
-    joinedLine namesText labelsText entryText rowText rowHead rowFields entryHead entryFields shown markedText wrongEntry wideEntry wideRow samples
+    joinedLine namesText labelsText entryText rowText rowHead rowFields entryHead entryFields edgeFact shown markedText wrongEntry wideEntry wideRow samples
 samples-hold = refl

@@ -1,23 +1,18 @@
 -- What the search for a row without a partner says, by what it found. Assumes nothing.
-use Prim.Native.Nat.{ℕ, _-_}
+use Prim.Native.Nat.{ℕ}
 use native.Mathlib.Omega.{arith}
-use mathlib.Core.Path.{_≡_, refl, ap, subst}
+use mathlib.Core.Path.{_≡_, refl, ap}
 use mathlib.Core.Logic.{⊎-elim}
-use mathlib.Core.Bool.{Bool, true, false}
 use mathlib.Core.List.{List, [], _∷_, _++_, map}
-use lib.Dec.{leb}
-use borrow.Author.Tests.{leb-true, leb-false}
-use Rattle.paper.specs.Lists.{Has, firstOr, count}
+use Rattle.paper.specs.Lists.{firstOr}
 use Rattle.paper.specs.Verdict
 use Rattle.paper.specs.Verdict.{kept, missing, verdictNumbers}
-use Rattle.paper.proofs.Lists.{has-join, has-map, some-in, has-count}
 use types.Run.{OneOf}
 use denote.Enum.Declared.{tagOf}
 use Rattle.shapes.specs.declared.shape.Shape.{Shape}
+use Rattle.partners.specs.Closest.{aloneRows}
 use Rattle.judging.specs.Told.{told}
-use Rattle.judging.specs.Lone.{aloneRows, loneFrom}
-use Rattle.judging.specs.Edges.{WalkedTo}
-use Rattle.judging.specs.declared.edges.Edges.{Edges}
+use Rattle.judging.specs.Lone.{loneFrom}
 use Rattle.judging.specs.declared.verdict.Verdict.{Verdict}
 use Rattle.judging.specs.declared.verdict.Verdict.the-variants.{Kept, Missing, Apart, Unsure}
 use Rattle.judging.proofs.verdict.Verdict.{the-type}
@@ -46,20 +41,3 @@ none-lone levels types rows s c n =
     first-lone : (e : ℕ) (rs : List ℕ) → FirstIn [] (map (missing e) rs)
     first-lone e [] q = refl
     first-lone e (r ∷ rs) q = first-more [] [] (missing e r ∷ []) (map (missing e) rs) (first-fault (missing e r)) (first-lone e rs) q
-
-module _ (levels types : List ℕ) (rows : ℕ) (s : Shape) (edges : Edges) (walked : WalkedTo levels types rows s edges) where
-  -- where no row is without a partner all edges are walked
-  pub all-walked : loneFrom levels types rows s 1 (s .entries - 1) ≡ [] → edges .met ≡ s .entries
-  unfolding loneFrom
-  all-walked none = go (leb (s .entries) (edges .met)) refl
-    where
-      go : (b : Bool) → leb (s .entries) (edges .met) ≡ b → edges .met ≡ s .entries
-      go true e = omega (arith, leb-true (s .entries) (edges .met) e, walked .all-met .few)
-      go false e =
-          let lt = leb-false (s .entries) (edges .met) e in
-          let alone = aloneRows levels types rows s (edges .met) in
-          let (r, h) = some-in alone (walked .alone lt) in
-          let here = has-count 1 (s .entries - 1) (edges .met) (walked .all-met .some) (omega arith) in
-          let row = has-map (missing (edges .met)) r alone h in
-          absurd (subst (Has (missing (edges .met) r)) none
-          (has-join (λ c. map (missing c) (aloneRows levels types rows s c)) (edges .met) (missing (edges .met) r) (count 1 (s .entries - 1)) here row))

@@ -1,13 +1,12 @@
 pub mod Counting
-pub mod Rows
-pub mod Walk
-pub mod Flags
 pub mod Search
 pub mod Ways
 pub mod Earned
 pub mod Faults
 pub mod Beside
 pub mod Closest
+pub mod Entries
+pub mod Edges
 pub mod Found
 pub mod Whole
 pub mod Unique

@@ -17,10 +17,19 @@ use Rattle.closest.specs.Runs.{begins, startOf}
 use Rattle.closest.proofs.Starts.{start-begins, start-on, start-le, start-grows}
 use Rattle.shapes.specs.Shape.{typeOf, parentOf, edgeOf}
 use Rattle.shapes.specs.declared.shape.Shape.{Shape}
-use Rattle.judging.specs.Lone.{isLone, loneRows, aloneRows, loneFrom, Bound, candidateFrom, OnInRun}
-use Rattle.judging.specs.Edges.{MetBefore}
-use Rattle.judging.proofs.Rows.{Apart, joined-some, apart-none, begins-within, on-above}
+use Rattle.partners.specs.Closest.{isLone, loneRows, aloneRows, Bound}
+use Rattle.partners.specs.Edges.{Before, MetBefore}
+use Rattle.partners.proofs.Rows.{Apart, joined-some, apart-none, begins-within, on-above}
+use Rattle.judging.specs.Lone.{loneFrom, candidateFrom, OnInRun}
 use Rattle.judging.proofs.Counting.{count-from, count-done}
+
+-- nothing stands before row 0
+pub before-none : (levels types : List ℕ) (rows l a b : ℕ) → Before levels types rows l a b 0
+before-none levels types rows l a b = record {
+  inside = omega arith;
+  new-run = λ lt. absurd (not-suc-le-zero lt);
+  none = λ i lt. absurd (not-suc-le-zero lt);
+}
 
 -- ---- where candidates are looked for
 pub candidate-new : (levels : List ℕ) (bound r j : ℕ) → getD levels r 0 ≤ bound → candidateFrom levels bound r j ≡ r

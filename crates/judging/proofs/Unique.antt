@@ -1,12 +1,14 @@
--- Any two answers that judging's contract allows are equal. Assumes nothing.
+-- Any two answers that judging's contract allows are equal, and the numbers of each edge agree with rows and verdict. Assumes nothing.
 use Prim.Native.Nat.{ℕ, zero, suc}
-use mathlib.Core.Path.{_≡_, refl, sym, _∙_, ap}
+use mathlib.Core.Path.{_≡_, refl, sym, _∙_, ap, subst}
 use mathlib.Core.List.{List}
 use lib.ListN.{getD}
 use Rattle.paper.specs.Format.{Format}
 use Rattle.paper.specs.Calls.{Reply, judge}
+use Rattle.paper.specs.Edges.{EdgesAgree}
+use Rattle.paper.proofs.Edges.{judge-agrees}
 use Rattle.judging.specs.Told.{numbersOf}
-use Rattle.judging.specs.Judged.{InNumbers, judged, inNumbers}
+use Rattle.judging.specs.Judged.{InNumbers, edgesOf, judged, inNumbers}
 use Rattle.judging.specs.declared.verdict.Verdict.{Verdict}
 use Rattle.judging.specs.declared.verdict.Verdict.the-variants.{Kept, Missing, Apart, Unsure}
 use Rattle.judging.specs.declared.judge.Judged.{Judged}
@@ -37,4 +39,14 @@ judge-unique f t s a b p q =
       place = ap (λ (x : Reply InNumbers). x .place) e i;
       verdict = v i;
       «none_apart» = ap (λ (x : Reply InNumbers). x .rest .noneApart) e i;
+      «least_children» = ap (λ (x : Reply InNumbers). x .rest .edges .leastChildren) e i;
+      «greatest_children» = ap (λ (x : Reply InNumbers). x .rest .edges .greatestChildren) e i;
+      «least_parents» = ap (λ (x : Reply InNumbers). x .rest .edges .leastParents) e i;
+      «greatest_parents» = ap (λ (x : Reply InNumbers). x .rest .edges .greatestParents) e i;
     }
+
+-- Where it is accepted, the numbers that it gives agree with rows and verdict.
+pub edges-agree : (f : Format) (t s : List ℕ) (a : Judged) → judged a ≡ inNumbers (judge f t s) → a .number ≡ 0 → EdgesAgree f t s (edgesOf a)
+edges-agree f t s a q accepted =
+    subst (EdgesAgree f t s) (sym (ap (λ (x : Reply InNumbers). x .rest .edges) q))
+    (judge-agrees f t s (sym (ap (λ (x : Reply InNumbers). x .number) q) ∙ accepted))

@@ -1,24 +1,22 @@
 -- From a prepared table and shape to the verdict and the second answer. Assumes nothing.
 use Prim.Native.Nat.{ℕ, zero, suc, _+_, _-_, _≤_, _<_}
 use native.Mathlib.Omega.{arith}
-use mathlib.Core.Path.{_≡_, refl, sym, _∙_, ap, ap₂, subst}
-use mathlib.Core.Bool.{Bool, true, false, _&&_, not}
-use mathlib.Core.List.{List, [], _∷_, _++_, map}
+use mathlib.Core.Path.{_≡_, refl, sym, _∙_, ap, ap₂}
+use mathlib.Core.Bool.{Bool, false, not}
+use mathlib.Core.List.{List, _++_, map}
 use lib.Dec.{eqb}
 use lib.ListN.{length, getD, drop}
-use Rattle.paper.specs.Lists.{Has, keep, all, any, firstOr, joinMap, count}
+use Rattle.paper.specs.Lists.{Has, any, firstOr, joinMap, count}
 use Rattle.paper.specs.Format.{Format}
 use Rattle.paper.specs.Tables.{rows}
-use Rattle.paper.specs.Closeness.{Node, nodes, ofKind, kindsMeet, closestOf}
+use Rattle.paper.specs.Closeness.{Node, nodes}
 use Rattle.paper.specs.Shapes as Paper
 use Rattle.paper.specs.Shapes.{numbers, kind, parent, way, path}
+use Rattle.paper.specs.Partners.{EdgeNumbers, edgeNumbers}
 use Rattle.paper.specs.Verdict
-use Rattle.paper.specs.Verdict.{Judgement, kept, missing, isApart, verdictNumbers, isEmpty, overPairs}
-use Rattle.paper.specs.Verdict.{meeting, partners, alone, full, edgeLevel, lone, pairFault, verdict, noneApart, judgement}
+use Rattle.paper.specs.Verdict.{Judgement, kept, missing, isApart, verdictNumbers, overPairs}
+use Rattle.paper.specs.Verdict.{partners, alone, full, lone, pairFault, verdict, noneApart, judgement}
 use Rattle.paper.specs.Calls.{judge, reply, given, noJudgement, _>>=_, Reply}
-use Rattle.paper.proofs.Agree.{shared-length}
-use Rattle.paper.proofs.Closeness.{kindsMeet-sym, kindsMeet-le}
-use Rattle.closest.proofs.Levels.{level-most}
 use Rattle.shapes.specs.Edges.{meetingOf}
 use Rattle.shapes.specs.Shape.{levelOf, typeOf, parentOf, edgeOf}
 use Rattle.shapes.specs.Tests.{shapeIn}
@@ -27,38 +25,24 @@ use Rattle.shapes.specs.declared.shape.Shape.{Shape}
 use Rattle.shapes.proofs.Given.{ways-are, way-deep}
 use Rattle.shapes.proofs.Inside.{way-inside, path-inside}
 use Rattle.shapes.proofs.Places.{way-place}
+use Rattle.partners.specs.Closest.{aloneRows}
+use Rattle.partners.specs.declared.edges.Edges.{Edges}
 use Rattle.judging.specs.Told.{told, numbersOf}
-use Rattle.judging.specs.Judged.{InNumbers, judged, inNumbers}
+use Rattle.judging.specs.Judged.{edgesOf, numbersIn, judged, inNumbers}
 use Rattle.judging.specs.declared.verdict.Verdict.{Verdict}
 use Rattle.judging.specs.declared.verdict.Verdict.the-variants.{Kept, Missing, Apart, Unsure}
 use Rattle.judging.specs.declared.judge.Judged.{Judged}
-use Rattle.judging.specs.declared.edges.Edges.{Edges}
-use Rattle.judging.specs.Lone.{aloneOf, aloneRows, loneFrom}
-use Rattle.judging.specs.Edges.{Fulls, WalkedTo}
+use Rattle.judging.specs.Lone.{aloneOf, loneFrom}
 use Rattle.judging.specs.Pairs.{Room, leastOn, firstFault, fault, earned, earnedBy, apartPair, noPairApart}
-use Rattle.judging.proofs.Closest.{alone-empty, alone-missing}
-use Rattle.judging.proofs.Found.{first-found, none-lone, all-walked}
+use Rattle.judging.proofs.Closest.{alone-missing}
+use Rattle.judging.proofs.Entries.{entry-in, over-is, meets-up, edge-is, meeting-is, meeting-small}
+use Rattle.judging.proofs.Found.{first-found, none-lone}
 use Rattle.judging.proofs.Earned.{least-is, earned-fault, join-related, pairs-related, more-same, NoneIn, none-more, none-paper}
 
--- ---- the rows of an edge's types
--- no row is left over exactly where all pass
-kept-all : (p : Node → Bool) (xs : List Node) → isEmpty {A = Node} (keep p xs) ≡ all (λ x. not (p x)) xs
-kept-all p [] = refl
-kept-all p (x ∷ xs) = go (p x) refl (kept-all p xs)
-  where
-    go : (b : Bool) → p x ≡ b → isEmpty {A = Node} (keep p xs) ≡ all (λ x. not (p x)) xs
-        → isEmpty {A = Node} (elim b as (λ _. List Node) [ true ↦ x ∷ keep p xs | false ↦ keep p xs ]) ≡ not b && all (λ x. not (p x)) xs
-    go true e ih = refl
-    go false e ih = ih
-
-module _ (t : List Node) (p : Paper.Shape) (c : ℕ) where
-  full-is : isEmpty (aloneOf t (kind p (parent p c)) (kind p c)) ≡ full t p c
-  unfolding aloneOf full
-  full-is = kept-all (λ r. isEmpty (closestOf t r (kind p c))) (ofKind t (kind p (parent p c)))
-
-  alone-is : aloneOf t (kind p c) (kind p (parent p c)) ≡ alone t p c
-  unfolding aloneOf alone partners
-  alone-is = refl
+-- the rows without a partner are those that have no closest row of the parent entry's type
+alone-is : (t : List Node) (p : Paper.Shape) (c : ℕ) → aloneOf t (kind p c) (kind p (parent p c)) ≡ alone t p c
+unfolding aloneOf alone partners
+alone-is t p c = refl
 
 -- ---- a prepared table and shape
 module _ {form : Format} {t sb : List ℕ} {w : Work} (r : Ready form t sb w) where
@@ -72,38 +56,6 @@ module _ {form : Format} {t sb : List ℕ} {w : Work} (r : Ready form t sb w) wh
   abbrev s : Shape
   s = w .shape
 
-  entry-in : (e : ℕ) → e < s .entries → e < length (p .ways)
-  entry-in e lt = omega (arith, r .holds .counted)
-
-  parent-in : (c : ℕ) → c < s .entries → parentOf s c < s .entries
-  parent-in zero lt = omega (arith, r .shaped .sized .root)
-  parent-in (suc c) lt = omega (arith, r .shaped .sized .under (suc c) (omega arith) lt)
-
-  over-is : (c : ℕ) → c < s .entries → typeOf s (parentOf s c) ≡ kind p (parent p c)
-  over-is c lt = r .holds .type-is (parentOf s c) (parent-in c lt) ∙ ap (kind p) (r .holds .parent-is c lt)
-
-  meets-up : (c : ℕ) → c < s .entries → edgeOf s c ≡ kindsMeet ns (typeOf s c) (typeOf s (parentOf s c))
-  meets-up c lt = r .shaped .meets c lt ∙ kindsMeet-sym ns (typeOf s (parentOf s c)) (typeOf s c)
-
-  edge-is : (c : ℕ) → c < s .entries → edgeOf s c ≡ edgeLevel ns p c
-  unfolding edgeLevel meeting
-  edge-is c lt = r .shaped .meets c lt ∙ ap₂ (kindsMeet ns) (over-is c lt) (r .holds .type-is c lt)
-
-  meeting-is : (e f : ℕ) → e < s .entries → f < s .entries → meetingOf (w .meetings) (s .types) e f ≡ meeting ns p e f
-  unfolding meeting
-  meeting-is e f le lf = r .meets e f le lf ∙ ap₂ (kindsMeet ns) (r .holds .type-is e le) (r .holds .type-is f lf)
-
-  -- types meet no deeper than the levels of the format
-  meeting-small : (e f : ℕ) → meeting ns p e f < 255
-  unfolding meeting
-  meeting-small e f =
-      omega (
-        arith,
-        kindsMeet-le ns (kind p e) (kind p f) (form .levels) (λ x y o q.
-            omega (arith, shared-length (x .dewey) (y .dewey), level-most form (w .rows) t (w .types) (r .levelled .typed) x (o .0))),
-        r .served .shallow,
-      )
-
   pub room : length (w .ways) ≡ 128 → Room (w .shape) (w .ways)
   room long = record {
     sized = r .shaped .sized;
@@ -114,13 +66,13 @@ module _ {form : Format} {t sb : List ℕ} {w : Work} (r : Ready form t sb w) wh
           arith,
           way-place (w .ways) e (levelOf s e) k lk,
           ap (λ v. getD v k 0) (r .holds .way-is e lt),
-          way-inside p (ways-are form t sb (r .given-is)) e (entry-in e lt) k (deep e k lt lk),
+          way-inside p (ways-are form t sb (r .given-is)) e (entry-in r e lt) k (deep e k lt lk),
           r .holds .counted,
         );
   }
     where
       deep : (e k : ℕ) → e < s .entries → k < levelOf s e → k < length (way p e)
-      deep e k lt lk = omega (arith, r .holds .level-is e lt, way-deep form t sb (r .given-is) e (entry-in e lt) .0)
+      deep e k lt lk = omega (arith, r .holds .level-is e lt, way-deep form t sb (r .given-is) e (entry-in r e lt) .0)
 
   -- ---- the verdict
   -- the rows of entry e without a partner, as verdicts: by runs, and by the paper
@@ -138,8 +90,8 @@ module _ {form : Format} {t sb : List ℕ} {w : Work} (r : Ready form t sb w) wh
     where
       one : (e : ℕ) → e < s .entries → told-rows e ≡ told-nodes e
       one e lt =
-          sym (alone-missing form (w .rows) t (w .levels) (w .types) (r .levelled) e (edgeOf s e) (typeOf s e) (typeOf s (parentOf s e)) (meets-up e lt))
-          ∙ ap (map (λ (r : Node). missing e (r .place))) (ap₂ (aloneOf ns) (r .holds .type-is e lt) (over-is e lt) ∙ alone-is ns p e)
+          sym (alone-missing form (w .rows) t (w .levels) (w .types) (r .levelled) e (edgeOf s e) (typeOf s e) (typeOf s (parentOf s e)) (meets-up r e lt))
+          ∙ ap (map (λ (r : Node). missing e (r .place))) (ap₂ (aloneOf ns) (r .holds .type-is e lt) (over-is r e lt) ∙ alone-is ns p e)
 
       rest : (m n : ℕ) → m ≡ n → 1 ≤ m → count 1 (m - 1) ≡ drop 1 (count 0 n)
       rest m zero q le = let y : ⊥ = omega arith in absurd y
@@ -156,10 +108,10 @@ module _ {form : Format} {t sb : List ℕ} {w : Work} (r : Ready form t sb w) wh
   -- the edges on a path are among the entries, and the types meet no deeper than levels go
   inside : (e f : ℕ) → e < f → f < s .entries → (c : ℕ) → Has c (path p e f) → c < s .entries
   inside e f lt lf c h =
-      omega (arith, path-inside p (ways-are form t sb (r .given-is)) e f (entry-in e (omega arith)) (entry-in f lf) c h, r .holds .counted)
+      omega (arith, path-inside p (ways-are form t sb (r .given-is)) e f (entry-in r e (omega arith)) (entry-in r f lf) c h, r .holds .counted)
 
   small : (e f : ℕ) → e < f → f < s .entries → meetingOf (w .meetings) (s .types) e f < 255
-  small e f lt lf = omega (arith, meeting-is e f (omega arith) lf, meeting-small e f)
+  small e f lt lf = omega (arith, meeting-is r e f (omega arith) lf, meeting-small r e f)
 
   -- no pair earns a 2, by the arrays and by the paper
   pub apart-are : noPairApart (w .shape) (w .ways) (w .meetings) ≡ noneApart (nodes (rows form t)) (shapeIn form t sb)
@@ -173,15 +125,10 @@ module _ {form : Format} {t sb : List ℕ} {w : Work} (r : Ready form t sb w) wh
           let m = meetingOf (w .meetings) (s .types) e f in
           none-paper ns p e f _
           (ap₂ (λ a b. eqb (leastOn (s .edges) a b) m) (r .holds .way-is e (omega arith)) (r .holds .way-is f lf)
-          ∙ least-is ns p (s .edges) e f m (meeting-is e f (omega arith) lf) (small e f lt lf) (λ c h. edge-is c (inside e f lt lf c h)))
+          ∙ least-is ns p (s .edges) e f m (meeting-is r e f (omega arith) lf) (small e f lt lf) (λ c h. edge-is r c (inside e f lt lf c h)))
 
-  module _ (fulls : List Bool) (filled : Fulls (w .levels) (w .types) (w .rows) (w .shape) (w .shape .entries) fulls) where
-    fulls-are : (c : ℕ) → c < s .entries → getD fulls c false ≡ full ns p c
-    fulls-are c lt =
-        filled c lt
-        ∙ sym (alone-empty form (w .rows) t (w .levels) (w .types) (r .levelled) (edgeOf s c) (typeOf s (parentOf s c)) (typeOf s c) (r .shaped .meets c lt))
-        ∙ ap₂ (λ a b. isEmpty (aloneOf ns a b)) (over-is c lt) (r .holds .type-is c lt) ∙ full-is ns p c
-
+  module _ (fulls : List Bool)
+      (fulls-are : (c : ℕ) → c < w .shape .entries → getD fulls c false ≡ full (nodes (rows form t)) (shapeIn form t sb) c) where
     faults-are : firstFault s (w .ways) fulls (w .meetings) ≡ firstOr kept (overPairs (pairFault ns p) (numbers p))
     unfolding firstFault
     faults-are =
@@ -193,19 +140,16 @@ module _ {form : Format} {t sb : List ℕ} {w : Work} (r : Ready form t sb w) wh
         pair e f lt lf =
             let m = meetingOf (w .meetings) (s .types) e f in
             ap₂ (λ a b. fault (earnedBy (s .edges) fulls m e f a b)) (r .holds .way-is e (omega arith)) (r .holds .way-is f lf)
-            ∙ earned-fault ns p (s .edges) e f m (meeting-is e f (omega arith) lf) (small e f lt lf) (λ c h. edge-is c (inside e f lt lf c h))
+            ∙ earned-fault ns p (s .edges) e f m (meeting-is r e f (omega arith) lf) (small e f lt lf) (λ c h. edge-is r c (inside e f lt lf c h))
             fulls (λ c h. fulls-are c (inside e f lt lf c h))
 
-  -- where no row is without a partner all edges are walked, and the first pair that earns a 2 or a 3 decides
-  pub pair-verdict : (edges : Edges) → WalkedTo (w .levels) (w .types) (w .rows) (w .shape) edges
-      → firstOr kept (loneFrom (w .levels) (w .types) (w .rows) (w .shape) 1 (w .shape .entries - 1)) ≡ kept
-      → firstFault (w .shape) (w .ways) (edges .full) (w .meetings) ≡ verdict (nodes (rows form t)) (shapeIn form t sb)
-  unfolding verdict
-  pair-verdict edges walked q =
-      let none = none-lone (w .levels) (w .types) (w .rows) s 1 (s .entries - 1) q in
-      let all : edges .met ≡ s .entries = all-walked (w .levels) (w .types) (w .rows) s edges walked none in
-      faults-are (edges .full) (subst (λ n. Fulls (w .levels) (w .types) (w .rows) s n (edges .full)) all (walked .fulls))
-      ∙ ap (λ l. firstOr kept (l ++ overPairs (pairFault ns p) (numbers p))) (sym (sym lone-is ∙ none))
+    -- where no row is without a partner the first pair that earns a 2 or a 3 decides
+    pub pair-verdict : firstOr kept (loneFrom (w .levels) (w .types) (w .rows) (w .shape) 1 (w .shape .entries - 1)) ≡ kept
+        → firstFault (w .shape) (w .ways) fulls (w .meetings) ≡ verdict (nodes (rows form t)) (shapeIn form t sb)
+    unfolding verdict
+    pair-verdict q =
+        faults-are ∙ ap (λ l. firstOr kept (l ++ overPairs (pairFault ns p) (numbers p)))
+        (sym (sym lone-is ∙ none-lone (w .levels) (w .types) (w .rows) s 1 (s .entries - 1) q))
 
 -- ---- the answer
 module _ {form : Format} {t sb : List ℕ} {w : Work} (p : Prepared form t sb w) where
@@ -213,13 +157,13 @@ module _ {form : Format} {t sb : List ℕ} {w : Work} (p : Prepared form t sb w)
   unfolding judge
   judge-refused ne = sym (ap (λ a. reply noJudgement (a >>= (λ x. given (judgement (x .nodes) (x .shape))))) (p .refused-is ne))
 
-  -- the verdict v and the second answer n are those of the paper
-  pub judge-given : w .number ≡ 0 → (v : Verdict.Verdict) (n : Bool) → v ≡ verdict (nodes (rows form t)) (shapeIn form t sb)
-      → n ≡ noPairApart (w .shape) (w .ways) (w .meetings)
-      → record { number = 0; place = 0; rest = record { verdict = v; noneApart = n } } ≡ judge form t sb
+  -- the verdict v, the second answer n and the numbers of each edge are those of the paper
+  pub judge-given : w .number ≡ 0 → (v : Verdict.Verdict) (n : Bool) (edges : EdgeNumbers) → v ≡ verdict (nodes (rows form t)) (shapeIn form t sb)
+      → n ≡ noPairApart (w .shape) (w .ways) (w .meetings) → edges ≡ edgeNumbers (nodes (rows form t)) (shapeIn form t sb)
+      → record { number = 0; place = 0; rest = record { verdict = v; noneApart = n; edges = edges } } ≡ judge form t sb
   unfolding judge
-  judge-given z v n e q =
-      ap₂ {C = Reply Judgement} (λ v n. record { number = 0; place = 0; rest = record { verdict = v; noneApart = n } }) e (q ∙ apart-are (p .ready z))
+  judge-given z v n edges e q o =
+      (λ i. record { number = 0; place = 0; rest = record { verdict = e i; noneApart = (q ∙ apart-are (p .ready z)) i; edges = o i } })
       ∙ sym (ap (λ a. reply noJudgement (a >>= (λ x. given (judgement (x .nodes) (x .shape))))) (p .ready z .given-is))
 
 -- the numbers of a verdict are those of the paper's
@@ -229,10 +173,9 @@ numbers-told (Missing e r) = refl
 numbers-told (Apart e f) = refl
 numbers-told (Unsure e f) = refl
 
-pub answered : (r : Judged) (v : Verdict) (n : Bool) (b : Reply Judgement)
-    → (r .number ≡ 0) × (r .place ≡ 0) × (r .verdict ≡ v) × (r .«none_apart» ≡ n)
-    → record { number = 0; place = 0; rest = record { verdict = told v; noneApart = n } } ≡ b → judged r ≡ inNumbers b
-answered r v n b (z, p, q, o) e =
-    ap₂ {C = Reply InNumbers} (λ k l. record { number = k; place = l; rest = record { verdict = numbersOf (r .verdict); noneApart = r .«none_apart» } }) z p
-    ∙ ap₂ {C = Reply InNumbers} (λ x y. record { number = 0; place = 0; rest = record { verdict = x; noneApart = y } }) (ap numbersOf q ∙ numbers-told v) o
+pub answered : (r : Judged) (v : Verdict) (n : Bool) (edges : Edges) (b : Reply Judgement)
+    → (r .number ≡ 0) × (r .place ≡ 0) × (r .verdict ≡ v) × (r .«none_apart» ≡ n) × (edgesOf r ≡ numbersIn edges)
+    → record { number = 0; place = 0; rest = record { verdict = told v; noneApart = n; edges = numbersIn edges } } ≡ b → judged r ≡ inNumbers b
+answered r v n edges b (z, p, q, o, x) e =
+    (λ i. record { number = z i; place = p i; rest = record { verdict = (ap numbersOf q ∙ numbers-told v) i; noneApart = o i; edges = x i } })
     ∙ ap inNumbers e

@@ -1,5 +1,5 @@
 pub mod Told
 pub mod Lone
 pub mod Pairs
-pub mod Edges
+pub mod Full
 pub mod Judged

@@ -1,37 +1,68 @@
 // Judging a table and a shape.
-use crate::edges::walk_edges;
+use crate::full::full_edges;
 use crate::lone::first_lone;
 use crate::pairs::first_fault;
 use crate::second::none_apart;
 use crate::second::none_apart_beside;
 use crate::verdict::Verdict;
 use paper::Format;
+use partners::edges::Edges;
+use partners::edges::walk_edges;
 use shapes::work::prepare;
 ghost use mathlib.Core.Path.{_≡_};
-ghost use Rattle.paper.specs.Calls.{judge};
+ghost use Rattle.paper.specs.Calls.{judge, noJudgement};
 ghost use Rattle.bytes.specs.Served.{Served};
-ghost use Rattle.judging.specs.Judged.{judged, inNumbers};
+ghost use Rattle.judging.specs.Judged.{judged, inNumbers, edgesOf, numbersIn};
 
-// What judging answers: a refusal with verdict Kept and no, or the verdict and the second answer.
+// What judging answers: a refusal with verdict Kept, no and zeros, or the verdict, the second answer, and for each entry but the first how many
+// closest rows there are along its edge, both ways; entry 0 and unused entries hold zeros.
 pub struct Judged {
     pub number: usize,
     pub place: usize,
     pub verdict: Verdict,
     pub none_apart: bool, // no pair of entries would earn a 2, whatever the verdict
+    pub least_children: [usize; 16], // under a row of the parent entry's type
+    pub greatest_children: [usize; 16],
+    pub least_parents: [usize; 16], // of a row of the entry's type
+    pub greatest_parents: [usize; 16],
 }
 
-fn given(verdict: Verdict, none: bool) -> Judged
-    ensures { λ r. ⌜ (r .number ≡ 0) × (r .place ≡ 0) × (r .verdict ≡ verdict) × (r .«none_apart» ≡ none) ⌝ }
+fn refused(number: usize, place: usize) -> Judged
+    ensures { λ r. ⌜ judged r ≡ inNumbers (record { number = number; place = place; rest = noJudgement }) ⌝ }
 {
+    Judged {
+        number: number,
+        place: place,
+        verdict: Verdict::Kept,
+        none_apart: false,
+        least_children: [0; 16],
+        greatest_children: [0; 16],
+        least_parents: [0; 16],
+        greatest_parents: [0; 16],
+    }
+}
+
+fn given(verdict: Verdict, none: bool, edges: Edges) -> Judged
+    ensures { λ r. ⌜ (r .number ≡ 0) × (r .place ≡ 0) × (r .verdict ≡ verdict) × (r .«none_apart» ≡ none) × (edgesOf r ≡ numbersIn edges) ⌝ }
+{
+    let least_children = edges.least_children;
+    let greatest_children = edges.greatest_children;
+    let least_parents = edges.least_parents;
+    let greatest_parents = edges.greatest_parents;
     Judged {
         number: 0,
         place: 0,
         verdict: verdict,
         none_apart: none,
+        least_children: least_children,
+        greatest_children: greatest_children,
+        least_parents: least_parents,
+        greatest_parents: greatest_parents,
     }
 }
 
-// Refusals 1 to 7, or the verdict, a row without a partner before all pairs, and the second answer over all pairs.
+// Refusals 1 to 7, or the verdict, a row without a partner before all pairs, the second answer over all pairs, and the numbers of all edges,
+// whatever the verdict.
 pub fn judge(table: &[u8], shape: &[u8], f: Format) -> Judged
     requires { ⌜ Served f ⌝ }
     ensures { λ r. ⌜ judged r ≡ inNumbers (judge f (now (table .entry)) (now (shape .entry))) ⌝ }
@@ -52,12 +83,7 @@ pub fn judge(table: &[u8], shape: &[u8], f: Format) -> Judged
     let number = prepared.number;
     let place = prepared.place;
     if number != 0 {
-        return Judged {
-            number: number,
-            place: place,
-            verdict: Verdict::Kept,
-            none_apart: false,
-        };
+        return refused(number, place);
     }
     let rows = prepared.rows;
     let drawn = prepared.shape;
@@ -67,14 +93,15 @@ pub fn judge(table: &[u8], shape: &[u8], f: Format) -> Judged
     let lone = first_lone(&levels, &types, rows, drawn, met, from);
     match lone {
         Verdict::Kept => {
-            let full = edges.full;
+            let least = edges.least_children;
+            let full = full_edges(least);
             let fault = first_fault(drawn, &ways, full, &meetings);
             let none = none_apart_beside(fault, drawn, &ways, &meetings);
-            given(fault, none)
+            given(fault, none, edges)
         }
         _ => {
             let none = none_apart(drawn, &ways, &meetings);
-            given(lone, none)
+            given(lone, none, edges)
         }
     }
 }

@@ -1,7 +1,7 @@
 // The search for a row without a partner. Rows stand in document order, so that the rows that can be partners of a row are the
 // unbroken run around it; the rows of one run share them, and the candidates of a run are walked once.
-use crate::edges::run_bound;
 use crate::verdict::Verdict;
+use partners::edges::run_bound;
 use shapes::shape::Shape;
 ghost use mathlib.Core.Path.{_≡_};
 ghost use Prim.Native.Nat.{_-_, _≤_, _<_};
@@ -12,7 +12,7 @@ ghost use Rattle.closest.specs.Runs.{Rows};
 ghost use Rattle.shapes.specs.Shape.{Sized};
 ghost use Rattle.judging.specs.Told.{told};
 ghost use Rattle.judging.specs.Lone.{candidateFrom, OnInRun, loneFrom};
-ghost use Rattle.judging.specs.Edges.{AllMet};
+ghost use Rattle.partners.specs.Edges.{AllMet};
 
 // Where the candidates for row r are looked for: from r itself where a run begins there, and else from j on.
 fn candidate_from(levels: &[u8], bound: u8, r: usize, j: usize) -> usize

@@ -1,5 +1,5 @@
 -- The list of pairs of a conversion that breaks no rule: what each label becomes, and that labels kept apart stay apart. Assumes nothing.
-use Prim.Native.Nat.{ℕ, zero, suc, _+_, _≤_, _<_}
+use Prim.Native.Nat.{ℕ, suc, _+_, _≤_, _<_}
 use native.Mathlib.Omega.{arith}
 use mathlib.Core.Path.{_≡_, refl, sym, _∙_, ap, subst}
 use mathlib.Core.Logic.{_⊎_, inl, inr, ⊎-elim}
@@ -13,6 +13,7 @@ use Rattle.paper.specs.Lists.{Has, any, firstOr, between, count}
 use Rattle.paper.specs.Format.{Format}
 use Rattle.paper.specs.Labels.{mostOld, Pair, listed, taken, pairKept, badPairFrom, badPair, unlisted, converted}
 use Rattle.paper.proofs.Lists.{both, has-any, has-left, has-right, has-map, map-has, has-count, within}
+use Rattle.paper.proofs.Kept.{length-count}
 use Rattle.paper.proofs.NewTypes.{Once, once-few}
 
 -- none of a list passes a test that none of them passes
@@ -132,10 +133,6 @@ module _ (f : Format) (ls : List ℕ) where
         (λ (out₁, stays₁). sym stays ∙ e ∙ stays₁) (becomes ps y)) (becomes ps x)
 
 -- ---- how many pairs
-length-count : (i n : ℕ) → length (count i n) ≡ n
-length-count i zero = refl
-length-count i (suc n) = ap suc (length-count (suc i) n)
-
 -- a label as a list of one
 abbrev alone : ℕ → List ℕ
 alone x = x ∷ []

@@ -106,7 +106,7 @@ module _ (f : Format) (ps : List Pair) (b s table shape : List ℕ) (accepted : 
       let (back, forth) = refused-through (tests1-7 (oldRange f) b s) (workWith ps) k p in
       (λ e. back (sym work-with ∙ e), λ e. work-with ∙ forth e)
 
-  -- THEY ARE JUDGED as before: the same verdict and second answer, or the same refusal.
+  -- THEY ARE JUDGED as before: the same verdict, second answer and numbers of each edge, or the same refusal.
   pub judge-with : judge f table shape ≡ judge (oldRange f) b s
   unfolding judge
   judge-with = ap (λ a. reply noJudgement (a >>= next)) work-with ∙ go (tests1-7 (oldRange f) b s)

@@ -1,4 +1,4 @@
--- What 4 and 7 find, and the shape, of rows and entries with their labels converted; verdict, lines and figures read no label. Assumes nothing.
+-- What 4 and 7 find, and the shape, of rows and entries with their labels converted; judgement, lines and figures read no label. Assumes nothing.
 use Prim.Native.Nat.{ℕ, suc, _<_}
 use native.Mathlib.Nat.{not-suc-le-zero}
 use native.Mathlib.Omega.{arith}
@@ -15,6 +15,7 @@ use Rattle.paper.specs.Closeness.{Node}
 use Rattle.paper.specs.Shapes.{Entry, Shape, named, steps, shapeOver, numbers, side}
 use Rattle.paper.specs.NewTable.{Line, beneath, tops, lines}
 use Rattle.paper.specs.Figures.{figures}
+use Rattle.paper.specs.Partners.{childNumbers, parentNumbers, edgeNumbers}
 use Rattle.paper.specs.Verdict.{Verdict, Judgement, kept, apart, unsure, isApart, overPairs, meeting, partners, alone, full, edgeLevel, sureDown}
 use Rattle.paper.specs.Verdict.{meetsLeast, sure, lone, pairFault, verdict, noneApart, judgement}
 use Rattle.paper.specs.Calls.{typeTooMany, typeMissing}
@@ -55,11 +56,12 @@ module _ (t : List Node) (c : ℕ → ℕ) (s : Shape) where
       (down-by (meeting t s e g) (side s e g)) (down-by (meeting t s e g) (side s g e))
 
   pub judgement-by : judgement t (shapeBy c s) ≡ judgement t s
-  unfolding verdict noneApart lone alone partners
+  unfolding verdict noneApart lone alone partners edgeNumbers childNumbers parentNumbers
   judgement-by =
       ap {B = Judgement} (λ fault. record {
         verdict = firstOr kept (lone t s ++ overPairs fault (numbers s));
         noneApart = not (any isApart (overPairs fault (numbers s)));
+        edges = edgeNumbers t s;
       }) (λ i e g. fault-by e g i)
 
 -- ---- the entries

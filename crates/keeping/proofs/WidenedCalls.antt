@@ -180,7 +180,7 @@ module _ (f : Format) (n : ℕ) (b : List ℕ) (even : length b % rowBytes f ≡
             ap (after (map (rowTo n) rs)) (shape-widened f n s es sound) ∙ ap₂ checked (missing-same rs) (same-work rs h)
             ∙ through (typeMissing rs es) (own rs es) ∙ ap (λ a. after rs a >>= (λ w. given (workTo n w))) (sym sound)
 
-    -- THEY ARE JUDGED as the table and the shape are: the same verdict and second answer, or the same refusal.
+    -- THEY ARE JUDGED as the table and the shape are: the same verdict, second answer and numbers of each edge, or the same refusal.
     pub judge-widened : judge (deeper f n) wide wider ≡ judge f b s
     unfolding judge
     judge-widened = ap (λ a. reply noJudgement (a >>= (λ (w : Work). given (judgement (w .nodes) (w .shape))))) work-widened ∙ go (tests1-7 f b s)

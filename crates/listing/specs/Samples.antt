@@ -6,18 +6,19 @@ use lib.ListN.{length}
 use Rattle.paper.specs.Lists.{padded}
 use Rattle.paper.specs.Format.{Format, base, eight, valueBytes, bytes}
 use Rattle.paper.specs.Tables.{Row, rowBack}
+use Rattle.paper.specs.Shapes.{entries}
 use Rattle.paper.specs.Calls.{judge}
 use Rattle.paper.specs.NewTable.{entryUnit}
 use Rattle.paper.specs.Opened.{opened}
-use Rattle.paper.specs.Samples.{row, table, entry, A, portfolio, lessee, lease, asset, reshaped}
+use Rattle.paper.specs.Samples.{row, table, entry, A, table10, portfolio, lessee, lease, asset, reshaped}
 use Rattle.grammar.specs.Text.{ascii, digitsIn, decimal, signedText, followed, parted}
 use Rattle.grammar.specs.Names.{names, nameOf, nameText}
-use Rattle.listing.specs.Listing.{refusedText, verdictText, deweyText, lineText, linesText, listingText}
+use Rattle.listing.specs.Listing.{refusedText, verdictText, deweyText, lineText, linesText, edgeText, edgesText, listingText}
 
 -- what is printed of a table and a shape
 printed : List ℕ → List ℕ → List ℕ
 unfolding opened
-printed b sb = listingText base (judge base b sb) (reshaped b sb)
+printed b sb = listingText base (length (entries base sb)) (judge base b sb) (reshaped b sb)
 
 -- the line of a row with this Dewey number, label and value, of an entry and a source row
 lineOf : Format → List ℕ → ℕ → ℕ → ℕ → ℕ → List ℕ
@@ -40,10 +41,18 @@ samples =
           ++ ascii "2.1 1 lessee 1 100\n"
           ++ ascii "2.2 2 asset 6 600\n"
           ++ ascii "3 0 lease 8 800\n"
-          ++ ascii "3.1 1 lessee 7 700\n",
+          ++ ascii "3.1 1 lessee 7 700\n"
+          ++ ascii "edge 1 1 1 1 2\n"
+          ++ ascii "edge 2 0 2 1 1\n",
     )
     -- P1: refusal 7, place 0
     ∷ (printed [] (entry 1 (3 ∷ []) ++ entry 2 (2 ∷ []) ++ entry 2 (4 ∷ [])), ascii "refused 7 0\n")
+    -- P10, whole: types that do not meet have an edge line too
+    ∷ (printed table10 (entry 1 (2 ∷ []) ++ entry 2 (3 ∷ [])), ascii "verdict 1 1 1\n" ++ ascii "1 0 lessee 0 0\n" ++ ascii "edge 1 0 0 0 0\n")
+    -- one entry: no edge
+    ∷ (printed table10 (entry 1 (2 ∷ [])), ascii "verdict 0\n" ++ ascii "1 0 lessee 0 0\n")
+    -- an edge with the largest numbers
+    ∷ (edgeText 15 (0 ∷ 1023 ∷ 1 ∷ 1022 ∷ []), ascii "edge 15 0 1023 1 1022\n")
     -- P6: verdict 2, entries 1 and 2
     ∷ (verdictText (2 ∷ 1 ∷ 2 ∷ []), ascii "verdict 2 1 2\n")
     -- labels 1, 20, 21 and 99
@@ -70,6 +79,6 @@ samples =
 
 -- every sample is printed as it should be
 pub samples-hold : map (λ (p : List ℕ × List ℕ). p .0) samples ≡ map (λ (p : List ℕ × List ℕ). p .1) samples
-unfolding opened eight row table entry A portfolio lessee lease asset digitsIn decimal signedText followed parted names nameOf nameText refusedText
-    verdictText deweyText lineText linesText listingText printed lineOf samples
+unfolding opened eight row table entry A table10 portfolio lessee lease asset digitsIn decimal signedText followed parted names nameOf nameText refusedText
+    verdictText deweyText lineText linesText edgeText edgesText listingText printed lineOf samples
 samples-hold = refl

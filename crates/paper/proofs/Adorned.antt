@@ -1,7 +1,7 @@
 -- The adorned shape's figures: every parent's count lies between the two, and both are reached. Assumes nothing.
-use Prim.Native.Nat.{ℕ, suc, _+_, _≤_, _<_, pred}
+use Prim.Native.Nat.{ℕ, suc, _≤_, _<_, pred}
 use native.Mathlib.Omega.{arith}
-use mathlib.Core.Path.{_≡_, refl, sym, _∙_, ap, subst}
+use mathlib.Core.Path.{_≡_, refl, sym, _∙_, ap, subst, subst₂}
 use mathlib.Core.Logic.{_⊎_, inl, inr}
 use mathlib.Core.Bool.{Bool, true, false, not, true≢false}
 use mathlib.Core.List.{List, [], _∷_, _++_, map, append-assoc}
@@ -10,12 +10,13 @@ use lib.Dec.{eqb}
 use lib.ListN.{length, length-append}
 use borrow.Author.Tests.{eq-eqb, ne-eqb, not-true}
 use Rattle.paper.specs.Lists
-use Rattle.paper.specs.Lists.{Has, keep, same, up, distinct}
+use Rattle.paper.specs.Lists.{Has, Range, keep, same, up, distinct}
 use Rattle.paper.specs.Format.{Format, mostTypes}
 use Rattle.paper.specs.Tables.{Row, badRow, types, rowTypes, typeNumber}
 use Rattle.paper.specs.Closeness.{Node, nodes, ofKind}
 use Rattle.paper.specs.Adorned.{Summary, childrenOf, counts, summary, summariesFrom, adorned}
-use Rattle.paper.proofs.Lists.{same-eq, eq-same, keep-has, has-map, map-has, most-has, most-reached, least-le, least-reached}
+use Rattle.paper.proofs.Lists.{same-eq, eq-same, keep-has}
+use Rattle.paper.proofs.Kept.{range}
 use Rattle.paper.proofs.Closeness.{Of, kind-of, of-kind}
 use Rattle.paper.proofs.Tables.{Laid, listed-type, type-length, ancestor}
 
@@ -125,31 +126,21 @@ module _ (f : Format) (rs : List Row) (laid : Laid f rs) (sound : badRow f rs �
       let (y, hy, ed, ty, ky) = ancestor f rs laid sound c v tc (pred (length v)) (omega arith) (omega arith) in
       (y, (hy, ky))
 
-  counted : (r : Node) → Of (nodes rs) p r → Has (childrenOf (nodes rs) k r) (map (childrenOf (nodes rs) k) (ofKind (nodes rs) p))
-  counted r o = has-map (childrenOf (nodes rs) k) r (ofKind (nodes rs) p) (of-kind (nodes rs) p r o)
+  -- the two figures are the range of the parents' counts
+  counted : Range (childrenOf (nodes rs) k) (ofKind (nodes rs) p) (x .least) (x .greatest)
+  counted =
+      let (r, o) = parent-row in
+      subst₂ (Range (childrenOf (nodes rs) k) (ofKind (nodes rs) p)) (sym (figures .1)) (sym (figures .2))
+      (range (childrenOf (nodes rs) k) (ofKind (nodes rs) p) r (of-kind (nodes rs) p r o))
 
   -- Every parent's count lies between the two.
   pub children-between : (r : Node) → Of (nodes rs) p r → (x .least ≤ childrenOf (nodes rs) k r) × (childrenOf (nodes rs) k r ≤ x .greatest)
-  children-between r o =
-      let cs = map (childrenOf (nodes rs) k) (ofKind (nodes rs) p) in (
-        omega (arith, figures .1, least-le (childrenOf (nodes rs) k r) cs (counted r o)),
-        omega (arith, figures .2, most-has (λ n. n) (childrenOf (nodes rs) k r) cs (counted r o)),
-      )
-
-  reached : (n : ℕ) → Has n (map (childrenOf (nodes rs) k) (ofKind (nodes rs) p)) → (r : Node) × Of (nodes rs) p r × (childrenOf (nodes rs) k r ≡ n)
-  reached n h = let (r, hr, e) = map-has (childrenOf (nodes rs) k) n (ofKind (nodes rs) p) h in (r, kind-of (nodes rs) p r hr, sym e)
-
-  ends : (n : ℕ) (cs : List ℕ) → Has n cs → Has (Lists.least cs) cs × Has (Lists.most (λ n. n) cs) cs
-  ends n [] h = absurd h
-  ends n (c ∷ cs) h =
-      (least-reached c cs, let (m, hm, e) = most-reached (λ n. n) c cs in subst (λ z. Has z (c ∷ cs)) e hm)
+  children-between r o = counted .between r (of-kind (nodes rs) p r o)
 
   -- Both are reached.
   pub children-reached : (a b : Node) × Of (nodes rs) p a × Of (nodes rs) p b
       × (childrenOf (nodes rs) k a ≡ x .least) × (childrenOf (nodes rs) k b ≡ x .greatest)
   children-reached =
-      let (r, o) = parent-row in
-      let e = ends (childrenOf (nodes rs) k r) (map (childrenOf (nodes rs) k) (ofKind (nodes rs) p)) (counted r o) in
-      let (a, oa, ea) = reached (Lists.least (map (childrenOf (nodes rs) k) (ofKind (nodes rs) p))) (e .0) in
-      let (b, ob, eb) = reached (Lists.most (λ n. n) (map (childrenOf (nodes rs) k) (ofKind (nodes rs) p))) (e .1) in
-      (a, b, oa, ob, ea ∙ sym (figures .1), eb ∙ sym (figures .2))
+      let (a, ha, ea) = counted .low in
+      let (b, hb, eb) = counted .high in
+      (a, b, kind-of (nodes rs) p a ha, kind-of (nodes rs) p b hb, ea, eb)

@@ -235,7 +235,7 @@ told5-6 P five six f b =
     bind-told P (refuse 5 lengths) _ (refuse-told P 5 lengths five) (λ _ _.
     bind-told P (refuseAt 6 (badEntry f (entries f b))) _ (refuseAt-told P 6 (badEntry f (entries f b)) six) (λ _ _. tt))
 
-past1-4 : (f : Format) (b : List ℕ) → Past 0 (tests1-4 f b)
+pub past1-4 : (f : Format) (b : List ℕ) → Past 0 (tests1-4 f b)
 unfolding tests1-4
 past1-4 f b =
     bind-past 0 (tests1-3 f b) _ (past1-3 f b) (λ rs.
@@ -250,7 +250,7 @@ module _ (m : ℕ) (le : m ≤ 4) (f : Format) where
       bind-past m (refuse 8 over) _ (refuse-told (λ k. m < k) 8 over (omega arith)) (λ _. tt)
 
   module _ (b : List ℕ) (earlier : Past m (tests1-4 f b)) (sb : List ℕ) where
-    past1-7 : Past m (tests1-7 f b sb)
+    pub past1-7 : Past m (tests1-7 f b sb)
     unfolding tests1-7
     past1-7 =
         bind-past m (tests1-4 f b) _ earlier (λ rs.

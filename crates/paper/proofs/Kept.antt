@@ -1,4 +1,5 @@
--- What a list keeps: the same by tests that agree, through a map, and how many. What is found in lists, and what padded ones hold. Assumes nothing.
+-- What a list keeps: the same by tests that agree, through a map, and how many. What is found in lists, the range of a list's figures, and what
+-- padded lists hold. Assumes nothing.
 use Prim.Native.Nat.{ℕ, zero, suc, _+_, _≤_, _<_, zero-le, suc-le-suc}
 use native.Mathlib.Nat.{not-suc-le-zero, le-of-suc-le-suc}
 use native.Mathlib.Omega.{arith}
@@ -11,8 +12,8 @@ use lib.Dec.{ltb}
 use lib.ListN.{length, getD, take, replicate, length-map}
 use lib.Seq.{take-append-add}
 use borrow.Author.Tests.{ltb-false, le-ltb}
-use Rattle.paper.specs.Lists.{Has, keep, any, place, firstPlace, padded}
-use Rattle.paper.proofs.Lists.{keep-has}
+use Rattle.paper.specs.Lists.{Has, keep, any, most, place, firstPlace, Range, least, count, padded}
+use Rattle.paper.proofs.Lists.{keep-has, has-map, map-has, most-has, most-reached, least-le, least-reached}
 
 module _ {A : Type 0} where
   -- tests that agree on the list keep the same
@@ -122,6 +123,33 @@ getD-moved to [] i d c lt = absurd (not-suc-le-zero lt)
 getD-moved to (x ∷ xs) zero d c lt = refl
 getD-moved to (x ∷ xs) (suc i) d c lt = getD-moved to xs i d c (le-of-suc-le-suc lt)
 
+-- ---- what is counted
+pub length-count : (i n : ℕ) → length (count i n) ≡ n
+length-count i zero = refl
+length-count i (suc n) = ap suc (length-count (suc i) n)
+
+-- what stands at a place of a mapped count
+pub count-at : (g : ℕ → ℕ) (i n e : ℕ) → e < n → getD (map g (count i n)) e 0 ≡ g (i + e)
+count-at g i zero e lt = absurd (not-suc-le-zero lt)
+count-at g i (suc n) zero lt = ap g (omega arith)
+count-at g i (suc n) (suc e) lt = count-at g (suc i) n e (le-of-suc-le-suc lt) ∙ ap g (omega arith)
+
+-- ---- the range of a figure
+-- The least and the greatest figure of a list that has an element are its range.
+pub range : {A : Type 0} (figure : A → ℕ) (xs : List A) (x : A) → Has x xs → Range figure xs (least (map figure xs)) (most (λ n. n) (map figure xs))
+range figure [] x h = absurd h
+range figure (z ∷ zs) x h =
+    let xs = z ∷ zs in
+    let ns = map figure xs in
+    record {
+      between = λ y i. let there = has-map figure y xs i in (least-le (figure y) ns there, most-has (λ n. n) (figure y) ns there);
+      low = let (y, i, e) = map-has figure (least ns) xs (least-reached (figure z) (map figure zs)) in (y, i, sym e);
+      high =
+          let (n, hn, q) = most-reached (λ n. n) (figure z) (map figure zs) in
+          let (y, i, e) = map-has figure n xs hn in
+          (y, i, sym e ∙ q);
+    }
+
 -- ---- lists with zeros at the end
 take-zeros : (k m : ℕ) → k ≤ m → take k (replicate m 0) ≡ replicate {A = ℕ} k 0
 take-zeros zero m le = refl
@@ -142,3 +170,13 @@ padded-each P empty own (suc m) (suc n) [] zero = empty
 padded-each P empty own (suc m) (suc n) [] (suc e) = padded-each P empty own m n [] e
 padded-each P empty own (suc m) n (x ∷ xs) zero = own x
 padded-each P empty own (suc m) n (x ∷ xs) (suc e) = padded-each P empty own m n xs e
+
+-- A padded list holds its own elements, and zeros past them.
+pub padded-at : (m n : ℕ) (xs : List ℕ) (e : ℕ) → length xs ≤ m → getD (take m (xs ++ replicate n 0)) e 0 ≡ getD xs e 0
+padded-at zero n [] e le = refl
+padded-at zero n (x ∷ xs) e le = absurd (not-suc-le-zero le)
+padded-at (suc m) zero [] e le = refl
+padded-at (suc m) (suc n) [] zero le = refl
+padded-at (suc m) (suc n) [] (suc e) le = padded-at m n [] e zero-le
+padded-at (suc m) n (x ∷ xs) zero le = refl
+padded-at (suc m) n (x ∷ xs) (suc e) le = padded-at m n xs e (le-of-suc-le-suc le)

@@ -21,6 +21,10 @@ pub mod NewTypes
 pub mod Calls
 pub mod Reread
 pub mod Promises
+pub mod Partners
+pub mod Edges
+pub mod Standing
+pub mod Beneath
 pub mod MadeUp
 pub mod Sound
 pub mod Needed

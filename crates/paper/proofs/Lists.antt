@@ -18,6 +18,7 @@ use Rattle.paper.specs.Tried
 use Rattle.paper.specs.Further
 use Rattle.paper.specs.WidthSamples
 use Rattle.paper.specs.LabelSamples
+use Rattle.paper.specs.PartnerSamples
 
 -- ---- tests
 pub both : (a b : Bool) → a && b ≡ true → (a ≡ true) × (b ≡ true)

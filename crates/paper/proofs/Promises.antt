@@ -72,7 +72,7 @@ module _ (f : Format) (b sb : List ℕ) (w : Work) (passed : tests1-7 f b sb ≡
     some-level = sound-pos f rs (rows-laid f b) sound;
   }
 
-  kept-entries : Rules (entryKept f) levelOf 0 (entries f sb)
+  pub kept-entries : Rules (entryKept f) levelOf 0 (entries f sb)
   unfolding badEntry
   kept-entries = none-rules (entryKept f) levelOf 0 0 (entries f sb) (passed5-6 f sb (entries f sb) (passed1-7 f b sb w passed .1) .1)
 

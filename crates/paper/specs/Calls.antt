@@ -13,6 +13,7 @@ use Rattle.paper.specs.Shapes.{Entry, Shape, entries, named, badEntry, s
 use Rattle.paper.specs.Adorned.{Summary, adorned}
 use Rattle.paper.specs.NewTable.{Line, lines, newTable, sourceList}
 use Rattle.paper.specs.Figures.{Figures, figures, noFigures}
+use Rattle.paper.specs.Partners.{noEdges}
 use Rattle.paper.specs.Verdict.{Judgement, kept, judgement}
 
 -- ---- answers
@@ -148,9 +149,9 @@ adorn f b before =
     let a = adorning f b (length before) in
     record { reply = reply 0 (do xs ← a; given (length xs)); summaries = after before a }
 
--- Judging adds the verdict and the second answer; refused, verdict 0 and no.
+-- Judging adds the verdict, the second answer and the numbers of each edge; refused, verdict 0, no and zeros.
 abbrev pub noJudgement : Judgement
-noJudgement = record { verdict = kept; noneApart = false }
+noJudgement = record { verdict = kept; noneApart = false; edges = noEdges }
 
 unfoldable pub judge : Format → List ℕ → List ℕ → Reply Judgement
 judge f b sb = reply noJudgement do

@@ -59,6 +59,10 @@ closest t r s = meetAt (kindsMeet t (r .kind) (s .kind)) r s
 unfoldable pub closestOf : List Node → Node → ℕ → List Node
 closestOf t r k = keep (meetAt (kindsMeet t (r .kind) k) r) (ofKind t k)
 
+-- how many nodes of kind k are closest to r
+unfoldable pub closestNumber : List Node → ℕ → Node → ℕ
+closestNumber t k r = length (closestOf t r k)
+
 -- the closest pairs of two kinds
 unfoldable pub closestPairs : List Node → ℕ → ℕ → List (Node × Node)
 closestPairs t j k = joinMap (λ r. map (λ (s : Node). (r, s)) (closestOf t r k)) (ofKind t j)

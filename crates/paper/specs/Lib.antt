@@ -6,11 +6,13 @@ pub mod Shapes
 pub mod Adorned
 pub mod NewTable
 pub mod Figures
+pub mod Partners
 pub mod Verdict
 pub mod Calls
 pub mod Widths
 pub mod Labels
 pub mod Links
+pub mod Edges
 pub mod MadeUp
 pub mod Sound
 pub mod Shown
@@ -21,3 +23,4 @@ pub mod Further
 pub mod Tried
 pub mod WidthSamples
 pub mod LabelSamples
+pub mod PartnerSamples

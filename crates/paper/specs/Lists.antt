@@ -1,5 +1,5 @@
 -- The words about lists that the other definitions share. Assumes nothing.
-use Prim.Native.Nat.{ℕ, zero, suc, max, min, pred}
+use Prim.Native.Nat.{ℕ, zero, suc, max, min, pred, _≤_}
 use mathlib.Core.Path.{_≡_}
 use mathlib.Core.Logic.{_⊎_}
 use mathlib.Core.Bool.{Bool, true, false, _&&_, _||_, not}
@@ -55,6 +55,12 @@ module _ {A : Type 0} where
   abbrev pub joined : List (List A) → List A
   joined [] = []
   joined (x ∷ xs) = x ++ joined xs
+
+-- lo and hi bound the figure of each element, and both are reached
+pub record Range {A : Type 0} (figure : A → ℕ) (xs : List A) (lo hi : ℕ) : Type 0 where
+  pub between : (x : A) → Has x xs → (lo ≤ figure x) × (figure x ≤ hi)
+  pub low : (x : A) × Has x xs × (figure x ≡ lo)
+  pub high : (x : A) × Has x xs × (figure x ≡ hi)
 
 module _ {A B : Type 0} where
   -- what the elements give, one after the other

@@ -7,6 +7,7 @@ use lib.ListN.{drop}
 use Rattle.paper.specs.Lists.{keep, all, any, firstOr, joinMap}
 use Rattle.paper.specs.Closeness.{Node, ofKind, kindsMeet, closestOf}
 use Rattle.paper.specs.Shapes.{Shape, numbers, kind, parent, side, path}
+use Rattle.paper.specs.Partners.{EdgeNumbers, edgeNumbers}
 
 pub data Verdict : Type 0 where
   kept : Verdict
@@ -31,6 +32,7 @@ isApart (unsure e f) = false
 pub record Judgement : Type 0 where
   pub verdict : Verdict
   pub noneApart : Bool  -- the second answer
+  pub edges : EdgeNumbers  -- how many partners, whatever the verdict
 
 -- l is the least of the levels
 abbrev pub isLeast : ℕ → List ℕ → Bool
@@ -98,4 +100,4 @@ module _ (t : List Node) (s : Shape) where
   noneApart = not (any isApart (overPairs pairFault (numbers s)))
 
   abbrev pub judgement : Judgement
-  judgement = record { verdict = verdict; noneApart = noneApart }
+  judgement = record { verdict = verdict; noneApart = noneApart; edges = edgeNumbers t s }

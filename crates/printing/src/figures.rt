@@ -2,6 +2,7 @@
 use crate::new_table::print_refused;
 use crate::out::print;
 use crate::width::entry_at;
+use crate::width::last_label;
 use crate::width::served;
 use paper::Format;
 use paper::Width;
@@ -12,15 +13,6 @@ ghost use mathlib.Core.Path.{_≡_};
 ghost use lib.ListN.{length};
 ghost use Rattle.paper.specs.Format.{entryBytes};
 ghost use Rattle.bytes.specs.Served.{Served};
-
-// The last label of an entry's type.
-fn last_label(entry: &[u8], f: Format) -> usize
-    requires { ⌜ Served f ⌝ }
-    requires { ⌜ length (now entry) ≡ entryBytes f ⌝ }
-{
-    let size = smaller(bytes::wide(entry[1]), f.levels);
-    bytes::word(entry, 2 + 2 * size)
-}
 
 fn print_entry(entry: &[u8], f: Format, e: usize, figures: Figures) -> bool
     requires { ⌜ Served f ⌝ }

@@ -1,4 +1,5 @@
-// The listing: a refusal, or the verdict and a line for each line of the new table.
+// The listing: a refusal, or the verdict, a line for each line of the new table, and one for each edge of the shape.
+use crate::edges::print_edges;
 use crate::out::print;
 use crate::report::report_refused;
 use crate::report::report_verdict;
@@ -103,7 +104,10 @@ fn print_reshaped(
     if !report_verdict(channel, width, source, shape, v, none) {
         return false;
     }
-    print_lines(width, table, sources, r.lines)
+    if !print_lines(width, table, sources, r.lines) {
+        return false;
+    }
+    print_edges(width, shape, j, channel)
 }
 
 // Prints the listing of a table and a shape, with room for 1,024 lines. The answer and what it names are reported on the channel.

@@ -1,6 +1,7 @@
-// What a width says of the files: their format, and where the entries of a shape stand.
+// What a width says of the files: their format, where the entries of a shape stand, and the last label of an entry.
 use paper::Format;
 use paper::Width;
+use tables::row::smaller;
 ghost use Rattle.bytes.specs.Served.{Served};
 
 // The format of a width, which every layer below serves.
@@ -20,4 +21,15 @@ pub fn entry_at(shape: &[u8], f: Format, e: usize) -> &[u8]
         return bytes::record(shape, w, e);
     }
     &shape[none..none]
+}
+
+// The last label of an entry's type; 0 for an empty part.
+pub fn last_label(entry: &[u8], f: Format) -> usize
+    requires { ⌜ Served f ⌝ }
+{
+    if entry.len() != bytes::entry_bytes(f) {
+        return 0;
+    }
+    let size = smaller(bytes::wide(entry[1]), f.levels);
+    bytes::word(entry, 2 + 2 * size)
 }

@@ -15,9 +15,11 @@ use Rattle.paper.specs.Calls.{Reply, Reshaping, reshape, roomIn}
 use Rattle.paper.specs.Links.{LinksKept}
 use Rattle.paper.specs.MadeUp.{NothingMadeUp, unshown}
 use Rattle.paper.specs.Sound.{SoundSource}
+use Rattle.paper.specs.Edges.{ChildrenShown, ChildrenBetween}
 use Rattle.paper.proofs.Promises.{reshape-links, written-length}
 use Rattle.paper.proofs.MadeUp.{reshape-none-made-up, reshape-unshown}
 use Rattle.paper.proofs.Sound.{narrow-sound}
+use Rattle.paper.proofs.Beneath.{reshape-children, reshape-between}
 use Rattle.bytes.specs.Served.{mostLevels, Served}
 use Rattle.bytes.proofs.Writing.{front-written}
 use Rattle.tables.proofs.Rows.{row-in}
@@ -48,6 +50,8 @@ reshapes {f} served {t} {s} {new} {sources} r new′ sources′ er en es = recor
   links = λ z v. subst₂ (λ a b. LinksKept f t s a b) (sym front) (sym listed) (reshape-links f t s new sources (accepted z) v);
   none-made-up = λ z ok. subst₂ (λ a b. NothingMadeUp f t s a b) (sym front) (sym listed) (reshape-none-made-up f t s new sources (accepted z) ok);
   named-unshown = λ z e i v. subst (λ b. unshown e i b ≡ true) (sym listed) (reshape-unshown f t s new sources (accepted z) e i v);
+  children = λ z. subst₂ (λ a b. ChildrenShown f t s a b) (sym front) (sym listed) (reshape-children f t s new sources (accepted z));
+  between = λ z. subst₂ (λ a b. ChildrenBetween f t s a b) (sym front) (sym listed) (reshape-between f t s new sources (accepted z));
   sound = λ z le. subst₂ (λ a k. SoundSource f s a k) (sym front) (sym count)
       (narrow-sound f t s new sources (served .small) (accepted z) (omega (arith, count, le)));
 }

@@ -9,6 +9,7 @@ use Rattle.paper.specs.Verdict.{kept, missing}
 use Rattle.paper.specs.Links.{LinksKept}
 use Rattle.paper.specs.MadeUp.{NothingMadeUp, unshown}
 use Rattle.paper.specs.Sound.{SoundSource}
+use Rattle.paper.specs.Edges.{ChildrenShown, ChildrenBetween}
 use Rattle.paper.specs.Figures.{Figures}
 use Rattle.paper.specs.Shown.{FiguresAgree}
 use Rattle.paper.specs.Calls.{Reply, judge, summarise}
@@ -39,6 +40,13 @@ module _ {f : Format} {t s new sources new₁ sources₁ : List ℕ} {a : Reshap
   -- So is it that the row that verdict 1 names is in no line of the entry that it names.
   pub named-unshown-promised : a .number ≡ 0 → (e i : ℕ) → judge f t s .rest .verdict ≡ missing e i → unshown e i (take (a .lines) sources₁) ≡ true
   named-unshown-promised = p .named-unshown
+
+  -- So is it how many lines stand directly beneath a line, and that judging's numbers bound it.
+  pub children-promised : a .number ≡ 0 → ChildrenShown f t s (take (a .lines * rowBytes f) new₁) (take (a .lines) sources₁)
+  children-promised = p .children
+
+  pub between-promised : a .number ≡ 0 → ChildrenBetween f t s (take (a .lines * rowBytes f) new₁) (take (a .lines) sources₁)
+  between-promised = p .between
 
   -- So is it that a new table of at most 1,024 lines is a sound source.
   pub sound-promised : a .number ≡ 0 → a .lines ≤ mostRows → SoundSource f s (take (a .lines * rowBytes f) new₁) (a .lines)

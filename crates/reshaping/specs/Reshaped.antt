@@ -9,6 +9,7 @@ use Rattle.paper.specs.Verdict.{kept, missing}
 use Rattle.paper.specs.Links.{LinksKept}
 use Rattle.paper.specs.MadeUp.{NothingMadeUp, unshown}
 use Rattle.paper.specs.Sound.{SoundSource}
+use Rattle.paper.specs.Edges.{ChildrenShown, ChildrenBetween}
 use Rattle.paper.specs.Figures.{Figures}
 use Rattle.paper.specs.Calls.{Reply, reshape, judge}
 use Rattle.reshaping.specs.declared.reshape.Reshaped.{Reshaped}
@@ -36,5 +37,9 @@ pub record Reshapes (f : Format) (t s new sources : List ℕ) (r : Reshaped) (ne
       → NothingMadeUp f t s (take (r .lines * rowBytes f) new′) (take (r .lines) sources′)
   -- Where the verdict is 1 with entry e and row i, no place of the source list among the lines written is e × 65,536 + i.
   pub named-unshown : r .number ≡ 0 → (e i : ℕ) → judge f t s .rest .verdict ≡ missing e i → unshown e i (take (r .lines) sources′) ≡ true
+  -- Directly beneath each line stand of each child entry as many lines as its source row has closest rows of that entry's type.
+  pub children : r .number ≡ 0 → ChildrenShown f t s (take (r .lines * rowBytes f) new′) (take (r .lines) sources′)
+  -- They are no fewer than the least and no more than the greatest number of children that judging says of that entry.
+  pub between : r .number ≡ 0 → ChildrenBetween f t s (take (r .lines * rowBytes f) new′) (take (r .lines) sources′)
   -- A reshaped table of at most 1,024 lines is a sound source: no call refuses it with 1 to 4.
   pub sound : r .number ≡ 0 → r .lines ≤ mostRows → SoundSource f s (take (r .lines * rowBytes f) new′) (r .lines)

@@ -16,6 +16,7 @@ use Rattle.paper.specs.Links.{LinksKept}
 use Rattle.paper.specs.MadeUp.{NothingMadeUp, unshown}
 use Rattle.paper.specs.Shown.{FiguresAgree}
 use Rattle.paper.specs.Sound.{SoundSource}
+use Rattle.paper.specs.Edges.{EdgesAgree, ChildrenShown, ChildrenBetween}
 use Rattle.widths.specs.Answers.{Moves}
 use Rattle.widths.specs.declared.moves.Moved.{Moved}
 use Rattle.widths.proofs.Unique.{moves-unique}
@@ -32,6 +33,8 @@ use Rattle.adorned.specs.declared.lent.AdornedTypes.{AdornedTypes}
 use Rattle.adorned.proofs.Unique.{told-same}
 use Rattle.tables.proofs.Unique as tables
 use Rattle.judging.proofs.Unique as judging
+use Rattle.judging.specs.Judged.{edgesOf}
+use Rattle.judging.specs.declared.judge.Judged.{Judged}
 use Rattle.reshaping.proofs.Unique as reshaping
 use Rattle.reshaping.specs.Reshaped.{summarised}
 use Rattle.reshaping.specs.declared.reshape.Reshaped.{Reshaped}
@@ -80,6 +83,11 @@ judge-asks κs a = tt
 pub judge-settled : Settles judge-call.Learnt (λ κs r e. r)
 judge-settled κs a r s e f = judging.judge-unique (formatOf (a .0)) (now (a .1 .0)) (now (a .1 .1 .0)) r s
 
+-- where judging is accepted, the numbers of each edge agree with rows and verdict
+pub judge-edges-agree : (κs : _) (a : _) (r : Judged) (e : _) → judge-call.Learnt κs a r e → r .number ≡ 0
+    → EdgesAgree (formatOf (a .0)) (now (a .1 .0)) (now (a .1 .1 .0)) (edgesOf r)
+judge-edges-agree κs a r e x = judging.edges-agree (formatOf (a .0)) (now (a .1 .0)) (now (a .1 .1 .0)) r x
+
 pub reshape-asks : Asks-nothing reshape.Asked
 reshape-asks κs a = tt
 
@@ -111,6 +119,16 @@ reshape-leaves-out-named κs a r e x = reshaping.named-unshown-promised x
 pub reshape-leaves-source : (κs : _) (a : _) (r : Reshaped) (e : _) → reshape.Learnt κs a r e → r .number ≡ 0 → r .lines ≤ mostRows
     → SoundSource (formatOf (a .0)) (now (a .1 .1 .0)) (take (r .lines * rowBytes (formatOf (a .0))) (now (e .1 .1 .1 .0))) (r .lines)
 reshape-leaves-source κs a r e x = reshaping.sound-promised x
+
+-- where the reshape is accepted, directly beneath each line stand of each child entry as many lines as its source row has closest rows of its type
+pub reshape-shows-children : (κs : _) (a : _) (r : Reshaped) (e : _) → reshape.Learnt κs a r e → r .number ≡ 0
+    → ChildrenShown (formatOf (a .0)) (now (a .1 .0)) (now (a .1 .1 .0)) (take (r .lines * rowBytes (formatOf (a .0))) (now (e .1 .1 .1 .0))) (take (r .lines) (now (e .1 .1 .1 .1 .0)))
+reshape-shows-children κs a r e x = reshaping.children-promised x
+
+-- and these are no fewer and no more than judging says of that entry
+pub reshape-children-between : (κs : _) (a : _) (r : Reshaped) (e : _) → reshape.Learnt κs a r e → r .number ≡ 0
+    → ChildrenBetween (formatOf (a .0)) (now (a .1 .0)) (now (a .1 .1 .0)) (take (r .lines * rowBytes (formatOf (a .0))) (now (e .1 .1 .1 .0))) (take (r .lines) (now (e .1 .1 .1 .1 .0)))
+reshape-children-between κs a r e x = reshaping.between-promised x
 
 pub summarise-asks : Asks-nothing summarise.Asked
 summarise-asks κs a = tt

@@ -81,7 +81,9 @@ pub fn adorn(width: Width, table: &[u8], summaries: &mut [TypeSummary]) -> Adorn
     }
 }
 
-// Judges a table and a shape: refusals 1 to 7, or the verdict and the second answer, which is yes where no pair of entries would earn a 2.
+// Judges a table and a shape: refusals 1 to 7, or the verdict, the second answer, which is yes where no pair of entries would earn a 2, and for
+// each entry but the first how many closest rows there are along its edge: the least and the greatest number of children under a row of its parent
+// entry's type, and of parents of a row of its own. All edges, whatever the verdict; entry 0 and unused entries hold zeros.
 pub fn judge(width: Width, table: &[u8], shape: &[u8]) -> Judged
     ensures { λ r. ⌜ judged r ≡ inNumbers (judge (formatOf width) (now (table .entry)) (now (shape .entry))) ⌝ }
 {
@@ -92,7 +94,8 @@ pub fn judge(width: Width, table: &[u8], shape: &[u8]) -> Judged
 // was. `Reshapes` says so of the answer and of every lent byte and place, and has the buyer's demand: where the verdict on the same table
 // and shape is 0, what the call leaves keeps the links between records, none missing and none made up. Where the second answer is yes, none
 // is made up whatever the verdict. The row that verdict 1 names is in no line of the entry that it names. A new table of at most 1,024 lines
-// is a sound source: no call refuses it with 1 to 4.
+// is a sound source: no call refuses it with 1 to 4. Directly beneath each line stand of each child entry as many lines as its source row has
+// closest rows of that entry's type, and so between the two numbers of children that judging says of it.
 pub fn reshape(
     width: Width,
     table: &[u8],

@@ -19,7 +19,7 @@ use Rattle.tables.specs.Reply.{startOf}
 use Rattle.tables.proofs.Back.{refused-start}
 use Rattle.tables.proofs.Examine.{lookUp-row}
 use Rattle.tables.proofs.Rows.{row-in}
-use Rattle.silmezga_c.specs.Told.{LooksUp, asNumber, fourNumbers}
+use Rattle.silmezga_c.specs.Told.{LooksUp, asNumber, InFour, toldOf, fourNumbers}
 use Rattle.silmezga_c.specs.declared.LookedUp.{LookedUp}
 
 -- ---- look-up
@@ -63,8 +63,11 @@ four y = padded 3 (y .verdict) ++ (asNumber (y .noneApart) ∷ [])
 
 -- a verdict's numbers, made up to three, and the second answer's are those of the reply that they were judged to be
 pub in-four : (j : Judged) (x : Reply Judgement) → judged j ≡ inNumbers x → {v : Verdict} → j .verdict ≡ v → {n : ℕ} → n ≡ asNumber (j .«none_apart»)
-    → record { number = j .number; place = j .place; rest = padded 3 (numbersOf v) ++ (n ∷ []) } ≡ fourNumbers x
+    → toldOf j (padded 3 (numbersOf v) ++ (n ∷ [])) ≡ fourNumbers x
 in-four j x e p q =
-    let told : List ℕ → Reply (List ℕ) = λ l. record { number = j .number; place = j .place; rest = l } in
-    ap₂ (λ v n. told (padded 3 (numbersOf v) ++ (n ∷ []))) (sym p) q
-    ∙ ap {B = Reply (List ℕ)} (λ (y : Reply InNumbers). record { number = y .number; place = y .place; rest = four (y .rest) }) e
+    ap₂ (λ v n. toldOf j (padded 3 (numbersOf v) ++ (n ∷ []))) (sym p) q
+    ∙ ap {B = Reply InFour} (λ (y : Reply InNumbers). record {
+      number = y .number;
+      place = y .place;
+      rest = record { four = four (y .rest); edges = y .rest .edges };
+    }) e

@@ -1,7 +1,7 @@
 -- The contract of each exported call, as this crate's source has it, asks nothing and settles what a caller sees: of any two results that
 -- it allows both are one, and so is what they leave of what was lent. Assumes nothing.
 use Prim.Native.Nat.{ℕ, _*_, _≤_}
-use mathlib.Core.Path.{_≡_, sym, _∙_, ap}
+use mathlib.Core.Path.{_≡_, sym, _∙_, ap, subst}
 use mathlib.Core.Bool.{true}
 use mathlib.Core.List.{List}
 use lib.ListN.{getD, take}
@@ -13,6 +13,8 @@ use Rattle.paper.specs.Links.{LinksKept}
 use Rattle.paper.specs.MadeUp.{NothingMadeUp, unshown}
 use Rattle.paper.specs.Shown.{FiguresAgree}
 use Rattle.paper.specs.Sound.{SoundSource}
+use Rattle.paper.specs.Edges.{EdgesAgree, ChildrenShown, ChildrenBetween}
+use Rattle.paper.proofs.Edges.{judge-agrees}
 use Rattle.adorned.specs.declared.TypeSummary.{TypeSummary}
 use Rattle.adorned.specs.declared.lent.AdornedTypes.{AdornedTypes}
 use Rattle.tables.proofs.Unique as tables
@@ -27,7 +29,7 @@ use Rattle.typed.specs.declared.read.TreeRead.{TreeRead}
 use Rattle.spelling.specs.declared.print.TreePrinted.{TreePrinted}
 use Rattle.silmezga.proofs.Trees.{width-named, read-settled, print-settled}
 use Rattle.silmezga.proofs.Unique.{adorn-unique, moved-settled, converted-settled}
-use Rattle.silmezga_c.specs.Told.{widthOf, formatNumbered, LooksUp, inFour, fourNumbers}
+use Rattle.silmezga_c.specs.Told.{widthOf, formatNumbered, LooksUp, InFour, edgesTold, inFour, fourNumbers}
 use Rattle.silmezga_c.specs.declared.LookedUp.{LookedUp}
 use Rattle.silmezga_c.specs.declared.JudgedNumbers.{JudgedNumbers}
 use Rattle.silmezga_c.proofs.silmezga_examine.Reads as examine
@@ -79,14 +81,18 @@ adorn-settled M 𝓤 H A mem run κs a g r s e f =
 judge-unique : (f : Format) (t s : List ℕ) (a b : JudgedNumbers) → inFour a ≡ fourNumbers (judge f t s) → inFour b ≡ fourNumbers (judge f t s) → a ≡ b
 judge-unique f t s a b p q =
     let e : inFour a ≡ inFour b = p ∙ sym q in
-    let at : (k : ℕ) → getD (inFour a .rest) k 0 ≡ getD (inFour b .rest) k 0 = λ k. ap (λ (x : Reply (List ℕ)). getD (x .rest) k 0) e in
+    let at : (k : ℕ) → getD (inFour a .rest .four) k 0 ≡ getD (inFour b .rest .four) k 0 = λ k. ap (λ (x : Reply InFour). getD (x .rest .four) k 0) e in
     λ i. record {
-      number = ap (λ (x : Reply (List ℕ)). x .number) e i;
-      place = ap (λ (x : Reply (List ℕ)). x .place) e i;
+      number = ap (λ (x : Reply InFour). x .number) e i;
+      place = ap (λ (x : Reply InFour). x .place) e i;
       verdict = at 0 i;
       first = at 1 i;
       second = at 2 i;
       «none_apart» = at 3 i;
+      «least_children» = ap (λ (x : Reply InFour). x .rest .edges .leastChildren) e i;
+      «greatest_children» = ap (λ (x : Reply InFour). x .rest .edges .greatestChildren) e i;
+      «least_parents» = ap (λ (x : Reply InFour). x .rest .edges .leastParents) e i;
+      «greatest_parents» = ap (λ (x : Reply InFour). x .rest .edges .greatestParents) e i;
     }
 
 pub judge-asks : Asks-nothing judge-call.Asked
@@ -94,6 +100,13 @@ judge-asks κs a = tt
 
 pub judge-settled : Settles judge-call.Learnt (λ κs r e. r)
 judge-settled κs a r s e f = judge-unique (formatNumbered (a .0)) (now (a .1 .0)) (now (a .1 .1 .0)) r s
+
+-- where judging is accepted, the numbers of each edge agree with rows and verdict
+pub judge-edges-agree : (κs : _) (a : _) (r : JudgedNumbers) (e : _) → judge-call.Learnt κs a r e → r .number ≡ 0
+    → EdgesAgree (formatNumbered (a .0)) (now (a .1 .0)) (now (a .1 .1 .0)) (edgesTold r)
+judge-edges-agree κs a r e x accepted =
+    subst (EdgesAgree (formatNumbered (a .0)) (now (a .1 .0)) (now (a .1 .1 .0))) (sym (ap (λ (x : Reply InFour). x .rest .edges) x))
+    (judge-agrees _ _ _ (sym (ap (λ (x : Reply InFour). x .number) x) ∙ accepted))
 
 -- ---- reshaping: the answer, and every lent byte and place after it
 pub reshape-asks : Asks-nothing reshape.Asked
@@ -126,6 +139,16 @@ reshape-leaves-out-named κs a r e x = reshaping.named-unshown-promised x
 pub reshape-leaves-source : (κs : _) (a : _) (r : Reshaped) (e : _) → reshape.Learnt κs a r e → r .number ≡ 0 → r .lines ≤ mostRows
     → SoundSource (formatNumbered (a .0)) (now (a .1 .1 .0)) (take (r .lines * rowBytes (formatNumbered (a .0))) (now (e .1 .1 .1 .0))) (r .lines)
 reshape-leaves-source κs a r e x = reshaping.sound-promised x
+
+-- where the reshape is accepted, directly beneath each line stand of each child entry as many lines as its source row has closest rows of its type
+pub reshape-shows-children : (κs : _) (a : _) (r : Reshaped) (e : _) → reshape.Learnt κs a r e → r .number ≡ 0
+    → ChildrenShown (formatNumbered (a .0)) (now (a .1 .0)) (now (a .1 .1 .0)) (take (r .lines * rowBytes (formatNumbered (a .0))) (now (e .1 .1 .1 .0))) (take (r .lines) (now (e .1 .1 .1 .1 .0)))
+reshape-shows-children κs a r e x = reshaping.children-promised x
+
+-- and these are no fewer and no more than judging says of that entry
+pub reshape-children-between : (κs : _) (a : _) (r : Reshaped) (e : _) → reshape.Learnt κs a r e → r .number ≡ 0
+    → ChildrenBetween (formatNumbered (a .0)) (now (a .1 .0)) (now (a .1 .1 .0)) (take (r .lines * rowBytes (formatNumbered (a .0))) (now (e .1 .1 .1 .0))) (take (r .lines) (now (e .1 .1 .1 .1 .0)))
+reshape-children-between κs a r e x = reshaping.between-promised x
 
 pub summarise-asks : Asks-nothing summarise.Asked
 summarise-asks κs a = tt

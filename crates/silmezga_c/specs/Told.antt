@@ -8,11 +8,14 @@ use lib.ListN.{length, take, drop}
 use Rattle.paper.specs.Lists.{padded}
 use Rattle.paper.specs.Format.{Format}
 use Rattle.paper.specs.Widths.{formatOf}
+use Rattle.paper.specs.Partners.{EdgeNumbers}
 use Rattle.paper.specs.Verdict.{Judgement, verdictNumbers}
 use Rattle.paper.specs.Calls.{Reply, lookUp}
 use Rattle.paper.specs.declared.Width.{Width}
 use Rattle.paper.specs.declared.Width.the-variants.{Six, Eight}
 use Rattle.tables.specs.Reply.{startOf}
+use Rattle.judging.specs.Judged.{edgesOf}
+use Rattle.judging.specs.declared.judge.Judged.{Judged}
 use Rattle.silmezga_c.specs.declared.LookedUp.{LookedUp}
 use Rattle.silmezga_c.specs.declared.JudgedNumbers.{JudgedNumbers}
 
@@ -36,14 +39,38 @@ abbrev pub asNumber : Bool → ℕ
 asNumber true = 1
 asNumber false = 0
 
--- number, place, the three numbers of a verdict, and that of the second answer
-abbrev pub inFour : JudgedNumbers → Reply (List ℕ)
-inFour r = record { number = r .number; place = r .place; rest = r .verdict ∷ r .first ∷ r .second ∷ r .«none_apart» ∷ [] }
+-- the three numbers of a verdict and that of the second answer, and the numbers of each edge
+pub record InFour : Type 0 where
+  pub four : List ℕ
+  pub edges : EdgeNumbers
+
+-- the numbers of each edge, as they are told
+abbrev pub edgesTold : JudgedNumbers → EdgeNumbers
+edgesTold r = record {
+  leastChildren = r .«least_children»;
+  greatestChildren = r .«greatest_children»;
+  leastParents = r .«least_parents»;
+  greatestParents = r .«greatest_parents»;
+}
+
+abbrev pub inFour : JudgedNumbers → Reply InFour
+inFour r = record {
+  number = r .number;
+  place = r .place;
+  rest = record { four = r .verdict ∷ r .first ∷ r .second ∷ r .«none_apart» ∷ []; edges = edgesTold r };
+}
+
+-- what was judged, with these four numbers
+abbrev pub toldOf : Judged → List ℕ → Reply InFour
+toldOf j four = record { number = j .number; place = j .place; rest = record { four = four; edges = edgesOf j } }
 
 -- a reply with a judgement, in numbers: document 01's number of the verdict and its values, zeros where it has none, and the second answer
-abbrev pub fourNumbers : Reply Judgement → Reply (List ℕ)
+abbrev pub fourNumbers : Reply Judgement → Reply InFour
 fourNumbers r = record {
   number = r .number;
   place = r .place;
-  rest = padded 3 (verdictNumbers (r .rest .verdict)) ++ (asNumber (r .rest .noneApart) ∷ []);
+  rest = record {
+    four = padded 3 (verdictNumbers (r .rest .verdict)) ++ (asNumber (r .rest .noneApart) ∷ []);
+    edges = r .rest .edges;
+  };
 }

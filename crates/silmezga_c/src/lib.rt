@@ -7,6 +7,7 @@ use adorned::lent::AdornedTypes;
 use reshaping::reshape::Reshaped;
 use reshaping::summarise::Summary;
 use silmezga::Converted;
+use silmezga::Judged;
 use silmezga::Moved;
 use silmezga::TreePrinted;
 use silmezga::TreeRead;
@@ -28,7 +29,7 @@ ghost use Rattle.widths.specs.Answers.{Moves};
 ghost use Rattle.labels.specs.Answers.{Converts};
 ghost use Rattle.typed.specs.Read.{ReadsTree};
 ghost use Rattle.spelling.specs.Printed.{Prints};
-ghost use Rattle.silmezga_c.specs.Told.{widthOf, formatNumbered, LooksUp, asNumber, inFour, fourNumbers};
+ghost use Rattle.silmezga_c.specs.Told.{widthOf, formatNumbered, LooksUp, asNumber, inFour, toldOf, fourNumbers};
 
 // The width that a number names.
 fn width_of(number: u32) -> Width
@@ -107,8 +108,9 @@ pub extern "C" fn silmezga_adorn(
     silmezga::adorn(width_of(width), table, summaries)
 }
 
-// What judging answers: a refusal, or document 01's number of the verdict and its two values, zeros for verdict 0, and the second answer, 1
-// for yes and 0 for no.
+// What judging answers: a refusal, or document 01's number of the verdict and its two values, zeros for verdict 0, the second answer, 1 for
+// yes and 0 for no, and for each entry but the first the least and the greatest number of children under a row of its parent entry's type, and of
+// parents of a row of its own; entry 0 and unused entries hold zeros.
 #[repr(C)]
 pub struct JudgedNumbers {
     pub number: usize,
@@ -117,25 +119,31 @@ pub struct JudgedNumbers {
     pub first: usize,
     pub second: usize,
     pub none_apart: usize,
+    pub least_children: [usize; 16],
+    pub greatest_children: [usize; 16],
+    pub least_parents: [usize; 16],
+    pub greatest_parents: [usize; 16],
 }
 
-fn in_numbers(
-    number: usize,
-    place: usize,
-    verdict: usize,
-    first: usize,
-    second: usize,
-    none: usize,
-) -> JudgedNumbers
-    ensures { λ r. ⌜ inFour r ≡ record { number = number; place = place; rest = verdict ∷ first ∷ second ∷ none ∷ [] } ⌝ }
+// What was judged, with the verdict and the second answer in these numbers.
+fn in_numbers(j: Judged, verdict: usize, first: usize, second: usize, none: usize) -> JudgedNumbers
+    ensures { λ r. ⌜ inFour r ≡ toldOf j (verdict ∷ first ∷ second ∷ none ∷ []) ⌝ }
 {
+    let least_children = j.least_children;
+    let greatest_children = j.greatest_children;
+    let least_parents = j.least_parents;
+    let greatest_parents = j.greatest_parents;
     JudgedNumbers {
-        number: number,
-        place: place,
+        number: j.number,
+        place: j.place,
         verdict: verdict,
         first: first,
         second: second,
         none_apart: none,
+        least_children: least_children,
+        greatest_children: greatest_children,
+        least_parents: least_parents,
+        greatest_parents: greatest_parents,
     }
 }
 
@@ -149,28 +157,27 @@ fn as_number(yes: bool) -> usize
     0
 }
 
-// Refusals 1 to 7, or the verdict and the second answer in numbers.
+// Refusals 1 to 7, or the verdict and the second answer in numbers, and the numbers of each edge.
 #[no_mangle]
 pub extern "C" fn silmezga_judge(width: u32, table: &[u8], shape: &[u8]) -> JudgedNumbers
     ensures { λ r. ⌜ inFour r ≡ fourNumbers (judge (formatNumbered width) (now (table .entry)) (now (shape .entry))) ⌝ }
 {
     let j = silmezga::judge(width_of(width), table, shape);
-    let number = j.number;
-    let place = j.place;
     let verdict = j.verdict;
     let none = as_number(j.none_apart);
     match verdict {
-        Verdict::Kept => in_numbers(number, place, 0, 0, 0, none),
-        Verdict::Missing { entry, row } => in_numbers(number, place, 1, entry, row, none),
-        Verdict::Apart { first, second } => in_numbers(number, place, 2, first, second, none),
-        Verdict::Unsure { first, second } => in_numbers(number, place, 3, first, second, none),
+        Verdict::Kept => in_numbers(j, 0, 0, 0, none),
+        Verdict::Missing { entry, row } => in_numbers(j, 1, entry, row, none),
+        Verdict::Apart { first, second } => in_numbers(j, 2, first, second, none),
+        Verdict::Unsure { first, second } => in_numbers(j, 3, first, second, none),
     }
 }
 
 // Refusals 1 to 8, or the new table and its source list, at the front of what was lent; what lies past them stays as it was. Where the
 // verdict on the same table and shape is 0, what the call leaves keeps the links between records, none missing and none made up. Where the
 // second answer is yes, none is made up whatever the verdict. The row that verdict 1 names is in no line of the entry that it names. A new
-// table of at most 1,024 lines is a sound source: no call refuses it with 1 to 4.
+// table of at most 1,024 lines is a sound source: no call refuses it with 1 to 4. Directly beneath each line stand of each child entry as many lines as
+// its source row has closest rows of that entry's type, and so between the two numbers of children that judging says of it.
 #[no_mangle]
 pub extern "C" fn silmezga_reshape(
     width: u32,

@@ -37,8 +37,16 @@ pub fn find_type(parents: &[u8], labels: &[u16], count: usize, p: u8, a: u16) ->
     count
 }
 
-// A listed type with this parent and label, count for none. It is looked for at a guess first.
-fn find_near(parents: &[u8], labels: &[u16], count: usize, p: u8, a: u16, guess: usize) -> usize
+// A listed type with this parent and label, count for none. It is looked for at two guesses first.
+fn find_near(
+    parents: &[u8],
+    labels: &[u16],
+    count: usize,
+    p: u8,
+    a: u16,
+    guess: usize,
+    other: usize,
+) -> usize
     requires { ⌜ (count ≤ length (now parents)) × (count ≤ length (now labels)) ⌝ }
     ensures { λ r. ⌜ FoundNear (now (parents .entry)) (now (labels .entry)) count p a r ⌝ }
 {
@@ -49,11 +57,20 @@ fn find_near(parents: &[u8], labels: &[u16], count: usize, p: u8, a: u16, guess:
             }
         }
     }
+    if other < count {
+        if parents[other] == p {
+            if labels[other] == a {
+                return other;
+            }
+        }
+    }
     find_type(parents, labels, count, p, a)
 }
 
 // The type list of a table that keeps the row rules, and each row's type number in the lent list. What came last after a row of the same
-// type is the guess for a row's type: `after` has it for each type, and for none before the first row.
+// type is the first guess for a row's type: `after` has it for each type, and for none before the first row. Where rows follow each other
+// without a pattern this guess is mostly wrong, and a search is dear: the second guess is the last type that is listed at the place of the
+// row's parent and label in `near`.
 pub fn list_types(table: &[u8], f: Format, rows: usize, types: &mut [u8]) -> Types
     requires { ⌜ (rows ≡ whole (rowBytes f) (now table)) × (rows ≤ mostRows) × (f .levels ≤ 8) ⌝ }
     requires { ⌜ (badRow f (Tables.rows f (now table)) ≡ none) × (length (now types) ≡ mostRows) ⌝ }
@@ -66,6 +83,7 @@ pub fn list_types(table: &[u8], f: Format, rows: usize, types: &mut [u8]) -> Typ
     stack[0] = 64;
     let mut after = [0u8; 65];
     let mut last = 64;
+    let mut near = [0u8; 512];
     let mut count = 0;
     let mut i = 0;
     while i < rows {
@@ -73,8 +91,10 @@ pub fn list_types(table: &[u8], f: Format, rows: usize, types: &mut [u8]) -> Typ
         let l = bytes::wide(row[0]);
         let a = bytes::word(row, 2) as u16;
         let p = stack[l - 1];
+        let at = (8 * bytes::wide(p) + bytes::wide16(a)) % 512;
         let guess = bytes::wide(after[last]);
-        let k = find_near(&parents, &labels, count, p, a, guess);
+        let other = bytes::wide(near[at]);
+        let k = find_near(&parents, &labels, count, p, a, guess, other);
         if k < count {
             types[i] = k as u8;
             stack[l] = k as u8;
@@ -97,6 +117,7 @@ pub fn list_types(table: &[u8], f: Format, rows: usize, types: &mut [u8]) -> Typ
             types[i] = count as u8;
             stack[l] = count as u8;
             after[last] = count as u8;
+            near[at] = count as u8;
             last = count;
             count += 1;
             i += 1;

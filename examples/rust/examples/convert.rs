@@ -1,7 +1,7 @@
 //! Shows how the labels of stored files are converted: a small table and its shape, stored when labels went to 999.
 //!
 //! By hand, in examples/rust: SILMEZGA_LIB=$PWD/../../target/staticlib cargo run --example convert
-use silmezga::{Refusal, Width};
+use silmezga::{Edges, Refusal, Width};
 
 /// A portfolio with label 1, and beneath it two machines with label 400 (which is 144 + 256), the first over a meter with label 6.
 #[rustfmt::skip]
@@ -36,9 +36,14 @@ fn converted(pairs: &[u16], table: &mut [u8], shape: &mut [u8]) -> String {
 }
 
 fn judged(table: &[u8], shape: &[u8]) -> String {
-    told(silmezga::judge(Width::Six, table, shape).map(|judgement| match judgement.verdict {
-        silmezga::Verdict::Kept => "verdict 0".to_string(),
-        other => format!("{:?}", other),
+    told(silmezga::judge(Width::Six, table, shape).map(|judgement| {
+        let verdict = match judgement.verdict {
+            silmezga::Verdict::Kept => "verdict 0".to_string(),
+            other => format!("{:?}", other),
+        };
+        let Edges { least_children, greatest_children, least_parents, greatest_parents } = judgement.edges;
+        let (children, parents) = ((least_children[1], greatest_children[1]), (least_parents[1], greatest_parents[1]));
+        format!("{}, edge 1: children {}..{} parents {}..{}", verdict, children.0, children.1, parents.0, parents.1)
     }))
 }
 

@@ -3,7 +3,7 @@
 //! The wide files source8.tab and shape8.tab in the folder where source8.tab opens, else the narrow ones, source.tab and shape.tab.
 //!
 //! By hand, in examples/rust: SILMEZGA_LIB=$PWD/../../target/staticlib cargo run --example show -- ../../samples/p4
-use silmezga::{Judgement, Refusal, TypeSummary, Verdict, Width};
+use silmezga::{Edges, Judgement, Refusal, TypeSummary, Verdict, Width};
 use std::{env, fs, path::Path, process};
 
 /// A table and a shape of one width.
@@ -61,6 +61,17 @@ fn none_apart(judgement: Judgement) -> &'static str {
     }
 }
 
+/// The numbers of each edge: of children under a row of the parent entry's type, of parents of a row of the entry's own. Entry 0 has none.
+fn edges(edges: &Edges, entries: usize) -> String {
+    let line = |e: usize| {
+        format!(
+            "  edge {}: children {}..{} parents {}..{}\n",
+            e, edges.least_children[e], edges.greatest_children[e], edges.least_parents[e], edges.greatest_parents[e]
+        )
+    };
+    (1..entries).map(line).collect()
+}
+
 fn judged(read: &Files) -> Result<String, Refusal> {
     let judgement = silmezga::judge(read.width, &read.table, &read.shape)?;
     let verdict = match judgement.verdict {
@@ -69,7 +80,7 @@ fn judged(read: &Files) -> Result<String, Refusal> {
         Verdict::Apart { first, second } => format!("judge: verdict 2, entries {} and {}\n", first, second),
         Verdict::Unsure { first, second } => format!("judge: verdict 3, entries {} and {}\n", first, second),
     };
-    Ok(verdict + none_apart(judgement))
+    Ok(verdict + none_apart(judgement) + &edges(&judgement.edges, read.shape.len() / read.width.entry_bytes()))
 }
 
 fn reshaped(read: &Files) -> Result<String, Refusal> {

@@ -4,7 +4,7 @@
 //! from that line.
 //!
 //! By hand, in examples/rust: SILMEZGA_LIB=$PWD/../../target/staticlib cargo run --example tree -- ../../samples/p4 'lease [ lessee asset ]'
-use silmezga::{Refusal, Verdict, Width};
+use silmezga::{Judgement, Refusal, Verdict, Width};
 use std::{env, fs, path::Path, process};
 
 /// An answer in words, or the refusal.
@@ -27,14 +27,22 @@ fn printed(width: Width, shape: &[u8]) -> Result<String, Refusal> {
     Ok(String::from_utf8_lossy(&line[..bytes]).into_owned())
 }
 
+/// The verdict, and on lines of their own the numbers of each edge.
 fn judged(width: Width, table: &[u8], shape: &[u8]) -> Result<String, Refusal> {
-    let verdict = match silmezga::judge(width, table, shape)?.verdict {
+    let Judgement { verdict, edges, .. } = silmezga::judge(width, table, shape)?;
+    let verdict = match verdict {
         Verdict::Kept => 0,
         Verdict::Missing { .. } => 1,
         Verdict::Apart { .. } => 2,
         Verdict::Unsure { .. } => 3,
     };
-    Ok(format!("verdict {}", verdict))
+    let line = |e: usize| {
+        format!(
+            "\n  edge {}: children {}..{} parents {}..{}",
+            e, edges.least_children[e], edges.greatest_children[e], edges.least_parents[e], edges.greatest_parents[e]
+        )
+    };
+    Ok(format!("verdict {}", verdict) + &(1..shape.len() / width.entry_bytes()).map(line).collect::<String>())
 }
 
 fn show_tree(width: Width, table: &[u8], text: &str) {

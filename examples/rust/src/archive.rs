@@ -25,6 +25,10 @@ pub struct Judged {
     pub first: usize,
     pub second: usize,
     pub none_apart: usize,
+    pub least_children: [usize; MOST_ENTRIES],
+    pub greatest_children: [usize; MOST_ENTRIES],
+    pub least_parents: [usize; MOST_ENTRIES],
+    pub greatest_parents: [usize; MOST_ENTRIES],
 }
 
 #[repr(C)]

@@ -95,6 +95,17 @@ pub enum Verdict {
     Unsure { first: usize, second: usize },
 }
 
+/// For each of 16 entries the numbers of its edge, which joins it to its parent entry. The children of a row of the parent entry's type are the rows
+/// of the entry's type closest to it, the parents of a row of the entry's type the rows of the parent entry's type closest to it. Least and
+/// greatest are over all rows of the type, also those that have none. Zeros for entry 0, past the last entry, and where the two types do not meet.
+#[derive(Clone, Copy, Debug, PartialEq, Eq)]
+pub struct Edges {
+    pub least_children: [usize; MOST_ENTRIES],
+    pub greatest_children: [usize; MOST_ENTRIES],
+    pub least_parents: [usize; MOST_ENTRIES],
+    pub greatest_parents: [usize; MOST_ENTRIES],
+}
+
 /// What judging says of a table and a shape.
 #[derive(Clone, Copy, Debug, PartialEq, Eq)]
 pub struct Judgement {
@@ -103,6 +114,8 @@ pub struct Judgement {
     /// lines of different entries that hang under, or are, one line of their fork entry have closest source rows. It holds one way only:
     /// where it is not so, nothing need be made up.
     pub none_apart: bool,
+    /// The numbers of all edges, whatever the verdict.
+    pub edges: Edges,
 }
 
 /// For each of 16 entries its lines, the source rows of its type, copies, and the different source rows that appear in its lines. Copies
@@ -152,7 +165,7 @@ pub fn adorn(width: Width, table: &[u8], summaries: &mut [TypeSummary]) -> Resul
     accepted(a.number, a.place, a.count)
 }
 
-/// Judges a table and a shape: refusals 1 to 7, or the verdict and the second answer.
+/// Judges a table and a shape: refusals 1 to 7, or the verdict, the second answer, and four numbers of each edge.
 pub fn judge(width: Width, table: &[u8], shape: &[u8]) -> Result<Judgement, Refusal> {
     let a = unsafe { archive::silmezga_judge(width, table.as_ptr(), table.len(), shape.as_ptr(), shape.len()) };
     let (first, second) = (a.first, a.second);
@@ -162,7 +175,13 @@ pub fn judge(width: Width, table: &[u8], shape: &[u8]) -> Result<Judgement, Refu
         2 => Verdict::Apart { first, second },
         _ => Verdict::Unsure { first, second },
     };
-    accepted(a.number, a.place, Judgement { verdict, none_apart: a.none_apart == 1 })
+    let edges = Edges {
+        least_children: a.least_children,
+        greatest_children: a.greatest_children,
+        least_parents: a.least_parents,
+        greatest_parents: a.greatest_parents,
+    };
+    accepted(a.number, a.place, Judgement { verdict, none_apart: a.none_apart == 1, edges })
 }
 
 /// Reshapes a table: refusals 1 to 8, or the number of lines, which then stand at the front of `new`, and entry x 65,536 + source row of
@@ -225,7 +244,7 @@ pub fn narrow_shape(shape: &[u8], new: &mut [u8]) -> Result<usize, Refusal> {
 /// 5 and 6 with labels to 999, 25 with the first pair to break a rule, 26 with the first row, else the first entry, that has a label above 99 which
 /// is not in the list, and 29 where fewer bytes are lent than the table or the shape has. Else both files stand at the front of what was lent, each
 /// as long as it was, and what lies past them stays as it was. Types stay equal or different, closest rows stay closest, and verdict, second
-/// answer, summary, source list and lines are those of the old files, the lines with their labels converted.
+/// answer, numbers of edges, summary, source list and lines are those of the old files, the lines with their labels converted.
 pub fn convert_labels(
     width: Width,
     table: &[u8],

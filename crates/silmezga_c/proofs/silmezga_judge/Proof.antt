@@ -1,14 +1,13 @@
 -- `silmezga_c::silmezga_judge` meets its contract. Assumes nothing.
-use Prim.Native.Nat.{ℕ}
 use mathlib.Core.Path.{_≡_, _∙_, subst}
-use mathlib.Core.List.{List, [], _∷_, _++_}
+use mathlib.Core.List.{[], _∷_, _++_}
 use Rattle.paper.specs.Lists.{padded}
 use Rattle.paper.specs.Widths.{formatOf}
 use Rattle.paper.specs.Calls.{Reply, judge}
 use Rattle.judging.specs.Told.{numbersOf}
 use Rattle.judging.specs.Judged.{judged, inNumbers}
 use Rattle.judging.specs.declared.verdict.Verdict.{Verdict}
-use Rattle.silmezga_c.specs.Told.{formatNumbered, fourNumbers}
+use Rattle.silmezga_c.specs.Told.{formatNumbered, InFour, toldOf, fourNumbers}
 use Rattle.silmezga_c.proofs.Told.{in-four}
 use borrow.Author.Needs.{needs}
 use Rattle.silmezga_c.proofs.silmezga_judge.Statement.{statement}
@@ -18,10 +17,8 @@ abbrev begun : tie.After-as-number → tie.Start
 begun c = c .before .before .before .before .before
 
 -- what is told of a verdict, where the second answer is a number
-abbrev numbers : tie.After-as-number → Verdict → Reply (List ℕ)
-numbers c v =
-    let j = c .before .judge .result in
-    record { number = j .number; place = j .place; rest = padded 3 (numbersOf v) ++ (c .as-number .result ∷ []) }
+abbrev numbers : tie.After-as-number → Verdict → Reply InFour
+numbers c v = toldOf (c .before .judge .result) (padded 3 (numbersOf v) ++ (c .as-number .result ∷ []))
 
 -- told of the verdict that judging gave, it is what the contract says
 told : (c : tie.After-as-number) {v : Verdict} → c .before .judge .result .verdict ≡ v

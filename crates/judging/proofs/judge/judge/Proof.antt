@@ -3,6 +3,7 @@ use mathlib.Core.Path.{refl, sym, _∙_, ap}
 use Rattle.shapes.specs.Work.{Work, Ready, workOf}
 use Rattle.judging.specs.Told.{told}
 use Rattle.judging.specs.Judged.{inNumbers}
+use Rattle.judging.proofs.Edges.{Long, edges-are, fulls-are}
 use Rattle.judging.proofs.Found.{not-kept}
 use Rattle.judging.proofs.Whole.{room, alone-verdict, pair-verdict, judge-refused, judge-given, answered}
 use borrow.Author.Needs.{needs}
@@ -31,9 +32,23 @@ ready u = prepared u .prepare .ensures .ready (u .if1 .left)
 abbrev walked : tie.After-first-lone → tie.After-walk-edges
 walked c = c .before .before .before
 
--- where no row is without a partner
-abbrev searched : tie.After-meetings3 → tie.After-enum-told
-searched c = c .before .before .before
+-- where no row is without a partner, and full edges are told
+abbrev told-full : tie.After-meetings3 → tie.After-full-edges
+told-full c = c .before .before
+
+abbrev searched : tie.After-full-edges → tie.After-enum-told
+searched c = c .before .before
+
+-- each of the four lists has 16 places
+long : (c : tie.After-walk-edges) → Long (c .walk-edges .result)
+long c =
+    let ok = c .walk-edges .ok in
+    record {
+      least-children = search needs;
+      greatest-children = search needs;
+      least-parents = search needs;
+      greatest-parents = search needs;
+    }
 
 slice-aggregate-prepare : tie.Need-slice-aggregate-prepare
 slice-aggregate-prepare c = search needs
@@ -50,8 +65,13 @@ slice-aggregate-prepare-4 c = search needs
 prepare-requires : tie.Need-prepare-requires
 prepare-requires c κs = (search needs, record { levels-long = refl; types-long = refl; none-met = refl; ways-long = refl })
 
+refused-requires : tie.Need-refused-requires
+refused-requires c κs = search needs
+
 returns : tie.Need-returns
-returns c = ap inNumbers (judge-refused (c .before .before .before .before .before .prepare .ensures) (c .if1 .taken))
+returns c =
+    let u = c .before in
+    c .refused .ensures ∙ ap inNumbers (judge-refused (u .before .before .before .before .before .prepare .ensures) (u .if1 .taken))
 
 slice-aggregate-walk-edges : tie.Need-slice-aggregate-walk-edges
 slice-aggregate-walk-edges c = search needs
@@ -77,6 +97,9 @@ first-lone-requires c κs =
 enum-told : tie.Need-enum-told
 enum-told c = search needs
 
+full-edges-requires : tie.Need-full-edges-requires
+full-edges-requires c κs = search needs
+
 slice-aggregate-first-fault : tie.Need-slice-aggregate-first-fault
 slice-aggregate-first-fault c = search needs
 
@@ -85,7 +108,7 @@ slice-aggregate-first-fault-2 c = search needs
 
 first-fault-requires : tie.Need-first-fault-requires
 first-fault-requires c κs =
-    let u = tested (walked (searched c .before .before) .before) in
+    let u = tested (walked (searched (told-full c) .before .before) .before) in
     (room (ready u) (sym (slice-aggregate-first-fault (c .before))), sym (slice-aggregate-first-fault-2 c))
 
 slice-aggregate-none-apart-beside : tie.Need-slice-aggregate-none-apart-beside
@@ -97,10 +120,11 @@ slice-aggregate-none-apart-beside-2 c = search needs
 none-apart-beside-requires : tie.Need-none-apart-beside-requires
 none-apart-beside-requires c κs =
     let v = c .before .before in
-    let e = walked (searched (v .before) .before .before) in (
+    let g = told-full (v .before) in
+    let e = walked (searched g .before .before) in (
       room (ready (tested (e .before))) (sym (slice-aggregate-none-apart-beside (c .before))),
       sym (slice-aggregate-none-apart-beside-2 c),
-      (e .walk-edges .result .full, v .first-fault .ensures),
+      (g .full-edges .result, v .first-fault .ensures),
     )
 
 given-requires : tie.Need-given-requires
@@ -124,26 +148,31 @@ returns-2 : tie.Need-returns-2
 returns-2 c =
     let o = c .before in
     let v = o .before .before .before in
-    let k = searched (v .before) in
+    let g = told-full (v .before) in
+    let k = searched g in
     let l = k .before .before in
     let e = walked l in
     let u = tested (e .before) in
-    answered (c .given .result) (v .first-fault .result) (o .none-apart-beside .result) _ (c .given .ensures)
-    (judge-given (prepared u .prepare .ensures) (u .if1 .left) _ _
+    let found = e .walk-edges .result in
+    answered (c .given .result) (v .first-fault .result) (o .none-apart-beside .result) found _ (c .given .ensures)
+    (judge-given (prepared u .prepare .ensures) (u .if1 .left) _ _ _
     (v .first-fault .ensures
-    ∙ pair-verdict (ready u) (e .walk-edges .result) (e .walk-edges .ensures) (sym (l .first-lone .ensures) ∙ ap told (k .enum-told .given .1)))
-    (o .none-apart-beside .ensures))
+    ∙ pair-verdict (ready u) (g .full-edges .result) (fulls-are (ready u) found (e .walk-edges .ensures) (g .full-edges .result) (g .full-edges .ensures))
+    (sym (l .first-lone .ensures) ∙ ap told (k .enum-told .given .1)))
+    (o .none-apart-beside .ensures) (edges-are (ready u) found (e .walk-edges .ensures) (long e)))
 
 returns-3 : tie.Need-returns-3
 returns-3 c =
     let o = c .before in
     let m = o .before .before .before in
     let l = m .before in
-    let u = tested (walked l .before) in
-    answered (c .given2 .result) (l .first-lone .result) (o .none-apart .result) _ (c .given2 .ensures)
-    (judge-given (prepared u .prepare .ensures) (u .if1 .left) _ _
+    let e = walked l in
+    let u = tested (e .before) in
+    let found = e .walk-edges .result in
+    answered (c .given2 .result) (l .first-lone .result) (o .none-apart .result) found _ (c .given2 .ensures)
+    (judge-given (prepared u .prepare .ensures) (u .if1 .left) _ _ _
     (alone-verdict (ready u) (told (l .first-lone .result)) (l .first-lone .ensures) (not-kept (l .first-lone .result) (m .match .keys2)))
-    (o .none-apart .ensures))
+    (o .none-apart .ensures) (edges-are (ready u) found (e .walk-edges .ensures) (long e)))
 
 pub judge-spec : {M : Type 1} → statement M
 judge-spec =
@@ -154,6 +183,7 @@ judge-spec =
     slice-aggregate-prepare-3
     slice-aggregate-prepare-4
     prepare-requires
+    refused-requires
     returns
     slice-aggregate-walk-edges
     slice-aggregate-walk-edges-2
@@ -162,6 +192,7 @@ judge-spec =
     slice-aggregate-first-lone-2
     first-lone-requires
     enum-told
+    full-edges-requires
     slice-aggregate-first-fault
     slice-aggregate-first-fault-2
     first-fault-requires

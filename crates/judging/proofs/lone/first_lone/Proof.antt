@@ -7,11 +7,10 @@ use mathlib.Core.Logic.{⊎-elim}
 use borrow.Author.Needs.{needs}
 use Rattle.paper.specs.Verdict.{Verdict}
 use Rattle.shapes.specs.Shape.{typeOf, parentOf, edgeOf}
+use Rattle.partners.specs.Edges.{MetBefore}
 use Rattle.judging.specs.Told.{told}
-use Rattle.judging.specs.Edges.{MetBefore}
 use Rattle.judging.specs.declared.verdict.Verdict.the-variants.{Kept}
-use Rattle.judging.proofs.Walk.{before-none}
-use Rattle.judging.proofs.Search.{Candidates, candidates-here, candidates-on, entriesFrom, entries-met, entry-none}
+use Rattle.judging.proofs.Search.{before-none, Candidates, candidates-here, candidates-on, entriesFrom, entries-met, entry-none}
 use Rattle.judging.proofs.Search.{Stands, Asked, Done, done-before, standing, done-other, done-partnered, done-alone, done-all}
 use Rattle.judging.proofs.lone.first_lone.Statement.{statement}
 use Rattle.judging.proofs.lone.first_lone.Tie as tie

@@ -1,81 +1,59 @@
 -- `list::list_types`: after i rows their types are listed. Assumes nothing.
 use Prim.Native.Nat.{ℕ, _-_, _<_, _≤_}
 use native.Mathlib.Omega.{arith}
-use mathlib.Core.Path.{_≡_, refl, _∙_, ap, subst}
-use Rattle.paper.specs.Format.{Format, rowBytes, byte, word, whole}
-use Rattle.paper.specs.Tables as Tables
+use mathlib.Core.Path.{_≡_, refl}
+use mathlib.Core.List.{List}
+use Rattle.paper.specs.Format.{rowBytes, byte, word, whole}
 use Rattle.paper.proofs.Calls.{count-rows}
 use Rattle.tables.proofs.Rows.{rec, row-in}
-use Rattle.types.specs.Types.{Lists}
 use Rattle.types.proofs.Listed.{Walk, walk-start, lists-end, l-pos, l-fits, walk-known, walk-new, walk-full}
 use borrow.Author.Needs.{needs}
 use Rattle.types.proofs.list.list_types.Statement.{statement}
 use Rattle.types.proofs.list.list_types.Tie as tie
 
 abbrev Inv-loop : tie.InvT-loop
-Inv-loop t f rows types₀ first₀ parents₀ labels₀ stack₀ after₀ last₀ count₀ i₀ types first parents labels stack after last count i =
+Inv-loop t f rows types₀ first₀ parents₀ labels₀ stack₀ after₀ last₀ near₀ count₀ i₀ types first parents labels stack after last near count i =
     (i ≤ rows) × Walk f t i count types first parents labels stack × (last ≤ 64)
 
 abbrev μ-loop : tie.MeasureT-loop
-μ-loop t f rows types₀ first₀ parents₀ labels₀ stack₀ after₀ last₀ count₀ i₀ types first parents labels stack after last count i = rows - i
+μ-loop t f rows types₀ first₀ parents₀ labels₀ stack₀ after₀ last₀ near₀ count₀ i₀ types first parents labels stack after last near count i = rows - i
 
 abbrev begun : tie.At-loop Inv-loop μ-loop → tie.Start Inv-loop μ-loop
 begun l = l .before .before .before
 
-abbrev formatOf : tie.At-loop Inv-loop μ-loop → Format
-formatOf l = begun l .args .f
+abbrev rowOf : tie.At-loop Inv-loop μ-loop → List ℕ
+rowOf l = rec (rowBytes (begun l .args .f)) (l .loop .i) (begun l .args .table .now)
 
 abbrev turn : tie.After-word Inv-loop μ-loop → tie.At-loop Inv-loop μ-loop
 turn c = c .before .before .before .before .before .before
 
-abbrev width-known : tie.After-word Inv-loop μ-loop → tie.After-row-bytes Inv-loop μ-loop
-width-known c = c .before .before .before .before
-
 abbrev read : tie.After-find-near Inv-loop μ-loop → tie.After-word Inv-loop μ-loop
-read c = c .before .before .before .before
+read c = c .before .before .before .before .before .before .before
 
 abbrev levelOf : tie.After-word Inv-loop μ-loop → ℕ
 levelOf c = c .before .wide .result
 
 -- row i is a row of the table, and its level and label are those that are read
-here : (c : tie.After-word Inv-loop μ-loop) → turn c .loop .i < whole (rowBytes (formatOf (turn c))) (begun (turn c) .args .table .now)
-here c = let l = turn c in omega (arith, begun l .pre .0 .0, width-known c .before .loop-test .taken)
+here : (c : tie.After-word Inv-loop μ-loop) → turn c .loop .i < whole (rowBytes (begun (turn c) .args .f)) (begun (turn c) .args .table .now)
+here c = omega (arith, begun (turn c) .pre .0 .0)
 
-level-is : (c : tie.After-word Inv-loop μ-loop) →
-    let l = turn c in
-    levelOf c ≡ byte (rec (rowBytes (formatOf l)) (l .loop .i) (begun l .args .table .now)) 0
-level-is c =
-    let l = turn c in
-    c .before .wide .ensures .0 ∙ ap (λ r. byte r 0) (c .before .before .before .«record» .ensures .0)
-    ∙ ap (λ w. byte (rec w (l .loop .i) (begun l .args .table .now)) 0) (width-known c .row-bytes .ensures)
+level-is : (c : tie.After-word Inv-loop μ-loop) → levelOf c ≡ byte (rowOf (turn c)) 0
+level-is c = cc
 
-label-is : (c : tie.After-word Inv-loop μ-loop) →
-    let l = turn c in
-    c .word .result ≡ word (rec (rowBytes (formatOf l)) (l .loop .i) (begun l .args .table .now)) 2
-label-is c =
-    let l = turn c in
-    c .word .ensures .0 ∙ ap (λ r. word r 2) (c .before .before .before .«record» .ensures .0)
-    ∙ ap (λ w. word (rec w (l .loop .i) (begun l .args .table .now)) 2) (width-known c .row-bytes .ensures)
+label-is : (c : tie.After-word Inv-loop μ-loop) → c .word .result ≡ word (rowOf (turn c)) 2
+label-is c = cc
 
-level-some : (c : tie.After-word Inv-loop μ-loop) → 1 ≤ levelOf c
-level-some c =
-    let l = turn c in
-    l-pos (formatOf l) (begun l .args .table .now) (begun l .pre .1 .0) (l .loop .i) (here c) (levelOf c) (c .word .result) (level-is c) (label-is c)
-
-level-most : (c : tie.After-word Inv-loop μ-loop) → levelOf c ≤ 8
-level-most c =
-    let l = turn c in
-    let b = begun l in
-    let fits = l-fits (formatOf l) (b .args .table .now) (b .pre .1 .0) (l .loop .i) (here c) (levelOf c) (c .word .result) (level-is c) (label-is c) in
-    omega (arith, fits, begun l .pre .0 .2)
+level-within : (c : tie.After-word Inv-loop μ-loop) → (1 ≤ levelOf c) × (levelOf c ≤ 8)
+level-within c =
+    let s = begun (turn c) in
+    let fits = l-fits _ _ (s .pre .1 .0) _ (here c) _ _ (level-is c) (label-is c) in
+    (l-pos _ _ (s .pre .1 .0) _ (here c) _ _ (level-is c) (label-is c), omega (arith, fits, s .pre .0 .2))
 
 array-write-stack : tie.Need-array-write-stack Inv-loop μ-loop
 array-write-stack c = search needs
 
 loop-holds : tie.Need-loop-holds Inv-loop μ-loop
-loop-holds c =
-    let s = c .before .before in
-    (omega arith, walk-start (s .args .f) (s .args .table .now) _ _ _ _ _ refl (s .pre .1 .1) refl refl refl refl, omega arith)
+loop-holds c = (omega arith, walk-start _ _ _ _ _ _ _ refl (c .before .before .pre .1 .1) refl refl refl refl, omega arith)
 
 row-bytes-requires : tie.Need-row-bytes-requires Inv-loop μ-loop
 row-bytes-requires c κs = search needs
@@ -83,9 +61,8 @@ row-bytes-requires c κs = search needs
 record-requires : tie.Need-record-requires Inv-loop μ-loop
 record-requires c κs =
     let l = c .before .before in
-    let t = begun l .args .table .now in
-    let wide = ap (λ w. whole w t) (c .row-bytes .ensures) in
-    row-in (c .row-bytes .result) (l .loop .i) t (omega (arith, begun l .pre .0 .0, wide, c .before .loop-test .taken))
+    row-in (c .row-bytes .result) (l .loop .i) (begun l .args .table .now)
+    (rw (c .row-bytes .ensures) (omega (arith, begun l .pre .0 .0, c .before .loop-test .taken)))
 
 shared-slice-read-wide : tie.Need-shared-slice-read-wide Inv-loop μ-loop
 shared-slice-read-wide c = search needs
@@ -100,16 +77,34 @@ cast-a : tie.Need-cast-a Inv-loop μ-loop
 cast-a c = search needs
 
 sub-p : tie.Need-sub-p Inv-loop μ-loop
-sub-p c = omega (arith, level-some c)
+sub-p c = omega (arith, level-within c .0)
 
 array-read-p : tie.Need-array-read-p Inv-loop μ-loop
-array-read-p c = omega (arith, level-some c, level-most c)
-
-array-read-wide : tie.Need-array-read-wide Inv-loop μ-loop
-array-read-wide c = omega (arith, turn c .loop .inv .2)
+array-read-p c = omega (arith, level-within c)
 
 wide-requires-2 : tie.Need-wide-requires-2 Inv-loop μ-loop
 wide-requires-2 c κs = search needs
+
+mul-at : tie.Need-mul-at Inv-loop μ-loop
+mul-at c = search needs
+
+wide16-requires : tie.Need-wide16-requires Inv-loop μ-loop
+wide16-requires c κs = search needs
+
+add-at : tie.Need-add-at Inv-loop μ-loop
+add-at c = search needs
+
+array-read-wide : tie.Need-array-read-wide Inv-loop μ-loop
+array-read-wide c = search needs
+
+wide-requires-3 : tie.Need-wide-requires-3 Inv-loop μ-loop
+wide-requires-3 c κs = search needs
+
+array-read-wide-2 : tie.Need-array-read-wide-2 Inv-loop μ-loop
+array-read-wide-2 c = search needs
+
+wide-requires-4 : tie.Need-wide-requires-4 Inv-loop μ-loop
+wide-requires-4 c κs = search needs
 
 slice-aggregate-find-near : tie.Need-slice-aggregate-find-near Inv-loop μ-loop
 slice-aggregate-find-near c = search needs
@@ -130,13 +125,13 @@ cast-stack : tie.Need-cast-stack Inv-loop μ-loop
 cast-stack c = search needs
 
 array-write-stack-2 : tie.Need-array-write-stack-2 Inv-loop μ-loop
-array-write-stack-2 c = omega (arith, level-most (read (c .before)))
+array-write-stack-2 c = omega (arith, level-within (read (c .before)) .1)
 
 cast-after : tie.Need-cast-after Inv-loop μ-loop
 cast-after c = search needs
 
 array-write-after : tie.Need-array-write-after Inv-loop μ-loop
-array-write-after c = omega (arith, turn (read (c .before)) .loop .inv .2)
+array-write-after c = search needs
 
 add-i : tie.Need-add-i Inv-loop μ-loop
 add-i c = search needs
@@ -146,16 +141,13 @@ loop-less c = search needs
 
 loop-again : tie.Need-loop-again Inv-loop μ-loop
 loop-again c =
-    let x = c .before in
-    let r = read x in
-    let l = turn r in
-    let s = begun l in
-    let v = l .loop in
-    let found = x .find-near .ensures .found (c .if1 .taken) in (
-      omega (arith, width-known r .before .loop-test .taken),
-      walk-known (formatOf l) (s .args .table .now) (s .pre .1 .0) (v .i) (here r) (levelOf r) (r .word .result) (level-is r) (label-is r)
-          (v .count) _ (v .types) (v .first) (v .parents) (v .labels) (v .stack) (v .inv .1) refl (omega (arith, s .pre .0 .0)) (s .pre .0 .2)
-          (x .find-near .result) (c .if1 .taken) (found .0) (found .1),
+    let r = read (c .before) in
+    let s = begun (turn r) in
+    let v = turn r .loop in
+    let found = c .before .find-near .ensures .found (c .if1 .taken) in (
+      omega arith,
+      walk-known _ _ (s .pre .1 .0) _ (here r) _ _ (level-is r) (label-is r) _ _ _ _ _ _ _ (v .inv .1) refl (omega (arith, s .pre .0 .0)) (s .pre .0 .2)
+          _ (c .if1 .taken) (found .0) (found .1),
       omega (arith, c .if1 .taken, v .inv .1 .pass .few),
     )
 
@@ -166,12 +158,9 @@ returns : tie.Need-returns Inv-loop μ-loop
 returns c =
     let x = c .before .before in
     let r = read x in
-    let l = turn r in
-    let s = begun l in
-    let v = l .loop in
-    walk-full (formatOf l) (s .args .table .now) (s .pre .1 .0) (v .i) (here r) (levelOf r) (r .word .result) (level-is r) (label-is r)
-    (v .count) _ (v .types) (v .first) (v .parents) (v .labels) (v .stack) (v .inv .1) refl (omega (arith, s .pre .0 .0)) (s .pre .0 .2)
-    (λ k lk. x .find-near .ensures .none (omega arith) k lk) (c .if2 .taken)
+    let s = begun (turn r) in
+    walk-full _ _ (s .pre .1 .0) _ (here r) _ _ (level-is r) (label-is r) _ _ _ _ _ _ _ (turn r .loop .inv .1) refl
+    (omega (arith, s .pre .0 .0)) (s .pre .0 .2) (x .find-near .ensures .none (omega arith)) (c .if2 .taken)
 
 array-write-parents : tie.Need-array-write-parents Inv-loop μ-loop
 array-write-parents c = search needs
@@ -201,13 +190,19 @@ cast-stack-2 : tie.Need-cast-stack-2 Inv-loop μ-loop
 cast-stack-2 c = search needs
 
 array-write-stack-3 : tie.Need-array-write-stack-3 Inv-loop μ-loop
-array-write-stack-3 c = omega (arith, level-most (read (c .before .before)))
+array-write-stack-3 c = omega (arith, level-within (read (c .before .before)) .1)
 
 cast-after-2 : tie.Need-cast-after-2 Inv-loop μ-loop
 cast-after-2 c = search needs
 
 array-write-after-2 : tie.Need-array-write-after-2 Inv-loop μ-loop
-array-write-after-2 c = omega (arith, turn (read (c .before .before)) .loop .inv .2)
+array-write-after-2 c = search needs
+
+cast-near : tie.Need-cast-near Inv-loop μ-loop
+cast-near c = search needs
+
+array-write-near : tie.Need-array-write-near Inv-loop μ-loop
+array-write-near c = search needs
 
 add-count : tie.Need-add-count Inv-loop μ-loop
 add-count c = search needs
@@ -222,13 +217,11 @@ loop-again-2 : tie.Need-loop-again-2 Inv-loop μ-loop
 loop-again-2 c =
     let x = c .before .before in
     let r = read x in
-    let l = turn r in
-    let s = begun l in
-    let v = l .loop in (
-      omega (arith, width-known r .before .loop-test .taken),
-      walk-new (formatOf l) (s .args .table .now) (s .pre .1 .0) (v .i) (here r) (levelOf r) (r .word .result) (level-is r) (label-is r)
-          (v .count) _ (v .types) (v .first) (v .parents) (v .labels) (v .stack) (v .inv .1) refl (omega (arith, s .pre .0 .0)) (s .pre .0 .2)
-          (λ k lk. x .find-near .ensures .none (omega arith) k lk) (omega (arith, v .inv .1 .pass .few)),
+    let s = begun (turn r) in
+    let v = turn r .loop in (
+      omega arith,
+      walk-new _ _ (s .pre .1 .0) _ (here r) _ _ (level-is r) (label-is r) _ _ _ _ _ _ _ (v .inv .1) refl (omega (arith, s .pre .0 .0)) (s .pre .0 .2)
+          (x .find-near .ensures .none (omega arith)) (omega (arith, v .inv .1 .pass .few)),
       omega (arith, v .inv .1 .pass .few),
     )
 
@@ -240,12 +233,9 @@ returns-2 c =
     let l = c .before in
     let s = begun l in
     let v = l .loop in
-    let count = count-rows (formatOf l) (s .args .table .now) in
-    let n : v .i ≡ s .args .rows = omega (arith, v .inv .0) in
-    let rs = Tables.rows (formatOf l) (s .args .table .now) in
-    subst (λ m. Lists rs (v .types) (record { count = v .count; over = m; first = v .first; parents = v .parents; labels = v .labels })) n
-    (lists-end rs (v .i) (v .count) (v .types) (v .first) (v .parents) (v .labels) (v .stack)
-    (omega (arith, count, s .pre .0 .0)) (omega (arith, count, s .pre .0 .0, v .inv .1 .ks-long)) (v .inv .1 .pass))
+    let count = count-rows (s .args .f) (s .args .table .now) in
+    let all : v .i ≡ s .args .rows = omega (arith, v .inv .0) in
+    rw (← all) (lists-end _ _ _ _ _ _ _ _ (omega (arith, count, s .pre .0 .0)) (omega (arith, count, s .pre .0 .0, v .inv .1 .ks-long)) (v .inv .1 .pass))
 
 pub list-types-spec : {M : Type 1} → statement M
 list-types-spec =
@@ -263,8 +253,14 @@ list-types-spec =
     cast-a
     sub-p
     array-read-p
-    array-read-wide
     wide-requires-2
+    mul-at
+    wide16-requires
+    add-at
+    array-read-wide
+    wide-requires-3
+    array-read-wide-2
+    wide-requires-4
     slice-aggregate-find-near
     slice-aggregate-find-near-2
     find-near-requires
@@ -291,6 +287,8 @@ list-types-spec =
     array-write-stack-3
     cast-after-2
     array-write-after-2
+    cast-near
+    array-write-near
     add-count
     add-i-2
     loop-less-2

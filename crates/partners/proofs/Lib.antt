@@ -1,0 +1,12 @@
+pub mod Rows
+pub mod Lone
+pub mod Closest
+pub mod Places
+pub mod Walked
+pub mod Counted
+pub mod Tally
+pub mod Ranges
+pub mod Groups
+pub mod Found
+pub mod Shaped
+pub mod Deep

@@ -1,0 +1,88 @@
+-- `eight::count_deep`: all rows from the first that came next on are counted, each deeper than the bound. Assumes nothing.
+use Prim.Native.Nat.{_-_, _<_}
+use native.Mathlib.Omega.{arith}
+use lib.ListN.{getD}
+use Rattle.partners.proofs.Deep.{CountedDeep, upTo, deep-none, deep-more}
+use borrow.Author.Needs.{needs}
+use borrow.Author.Tests.{ltb-true}
+use Rattle.partners.proofs.eight.count_deep.Statement.{statement}
+use Rattle.partners.proofs.eight.count_deep.Tie as tie
+
+abbrev Inv-loop : tie.InvT-loop
+Inv-loop levels types rows over own bound parents₀ children₀ i₀ parents children i =
+    CountedDeep levels types rows over own bound (upTo parents₀ children₀ i₀) (upTo parents children i)
+
+abbrev μ-loop : tie.MeasureT-loop
+μ-loop levels types rows over own bound parents₀ children₀ i₀ parents children i = rows - i
+
+-- where the function begins, and the turn, seen from where the type of its row is read
+abbrev begun : tie.At-loop Inv-loop μ-loop → tie.Start Inv-loop μ-loop
+begun l = l .before .before .before .before .before
+
+abbrev turn : tie.After-shared-slice-known4 Inv-loop μ-loop → tie.At-loop Inv-loop μ-loop
+turn c = c .before .before .before .before
+
+loop-holds : tie.Need-loop-holds Inv-loop μ-loop
+loop-holds c =
+    let s = c .before .before .before .before in
+    let a = s .args in
+    deep-none (a .levels .now) (a .types .now) (a .rows) (a .over) (a .own) (a .bound) (a .at) (s .pre .1)
+
+shared-slice-read-if1 : tie.Need-shared-slice-read-if1 Inv-loop μ-loop
+shared-slice-read-if1 c = search needs
+
+cast-if1 : tie.Need-cast-if1 Inv-loop μ-loop
+cast-if1 c = omega (arith, c .shared-slice-known3 .given (c .before .before .loop .i))
+
+shared-slice-read-k : tie.Need-shared-slice-read-k Inv-loop μ-loop
+shared-slice-read-k c = search needs
+
+cast-k : tie.Need-cast-k Inv-loop μ-loop
+cast-k c = omega (arith, c .shared-slice-known4 .given (c .before .before .before .before .loop .i))
+
+add-own-requires : tie.Need-add-own-requires Inv-loop μ-loop
+add-own-requires c κs e lt = let l = turn c in omega (arith, l .loop .inv .few .parents-few e lt, begun l .pre .0 .few)
+
+add-own-requires-2 : tie.Need-add-own-requires-2 Inv-loop μ-loop
+add-own-requires-2 c κs e lt = let l = turn (c .before) in omega (arith, l .loop .inv .few .children-few e lt, begun l .pre .0 .few)
+
+add-i : tie.Need-add-i Inv-loop μ-loop
+add-i c = search needs
+
+loop-less : tie.Need-loop-less Inv-loop μ-loop
+loop-less c = search needs
+
+loop-again : tie.Need-loop-again Inv-loop μ-loop
+loop-again c =
+    let p = c .before in
+    let l = turn (p .before) in
+    let a = begun l .args in
+    let level = getD (a .levels .now) (l .loop .i) 0 in
+    let deeper : a .bound < level = ltb-true (a .bound) level (p .before .before .if1 .taken) in
+    deep-more (a .levels .now) (a .types .now) (a .rows) (a .over) (a .own) (a .bound) (l .loop .inv) (omega arith) deeper (p .add-own .ensures)
+    (c .add-own2 .ensures)
+
+returns : tie.Need-returns Inv-loop μ-loop
+returns c = search needs
+
+returns-2 : tie.Need-returns-2 Inv-loop μ-loop
+returns-2 c = search needs
+
+pub count-deep-spec : {M : Type 1} → statement M
+count-deep-spec =
+    tie.close
+    (tie.spec
+    Inv-loop
+    μ-loop
+    loop-holds
+    shared-slice-read-if1
+    cast-if1
+    shared-slice-read-k
+    cast-k
+    add-own-requires
+    add-own-requires-2
+    add-i
+    loop-less
+    loop-again
+    returns
+    returns-2)

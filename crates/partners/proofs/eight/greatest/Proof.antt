@@ -1,0 +1,104 @@
+-- `eight::greatest`: place by place, the greater number where any row has it. Assumes nothing.
+use Prim.Native.Nat.{_-_, _≤_, max}
+use native.Mathlib.Omega.{arith}
+use mathlib.Core.Path.{_≡_}
+use mathlib.Core.Logic.{⊎-elim}
+use lib.ListN.{getD}
+use Rattle.closest.proofs.Filled.{Filled, filled-none, filled-more}
+use Rattle.partners.specs.Eight.{places, more}
+use Rattle.partners.proofs.Places.{more-none, more-some}
+use borrow.Author.Needs.{needs}
+use Rattle.partners.proofs.eight.greatest.Statement.{statement}
+use Rattle.partners.proofs.eight.greatest.Tie as tie
+
+abbrev Inv-loop : tie.InvT-loop
+Inv-loop most numbers counts high₀ e₀ high e = (e ≤ places) × Filled (λ j. more (getD most j 0) (getD numbers j 0) (getD counts j 0)) 0 places e high
+
+abbrev μ-loop : tie.MeasureT-loop
+μ-loop most numbers counts high₀ e₀ high e = places - e
+
+loop-holds : tie.Need-loop-holds Inv-loop μ-loop
+loop-holds c = (omega arith, filled-none _ 0 places (c .args .t1) (omega (arith, c .good)))
+
+mul-if1 : tie.Need-mul-if1 Inv-loop μ-loop
+mul-if1 c = search needs
+
+array-read-if1 : tie.Need-array-read-if1 Inv-loop μ-loop
+array-read-if1 c = search needs
+
+mul-n : tie.Need-mul-n Inv-loop μ-loop
+mul-n c = search needs
+
+array-read-n : tie.Need-array-read-n Inv-loop μ-loop
+array-read-n c = search needs
+
+mul-if2 : tie.Need-mul-if2 Inv-loop μ-loop
+mul-if2 c = search needs
+
+array-read-if2 : tie.Need-array-read-if2 Inv-loop μ-loop
+array-read-if2 c = search needs
+
+mul-high : tie.Need-mul-high Inv-loop μ-loop
+mul-high c = search needs
+
+array-read-high : tie.Need-array-read-high Inv-loop μ-loop
+array-read-high c = search needs
+
+mul-high-2 : tie.Need-mul-high-2 Inv-loop μ-loop
+mul-high-2 c = search needs
+
+array-write-high : tie.Need-array-write-high Inv-loop μ-loop
+array-write-high c = search needs
+
+add-e : tie.Need-add-e Inv-loop μ-loop
+add-e c = search needs
+
+loop-less : tie.Need-loop-less Inv-loop μ-loop
+loop-less c = search needs
+
+-- what is put at a place is the greater number, where any row has it
+lane : (c : tie.Joined2 Inv-loop μ-loop) →
+    let l = c .before .before .before in
+    let a = l .before .args in
+    let e = l .loop .e in
+    c .if2 .high ≡ more (getD (a .t1) e 0) (getD (a .t2) e 0) (getD (a .t3) e 0)
+lane c =
+    let l = c .before .before .before in
+    let a = l .before .args in
+    let m = getD (a .t1) (l .loop .e) 0 in
+    let number = getD (a .t2) (l .loop .e) 0 in
+    let rows = getD (a .t3) (l .loop .e) 0 in
+    let most : c .if2 .high ≡ max m (c .before .if1 .n) =
+    ⊎-elim (λ w. omega (arith, w .0 .taken, w .1)) (λ w. omega (arith, w .0 .left, w .1)) (c .if2 .came) in
+    ⊎-elim (λ w. omega (arith, w .1, most, more-none m number rows (w .0 .taken)))
+    (λ w. omega (arith, w .1, most, more-some m number rows (w .0 .left))) (c .before .if1 .came)
+
+loop-again : tie.Need-loop-again Inv-loop μ-loop
+loop-again c =
+    let l = c .before .before .before in
+    (omega arith, filled-more _ 0 places (l .loop .e) (l .loop .high) (c .if2 .high) (omega arith) (l .loop .inv .1) (lane c))
+
+returns : tie.Need-returns Inv-loop μ-loop
+returns c = λ e lt. c .before .loop .inv .1 .at e (omega arith)
+
+pub greatest-spec : {M : Type 1} → statement M
+greatest-spec =
+    tie.close
+    (tie.spec
+    Inv-loop
+    μ-loop
+    loop-holds
+    mul-if1
+    array-read-if1
+    mul-n
+    array-read-n
+    mul-if2
+    array-read-if2
+    mul-high
+    array-read-high
+    mul-high-2
+    array-write-high
+    add-e
+    loop-less
+    loop-again
+    returns)

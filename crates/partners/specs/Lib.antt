@@ -1,0 +1,3 @@
+pub mod Closest
+pub mod Eight
+pub mod Edges
