@@ -2,13 +2,13 @@
 use Prim.Native.Nat.{ℕ, zero, suc, _≤_, _<_}
 use native.Mathlib.Omega.{arith}
 use mathlib.Core.Path.{_≡_, refl, sym, _∙_, ap, ap₂}
-use mathlib.Core.Bool.{Bool, true, false, _&&_, not}
-use mathlib.Core.List.{List, [], _∷_, map}
+use mathlib.Core.Bool.{Bool, true, false, not}
+use mathlib.Core.List.{List, _∷_, map}
 use lib.Dec.{eqb, leb}
 use lib.ListN.{length, getD, drop}
 use lib.Seq.{ext-getD}
 use borrow.Author.Tests.{leb-true, leb-false}
-use Rattle.paper.specs.Lists.{keep, all, least}
+use Rattle.paper.specs.Lists.{least}
 use Rattle.paper.specs.Format.{Format, mostEntries}
 use Rattle.paper.specs.Tables.{rows}
 use Rattle.paper.specs.Closeness.{Node, nodes, ofKind, closestOf, closestNumber}
@@ -16,7 +16,7 @@ use Rattle.paper.specs.Shapes as Paper
 use Rattle.paper.specs.Shapes.{numbers, kind, parent}
 use Rattle.paper.specs.Partners.{childNumbers, parentNumbers, ofEdges, greatest, edgeNumbers}
 use Rattle.paper.specs.Verdict.{isEmpty, full}
-use Rattle.paper.proofs.Partners.{parent-type-has-row, full-least}
+use Rattle.paper.proofs.Partners.{parent-type-has-row, kept-none, full-least}
 use Rattle.paper.proofs.Edges.{edge-root, edge-each, edge-unused}
 use Rattle.paper.proofs.Reread.{length-padded}
 use Rattle.shapes.specs.Shape.{typeOf, parentOf, edgeOf}
@@ -41,20 +41,10 @@ pub record Long (edges : Edges) : Type 0 where
   pub least-parents : length (edges .«least_parents») ≡ mostEntries
   pub greatest-parents : length (edges .«greatest_parents») ≡ mostEntries
 
--- no row is left over exactly where all pass
-kept-all : (p : Node → Bool) (xs : List Node) → isEmpty {A = Node} (keep p xs) ≡ all (λ x. not (p x)) xs
-kept-all p [] = refl
-kept-all p (x ∷ xs) = go (p x) refl (kept-all p xs)
-  where
-    go : (b : Bool) → p x ≡ b → isEmpty {A = Node} (keep p xs) ≡ all (λ x. not (p x)) xs
-        → isEmpty {A = Node} (elim b as (λ _. List Node) [ true ↦ x ∷ keep p xs | false ↦ keep p xs ]) ≡ not b && all (λ x. not (p x)) xs
-    go true e ih = refl
-    go false e ih = ih
-
 module _ (t : List Node) (p : Paper.Shape) (c : ℕ) where
   full-is : isEmpty (aloneOf t (kind p (parent p c)) (kind p c)) ≡ full t p c
   unfolding aloneOf full
-  full-is = kept-all (λ r. isEmpty (closestOf t r (kind p c))) (ofKind t (kind p (parent p c)))
+  full-is = kept-none (λ r. isEmpty (closestOf t r (kind p c))) (ofKind t (kind p (parent p c)))
 
 module _ {form : Format} {t sb : List ℕ} {w : Work} (r : Ready form t sb w) where
   abbrev ns : List Node

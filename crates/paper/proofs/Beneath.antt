@@ -10,13 +10,12 @@ use mathlib.Core.List.{List, [], _∷_, map}
 use lib.Dec.{eqb}
 use lib.ListN.{length, getD, take, length-append, length-map}
 use borrow.Author.Tests.{eqb-true, eqb-false, eq-eqb}
-use Rattle.paper.specs.Lists.{Has, keep, joined, joinMap, least, count, same, up}
+use Rattle.paper.specs.Lists.{Has, keep, joined, joinMap, count, same, up}
 use Rattle.paper.specs.Format.{Format, rowBytes}
 use Rattle.paper.specs.Tables.{rows}
-use Rattle.paper.specs.Closeness.{Node, nodes, ofKind, closestOf, closestNumber}
+use Rattle.paper.specs.Closeness.{Node, nodes, closestOf, closestNumber}
 use Rattle.paper.specs.Shapes.{Shape, kind, way, parent, children}
 use Rattle.paper.specs.NewTable.{Line, beneath, tops, lines, newTable, sourceList, entryUnit}
-use Rattle.paper.specs.Partners.{childNumbers, greatest}
 use Rattle.paper.specs.Calls.{given, _>>=_, reply, noJudgement, Work, Reshaping, tests1-7, judge, reshape}
 use Rattle.paper.specs.Verdict.{judgement}
 use Rattle.paper.specs.Links.{newNodes, sourceRow}
@@ -35,7 +34,6 @@ use Rattle.paper.proofs.Reread.{nodes-new}
 use Rattle.paper.proofs.Promises as Promises
 use Rattle.paper.proofs.Promises.{source-table, ways, entries-size, some-entry, levels, few, numbered}
 use Rattle.paper.proofs.Promises.{Wrote, reshape-writes, new-left, sources-left, reshape-faithful}
-use Rattle.paper.proofs.Partners.{children-range}
 use Rattle.paper.proofs.Edges.{judge-children}
 
 -- ---- the kids of one child entry
@@ -133,19 +131,6 @@ module _ (t : List Node) (place : (x y : Node) → Has x t → Has y t → x .pl
       ap length (keep-map test toLine all) ∙ length-map (keep (λ x. test (toLine x)) all) toLine
       ∙ stands-number (beneath t s) (λ (y : Item). eqb (y .0) c) (pred n) (tops t s) (l .dewey) (l .entry, l .source) shallow stands
       ∙ beneath-number t s (l .entry, l .source) c child
-
-  -- the line's source row is one of the parent entry's type
-  source-row : Has (l .source) (ofKind t (kind s (parent s c)))
-  source-row =
-      let (inside, row, _) = line-fits t place s w some n deep l there in
-      of-kind t (kind s (parent s c)) (l .source)
-      (subst (λ e. In s w t e (l .source)) (sym (child-parent s w (l .entry) c inside (listed-child s w (l .entry) c child .1))) row)
-
-  -- So their number lies between the least and the greatest number of children.
-  pub lines-between : (least (childNumbers t s c) ≤ length (childLines ls l c)) × (length (childLines ls l c) ≤ greatest (childNumbers t s c))
-  lines-between =
-      let (lo, hi) = children-range t s c (l .source) source-row .between (l .source) source-row in
-      (omega (arith, lo, lines-number), omega (arith, hi, lines-number))
 
 -- ---- over bytes
 -- as many nodes as lines pass a test by entry and number

@@ -20,7 +20,7 @@ use Rattle.paper.specs.Partners.{childNumbers, parentNumbers, greatest}
 use Rattle.paper.specs.Verdict.{Verdict, kept, missing, isEmpty, overPairs, partners, alone, full, lone, pairFault, verdict}
 use Rattle.paper.specs.Edges.{FirstNone}
 use Rattle.paper.specs.Calls.{given, refuseAt, Work, typeMissing, tests1-4, tests5-6, tests1-7}
-use Rattle.paper.proofs.Lists.{same-eq, any-has, map-has, in-some, getD-has, count-has}
+use Rattle.paper.proofs.Lists.{same-eq, any-has, map-has, in-some, getD-has}
 use Rattle.paper.proofs.Kept.{putIf, first-none, range}
 use Rattle.paper.proofs.Closeness.{of-kind}
 use Rattle.paper.proofs.Tables.{rows-laid, listed-type}
@@ -80,20 +80,6 @@ module _ (f : Format) (b sb : List ℕ) (w : Work) (passed : tests1-7 f b sb ≡
   pub parent-type-has-row : (e : ℕ) → e < length (s .ways) → (r : Node) × Has r (ofKind t (kind s (parent s e)))
   parent-type-has-row e le = type-has-row (parent s e) (parent-in e le)
 
--- The same, of what is given.
-module _ (f : Format) (b sb : List ℕ) (w : Work) (passed : tests1-7 f b sb ≡ given w) (e : ℕ) (there : Has e (numbers (w .shape))) where
-  abbrev Rowed : Work → (Shape → ℕ) → Type 0
-  Rowed w at = (r : Node) × Has r (ofKind (w .nodes) (kind (w .shape) (at (w .shape))))
-
-  le : e < length (shapeOver (types (rows f b)) (entries f sb) .ways)
-  le = omega (arith, count-has 0 (length (w .shape .ways)) e there .1, ap (λ (w : Work). length (w .shape .ways)) (passed1-7 f b sb w passed .2))
-
-  pub entry-has-row : (r : Node) × Has r (ofKind (w .nodes) (kind (w .shape) e))
-  entry-has-row = subst (λ w. Rowed w (λ s. e)) (sym (passed1-7 f b sb w passed .2)) (type-has-row f b sb w passed e le)
-
-  pub parent-has-row : (r : Node) × Has r (ofKind (w .nodes) (kind (w .shape) (parent (w .shape) e)))
-  parent-has-row = subst (λ w. Rowed w (λ s. parent s e)) (sym (passed1-7 f b sb w passed .2)) (parent-type-has-row f b sb w passed e le)
-
 -- ---- what least numbers tell
 some-eqb : (n : ℕ) → eqb (suc n) 0 ≡ false
 some-eqb n = ne-eqb (suc n) 0 (λ e. omega arith)
@@ -124,7 +110,7 @@ module _ {A B : Type 0} (found : A → List B) where
   found-least x (y ∷ ys) h = all-least y ys
 
 -- none is kept exactly where all fail the test
-kept-none : {A : Type 0} (p : A → Bool) (xs : List A) → isEmpty (keep p xs) ≡ all (λ x. not (p x)) xs
+pub kept-none : {A : Type 0} (p : A → Bool) (xs : List A) → isEmpty (keep p xs) ≡ all (λ x. not (p x)) xs
 kept-none p [] = refl
 kept-none p (x ∷ xs) = go (p x) (kept-none p xs)
   where

@@ -16,7 +16,7 @@ use Rattle.types.proofs.Step.{below}
 use Rattle.closest.specs.Runs.{Rows, begins, startOf}
 use Rattle.closest.proofs.Starts.{start-on}
 use Rattle.partners.specs.Closest.{closestRows, numbersOf, leastOr, Bound}
-use Rattle.partners.specs.Eight.{noNumber, ended, fewer, more, firstEnd, counted, leastTo, greatestTo, loneTo, leastIn, greatestIn, loneIn}
+use Rattle.partners.specs.Eight.{noNumber, ended, fewer, more, counted, leastTo, greatestTo, leastIn, greatestIn}
 use Rattle.partners.proofs.Counted.{counted-none, counted-row, row-counted, run-number, number-le, begins-over, unused-counted, unused-ended}
 
 -- ---- the lesser of two, and the greater
@@ -244,35 +244,12 @@ module _ (levels types : List ℕ) (rows : ℕ) (rs : Rows rows levels types) (b
   greatest-to a b e (suc i) le =
       ap (more (greatestTo levels types bound a b i) (so-far b i)) (unused-ended levels types rows rs bound a e i le) ∙ greatest-to a b e i (omega arith)
 
-  -- no end is noted where no child is counted
-  no-end : (m parents i : ℕ) → firstEnd m parents 0 i ≡ m
-  no-end m parents i = go (eqb parents 0)
-    where
-      go : (c : Bool) → _≡_ {A = ℕ} (elim c [ true ↦ m | false ↦ m ]) m
-      go true = refl
-      go false = refl
-
-  lone-to : (a b : ℕ) → b ≡ noNumber → (i : ℕ) → i ≤ rows → loneTo levels types bound a b i ≡ noNumber
-  unfolding loneTo
-  lone-to a b e zero le = refl
-  lone-to a b e (suc i) le =
-      ap (λ c. firstEnd (loneTo levels types bound a b i) (so-far a i) c i) (unused-ended levels types rows rs bound b e i le)
-      ∙ no-end (loneTo levels types bound a b i) (so-far a i) i ∙ lone-to a b e i (omega arith)
-
   module _ (a b : ℕ) (no-a : a ≡ noNumber) (no-b : b ≡ noNumber) where
     none-a : so-far a rows ≡ 0
     none-a = unused-counted levels types rows rs bound a no-a rows (omega arith)
-
-    none-b : so-far b rows ≡ 0
-    none-b = unused-counted levels types rows rs bound b no-b rows (omega arith)
 
     pub unused-least : leastIn levels types bound a b rows ≡ noNumber
     unused-least = ap (fewer (leastTo levels types bound a b rows) (so-far b rows)) none-a ∙ least-to a b no-a rows (omega arith)
 
     pub unused-greatest : greatestIn levels types bound a b rows ≡ 0
     unused-greatest = ap (more (greatestTo levels types bound a b rows) (so-far b rows)) none-a ∙ greatest-to a b no-a rows (omega arith)
-
-    pub unused-lone : loneIn levels types bound a b rows ≡ noNumber
-    unused-lone =
-        ap (λ c. firstEnd (loneTo levels types bound a b rows) (so-far a rows) c rows) none-b
-        ∙ no-end (loneTo levels types bound a b rows) (so-far a rows) rows ∙ lone-to a b no-b rows (omega arith)

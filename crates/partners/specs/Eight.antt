@@ -41,7 +41,7 @@ single wanted k = elim (eqb wanted k) [ true ↦ 1 | false ↦ 0 ]
 
 -- the rows of a wanted type counted after a row of type k and of this level
 abbrev pub onward : (bound level wanted k count : ℕ) → ℕ
-onward bound level wanted k count = elim (leb level bound) [ true ↦ 0 | false ↦ count ] + elim (eqb wanted k) [ true ↦ 1 | false ↦ 0 ]
+onward bound level wanted k count = elim (leb level bound) [ true ↦ 0 | false ↦ count ] + single wanted k
 
 -- ---- along the rows
 module _ (levels types : List ℕ) (bound : ℕ) where
