@@ -198,7 +198,8 @@ module _ (f : Format) (b sb : List ℕ) (w : Work) (passed : tests1-7 f b sb ≡
       let small : l .source .place < entryUnit = omega (arith, few f b sb w passed, numbered f b sb w passed (l .source) (row .0)) in
       let source : getD (sourceList written) (x .place) 0 % entryUnit ≡ l .source .place =
       ap (λ i. getD (sourceList written) i 0 % entryUnit) place ∙ (omega (arith, listed, small)) in
-      ap (λ new. length (keep (λ (y : Node). same (up (y .dewey)) (x .dewey) && eqb (y .kind) c) new)) (read room) ∙ nodes-kept (λ e g. same (up g) (x .dewey) && eqb e c) 0 written
+      ap (λ new. length (keep (λ (y : Node). same (up (y .dewey)) (x .dewey) && eqb (y .kind) c) new)) (read room)
+      ∙ nodes-kept (λ e g. same (up g) (x .dewey) && eqb e c) 0 written
       ∙ ap (λ g. length (keep (λ (m : Line). same (up (m .dewey)) g && eqb (m .entry) c) written)) d
       ∙ lines-number t one s ws some (f .levels) deep l hl c (subst (λ e. Has c (children s e)) k child)
       ∙ ap (closestNumber t (kind s c)) (sym (one q (l .source) hq (row .0) (pq ∙ source)))

@@ -88,10 +88,14 @@ nothing = record {
 
 -- after the runs that row i, of this level, ends
 pub record Closes (found : Eight) (parents children bounds : List ℕ) (level i : ℕ) (after : Eight) : Type 0 where
-  pub least-children : Eights (λ e. fewer (getD (found .«least_children») e 0) (getD children e 0) (ended (getD bounds e 0) level (getD parents e 0))) (after .«least_children»)
-  pub greatest-children : Eights (λ e. more (getD (found .«greatest_children») e 0) (getD children e 0) (ended (getD bounds e 0) level (getD parents e 0))) (after .«greatest_children»)
-  pub least-parents : Eights (λ e. fewer (getD (found .«least_parents») e 0) (getD parents e 0) (ended (getD bounds e 0) level (getD children e 0))) (after .«least_parents»)
-  pub greatest-parents : Eights (λ e. more (getD (found .«greatest_parents») e 0) (getD parents e 0) (ended (getD bounds e 0) level (getD children e 0))) (after .«greatest_parents»)
+  pub least-children : Eights (λ e. fewer (getD (found .«least_children») e 0) (getD children e 0) (ended (getD bounds e 0) level (getD parents e 0)))
+      (after .«least_children»)
+  pub greatest-children : Eights (λ e. more (getD (found .«greatest_children») e 0) (getD children e 0) (ended (getD bounds e 0) level (getD parents e 0)))
+      (after .«greatest_children»)
+  pub least-parents : Eights (λ e. fewer (getD (found .«least_parents») e 0) (getD parents e 0) (ended (getD bounds e 0) level (getD children e 0)))
+      (after .«least_parents»)
+  pub greatest-parents : Eights (λ e. more (getD (found .«greatest_parents») e 0) (getD parents e 0) (ended (getD bounds e 0) level (getD children e 0)))
+      (after .«greatest_parents»)
   pub lone-is : Eights (λ e. firstEnd (getD (found .lone) e 0) (getD parents e 0) (ended (getD bounds e 0) level (getD children e 0)) i) (after .lone)
 
 -- no bound is greater
