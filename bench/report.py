@@ -68,8 +68,8 @@ Where a row meets the next is found when a table is examined, component by compo
 
 Silmezga names a run, the rows that agree to a level, by its first row. Lines are counted by runs, in at most two walks of all rows for each
 entry, however many lines there are. When lines are written, the first and the next closest row are looked up, and each line asks every
-child entry for them. A row's type is tried first where it was last found after a row of the same type, and else searched for among the
-types listed so far.
+child entry for them. A row's type is tried first where it was last found after a row of the same type, then at a place that its parent type and
+its label give, and else searched for among the types listed so far.
 
 Judging counts along eight edges in one walk of all rows, each edge in a place of its own, so that shapes of more than eight entries take two
 walks. Every row ends the runs of some edges or of none, without a branch; rows deeper than where any run begins are only counted. The walks are the same
