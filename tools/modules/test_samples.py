@@ -169,10 +169,18 @@ class Samples(unittest.TestCase):
         for name, text in zip(parts[1::2], parts[2::2]):
             table, _, levels = both[name]
             texts = re.split("(?m)^-- (?:report|summary|types|print)\n", text)
-            first, lines = self.listed(name).split("\n", 1)
-            report = "\n".join([first, *explained.reported(*both[name]), lines])
             screens = [samples.summary(*both[name]), samples.types(table, levels), samples.printed(*both[name])]
-            self.assertEqual(texts, [self.listed(name), report, *screens], name)
+            self.assertEqual([texts[0], *texts[2:]], [self.listed(name), *screens], name)
+            self.assert_reported(texts[1].splitlines(), self.listed(name).splitlines(), explained.reported(*both[name]), name)
+
+    def assert_reported(self, together, listing, report, name):
+        """A listing with its report: both in order, each edge behind its own line and all else behind the first line."""
+        named = [at for at, line in enumerate(together) if line.startswith("edge ") and len(line.split(" ")) == 8]
+        before = [at for at in range(1, len(together)) if at <= len(report) - len(named)]
+        self.assertEqual([together[at] for at in before + named], report, name)
+        self.assertEqual([line for at, line in enumerate(together) if at not in {*before, *named}], listing, name)
+        for at in named:
+            self.assertEqual(together[at].split(" ")[1:2] + together[at].split(" ")[4:], together[at - 1].split(" ")[1:], name)
 
     def test_program_on_p4(self):
         """The gate runs the program on P4, which has files of its own there, and what it must write is P4's listing."""
@@ -229,7 +237,7 @@ class Samples(unittest.TestCase):
             self.assertEqual(("Second answer" in said, "belong together:" in said), (second, False))
 
     def test_edges_in_words(self):
-        """One, several and a range of each name, and of labels without one; docs/HELP.md shows one of P4's."""
+        """One, several and a range of each name, and of labels without one; docs/HELP.md shows those of P4."""
         words = {
             (2, "lease", "asset", 0, 2, 1, 1): "edge 2: a lease has 0 to 2 assets, an asset has 1 lease",
             (1, "tax", "currency", 2, 2, 0, 1): "edge 1: a tax has 2 currencies, a currency has 0 to 1 taxes",
@@ -242,8 +250,8 @@ class Samples(unittest.TestCase):
             article = "an" if name[0] in "aeiou" else "a"
             several = re.sub("y$", "ie", name) + ("es" if name.endswith("x") else "s")
             self.assertEqual(explained.in_words(1, name, name, 1, 1, 2, 2), f"edge 1: {article} {name} has 1 {name}, {article} {name} has 2 {several}")
-        shown = explained.explained(*samples.by_name()["p4"]).split("\n")[5]
-        self.assertIn(f"\n    {shown.strip()}\n", explained.PAGE.read_text())
+        shown = explained.explained(*samples.by_name()["p4"]).split("\n")[3:6]
+        self.assertIn("\n" + "".join(f"    {line}\n" for line in shown), explained.PAGE.read_text())
 
     def test_explained_tree(self):
         """docs/HELP.md shows the mark under the place of a typed tree."""
