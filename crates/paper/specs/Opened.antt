@@ -15,8 +15,9 @@ use Rattle.paper.specs.MadeUp.{forkEntry, NothingMadeUp, unshown}
 
 unfoldable pub opened : Unit {0}
 unfolding base signed rowOf rowBack rows fieldsKept follows rowKept badRow rowTypes types typeNumber nodes ofKind kindsMeet meetAt closest closestOf
-    closestNumber closestPairs kindsDistance leastDistance entryOf entries entryKept badEntry shapeOver childrenOf counts summary adorned beneath tops
-    lines lineRow childNumbers parentNumbers edgeNumbers newTable sourceList meeting partners alone full edgeLevel meetsLeast sure lone pairFault verdict
-    noneApart typeTooMany typeMissing tests1-3 tests1-4 tests5-6 tests1-7 test8 examine lookUp readerRow readerNext adorning adorn judge reshaping reshape summarise entryLines appears differentRows figures
-    newNodes sourceRow shownPairs sourcePairs LinksKept forkEntry NothingMadeUp unshown
+    closestNumber closestPairs kindsDistance leastDistance entryOf entries entryKept badEntry shapeOver childrenOf counts summary adorned beneath
+    tops lines lineRow childNumbers parentNumbers edgeNumbers newTable sourceList meeting partners alone full edgeLevel meetsLeast sure lone
+    pairFault verdict noneApart typeTooMany typeMissing tests1-3 tests1-4 tests5-6 tests1-7 test8 examine lookUp readerRow readerNext adorning adorn
+    judge reshaping reshape summarise entryLines appears differentRows figures newNodes sourceRow shownPairs sourcePairs LinksKept forkEntry
+    NothingMadeUp unshown
 opened = tt
