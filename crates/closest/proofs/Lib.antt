@@ -9,3 +9,4 @@ pub mod Deepest
 pub mod Meetings
 pub mod Listed
 pub mod Counts
+pub mod Read

@@ -4,7 +4,8 @@ use mathlib.Core.Path.{_≡_, refl, sym, _∙_, ap, subst}
 use mathlib.Core.List.{List}
 use lib.ListN.{getD}
 use Rattle.paper.specs.Format.{Format}
-use Rattle.paper.specs.Calls.{Reply, judge}
+use Rattle.paper.specs.Calls.{Reply, given, judge}
+use Rattle.paper.specs.Index.{testsIndex, judgeWith}
 use Rattle.paper.specs.Edges.{EdgesAgree}
 use Rattle.paper.proofs.Edges.{judge-agrees}
 use Rattle.judging.specs.Told.{numbersOf}
@@ -12,6 +13,7 @@ use Rattle.judging.specs.Judged.{InNumbers, edgesOf, judged, inNumbers}
 use Rattle.judging.specs.declared.verdict.Verdict.{Verdict}
 use Rattle.judging.specs.declared.verdict.Verdict.the-variants.{Kept, Missing, Apart, Unsure}
 use Rattle.judging.specs.declared.judge.Judged.{Judged}
+use Rattle.judging.proofs.Indexed.{with-plain}
 
 -- the verdict with this number and these values
 abbrev verdictOf : ℕ → ℕ → ℕ → Verdict
@@ -29,9 +31,9 @@ of-numbers (Missing e r) = refl
 of-numbers (Apart e f) = refl
 of-numbers (Unsure e f) = refl
 
-pub judge-unique : (f : Format) (t s : List ℕ) (a b : Judged) → judged a ≡ inNumbers (judge f t s) → judged b ≡ inNumbers (judge f t s) → a ≡ b
-judge-unique f t s a b p q =
-    let e : judged a ≡ judged b = p ∙ sym q in
+-- two answers that are one reply are one
+judged-same : (a b : Judged) → judged a ≡ judged b → a ≡ b
+judged-same a b e =
     let v : a .verdict ≡ b .verdict =
     sym (of-numbers (a .verdict)) ∙ ap (λ (x : Reply InNumbers). fromNumbers (x .rest .verdict)) e ∙ of-numbers (b .verdict) in
     λ i. record {
@@ -45,8 +47,20 @@ judge-unique f t s a b p q =
       «greatest_parents» = ap (λ (x : Reply InNumbers). x .rest .edges .greatestParents) e i;
     }
 
+pub judge-unique : (f : Format) (t s : List ℕ) (a b : Judged) → judged a ≡ inNumbers (judge f t s) → judged b ≡ inNumbers (judge f t s) → a ≡ b
+judge-unique f t s a b p q = judged-same a b (p ∙ sym q)
+
 -- Where it is accepted, the numbers that it gives agree with rows and verdict.
 pub edges-agree : (f : Format) (t s : List ℕ) (a : Judged) → judged a ≡ inNumbers (judge f t s) → a .number ≡ 0 → EdgesAgree f t s (edgesOf a)
 edges-agree f t s a q accepted =
     subst (EdgesAgree f t s) (sym (ap (λ (x : Reply InNumbers). x .rest .edges) q))
     (judge-agrees f t s (sym (ap (λ (x : Reply InNumbers). x .number) q) ∙ accepted))
+
+-- ---- with an index
+module _ (f : Format) (t s last next : List ℕ) (a : Judged) (p : judged a ≡ inNumbers (judgeWith f t s last next)) where
+  pub judge-with-unique : (b : Judged) → judged b ≡ inNumbers (judgeWith f t s last next) → a ≡ b
+  judge-with-unique b q = judged-same a b (p ∙ sym q)
+
+  -- Where the index is this table's, it is what judging without one says.
+  pub judge-as-plain : testsIndex f t last next ≡ given tt → judged a ≡ inNumbers (judge f t s)
+  judge-as-plain e = p ∙ ap inNumbers (sym (with-plain f t s last next e))

@@ -16,11 +16,11 @@ use Rattle.paper.specs.Partners.{EdgeNumbers, edgeNumbers}
 use Rattle.paper.specs.Verdict
 use Rattle.paper.specs.Verdict.{Judgement, kept, missing, isApart, verdictNumbers, overPairs}
 use Rattle.paper.specs.Verdict.{partners, alone, full, lone, pairFault, verdict, noneApart, judgement}
-use Rattle.paper.specs.Calls.{judge, reply, given, noJudgement, _>>=_, Reply}
+use Rattle.paper.specs.Calls.{judge, reply, refused, given, noJudgement, _>>=_, Reply, tests1-7}
 use Rattle.shapes.specs.Edges.{meetingOf}
 use Rattle.shapes.specs.Shape.{levelOf, typeOf, parentOf, edgeOf}
 use Rattle.shapes.specs.Tests.{shapeIn}
-use Rattle.shapes.specs.Work.{Work, Ready, Prepared}
+use Rattle.shapes.specs.Work.{Work, Ready}
 use Rattle.shapes.specs.declared.shape.Shape.{Shape}
 use Rattle.shapes.proofs.Given.{ways-are, way-deep}
 use Rattle.shapes.proofs.Inside.{way-inside, path-inside}
@@ -152,19 +152,20 @@ module _ {form : Format} {t sb : List ℕ} {w : Work} (r : Ready form t sb w) wh
         (sym (sym lone-is ∙ none-lone (w .levels) (w .types) (w .rows) s 1 (s .entries - 1) q))
 
 -- ---- the answer
-module _ {form : Format} {t sb : List ℕ} {w : Work} (p : Prepared form t sb w) where
-  pub judge-refused : (w .number ≡ 0 → ⊥) → record { number = w .number; place = w .place; rest = noJudgement } ≡ judge form t sb
-  unfolding judge
-  judge-refused ne = sym (ap (λ a. reply noJudgement (a >>= (λ x. given (judgement (x .nodes) (x .shape))))) (p .refused-is ne))
+pub judge-refused : (form : Format) (t sb : List ℕ) (k place : ℕ) → tests1-7 form t sb ≡ refused k place
+    → record { number = k; place = place; rest = noJudgement } ≡ judge form t sb
+unfolding judge
+judge-refused form t sb k place e = sym (ap (λ a. reply noJudgement (a >>= (λ x. given (judgement (x .nodes) (x .shape))))) e)
 
+module _ {form : Format} {t sb : List ℕ} {w : Work} (r : Ready form t sb w) where
   -- the verdict v, the second answer n and the numbers of each edge are those of the paper
-  pub judge-given : w .number ≡ 0 → (v : Verdict.Verdict) (n : Bool) (edges : EdgeNumbers) → v ≡ verdict (nodes (rows form t)) (shapeIn form t sb)
+  pub judge-given : (v : Verdict.Verdict) (n : Bool) (edges : EdgeNumbers) → v ≡ verdict (nodes (rows form t)) (shapeIn form t sb)
       → n ≡ noPairApart (w .shape) (w .ways) (w .meetings) → edges ≡ edgeNumbers (nodes (rows form t)) (shapeIn form t sb)
       → record { number = 0; place = 0; rest = record { verdict = v; noneApart = n; edges = edges } } ≡ judge form t sb
   unfolding judge
-  judge-given z v n edges e q o =
-      (λ i. record { number = 0; place = 0; rest = record { verdict = e i; noneApart = (q ∙ apart-are (p .ready z)) i; edges = o i } })
-      ∙ sym (ap (λ a. reply noJudgement (a >>= (λ x. given (judgement (x .nodes) (x .shape))))) (p .ready z .given-is))
+  judge-given v n edges e q o =
+      (λ i. record { number = 0; place = 0; rest = record { verdict = e i; noneApart = (q ∙ apart-are r) i; edges = o i } })
+      ∙ sym (ap (λ a. reply noJudgement (a >>= (λ x. given (judgement (x .nodes) (x .shape))))) (r .given-is))
 
 -- the numbers of a verdict are those of the paper's
 numbers-told : (v : Verdict) → numbersOf v ≡ verdictNumbers (told v)

@@ -1,10 +1,14 @@
 -- What judging answers, in the paper's terms. Assumes nothing.
 use Prim.Native.Nat.{ℕ}
+use mathlib.Core.Path.{_≡_}
 use mathlib.Core.Bool.{Bool}
 use mathlib.Core.List.{List}
+use Rattle.paper.specs.Format.{Format}
 use Rattle.paper.specs.Partners.{EdgeNumbers}
 use Rattle.paper.specs.Verdict.{Judgement, verdictNumbers}
-use Rattle.paper.specs.Calls.{Reply}
+use Rattle.paper.specs.Calls.{Reply, judge}
+use Rattle.closest.specs.Rows.{RowsIn}
+use Rattle.closest.specs.declared.rows.RowsRead.{RowsRead}
 use Rattle.judging.specs.Told.{numbersOf}
 use Rattle.partners.specs.declared.edges.Edges.{Edges}
 use Rattle.judging.specs.declared.judge.Judged.{Judged}
@@ -47,3 +51,7 @@ inNumbers r = record {
   place = r .place;
   rest = record { verdict = verdictNumbers (r .rest .verdict); noneApart = r .rest .noneApart; edges = r .rest .edges };
 }
+
+-- whatever table the rows are of, r is what judging it says
+abbrev pub JudgesRows : Format → List ℕ → RowsRead → List ℕ → List ℕ → Judged → Type 0
+JudgesRows f s read levels types r = (t : List ℕ) → RowsIn f t read levels types → judged r ≡ inNumbers (judge f t s)

@@ -5,14 +5,19 @@ use crate::pairs::first_fault;
 use crate::second::none_apart;
 use crate::second::none_apart_beside;
 use crate::verdict::Verdict;
+use closest::rows::RowsRead;
+use closest::rows::read_rows;
+use indexes::test::read_indexed;
 use paper::Format;
 use partners::edges::Edges;
 use partners::edges::walk_edges;
 use shapes::work::prepare;
 ghost use mathlib.Core.Path.{_≡_};
 ghost use Rattle.paper.specs.Calls.{judge, noJudgement};
+ghost use Rattle.paper.specs.Index.{judgeWith};
 ghost use Rattle.bytes.specs.Served.{Served};
-ghost use Rattle.judging.specs.Judged.{judged, inNumbers, edgesOf, numbersIn};
+ghost use Rattle.closest.specs.Rows.{SomeRows};
+ghost use Rattle.judging.specs.Judged.{judged, inNumbers, edgesOf, numbersIn, JudgesRows};
 
 // What judging answers: a refusal with verdict Kept, no and zeros, or the verdict, the second answer, and for each entry but the first how many
 // closest rows there are along its edge, both ways; entry 0 and unused entries hold zeros.
@@ -27,7 +32,7 @@ pub struct Judged {
     pub greatest_parents: [usize; 16],
 }
 
-fn refused(number: usize, place: usize) -> Judged
+pub fn refused(number: usize, place: usize) -> Judged
     ensures { λ r. ⌜ judged r ≡ inNumbers (record { number = number; place = place; rest = noJudgement }) ⌝ }
 {
     Judged {
@@ -61,25 +66,15 @@ fn given(verdict: Verdict, none: bool, edges: Edges) -> Judged
     }
 }
 
-// Refusals 1 to 7, or the verdict, a row without a partner before all pairs, the second answer over all pairs, and the numbers of all edges,
-// whatever the verdict.
-pub fn judge(table: &[u8], shape: &[u8], f: Format) -> Judged
-    requires { ⌜ Served f ⌝ }
-    ensures { λ r. ⌜ judged r ≡ inNumbers (judge f (now (table .entry)) (now (shape .entry))) ⌝ }
+// Refusals 5 to 7, or the verdict, a row without a partner before all pairs, the second answer over all pairs, and the numbers of all edges,
+// whatever the verdict, for the rows of a table that were read.
+pub fn judge_rows(shape: &[u8], f: Format, read: RowsRead, levels: &[u8], types: &[u8]) -> Judged
+    requires { ⌜ Served f × SomeRows f read (now levels) (now types) ⌝ }
+    ensures { λ r. ⌜ JudgesRows f (now (shape .entry)) read (now (levels .entry)) (now (types .entry)) r ⌝ }
 {
-    let mut levels = [0u8; 1024];
-    let mut types = [0u8; 1024];
     let mut meetings = [0u8; 1024];
     let mut ways = [0u8; 128];
-    let prepared = prepare(
-        table,
-        shape,
-        f,
-        &mut levels,
-        &mut types,
-        &mut meetings,
-        &mut ways,
-    );
+    let prepared = prepare(shape, f, read, levels, types, &mut meetings, &mut ways);
     let number = prepared.number;
     let place = prepared.place;
     if number != 0 {
@@ -87,10 +82,10 @@ pub fn judge(table: &[u8], shape: &[u8], f: Format) -> Judged
     }
     let rows = prepared.rows;
     let drawn = prepared.shape;
-    let edges = walk_edges(&levels, &types, rows, drawn);
+    let edges = walk_edges(levels, types, rows, drawn);
     let met = edges.met;
     let from = edges.from;
-    let lone = first_lone(&levels, &types, rows, drawn, met, from);
+    let lone = first_lone(levels, types, rows, drawn, met, from);
     match lone {
         Verdict::Kept => {
             let least = edges.least_children;
@@ -104,4 +99,36 @@ pub fn judge(table: &[u8], shape: &[u8], f: Format) -> Judged
             given(lone, none, edges)
         }
     }
+}
+
+// Refusals 1 to 4, or what is judged of the rows that were read.
+pub fn judge(table: &[u8], shape: &[u8], f: Format) -> Judged
+    requires { ⌜ Served f ⌝ }
+    ensures { λ r. ⌜ judged r ≡ inNumbers (judge f (now (table .entry)) (now (shape .entry))) ⌝ }
+{
+    let mut levels = [0u8; 1024];
+    let mut types = [0u8; 1024];
+    let read = read_rows(table, f, &mut levels, &mut types);
+    let number = read.number;
+    let place = read.place;
+    if number != 0 {
+        return refused(number, place);
+    }
+    judge_rows(shape, f, read, &levels, &types)
+}
+
+// Refusals 1 to 4, then 14 and 15 of the lists that are lent as the table's index, or what is judged of the rows that were read.
+pub fn judge_with_index(table: &[u8], shape: &[u8], f: Format, last: &[u16], next: &[u16]) -> Judged
+    requires { ⌜ Served f ⌝ }
+    ensures { λ r. ⌜ judged r ≡ inNumbers (judgeWith f (now (table .entry)) (now (shape .entry)) (now (last .entry)) (now (next .entry))) ⌝ }
+{
+    let mut levels = [0u8; 1024];
+    let mut types = [0u8; 1024];
+    let read = read_indexed(table, f, last, next, &mut levels, &mut types);
+    let number = read.number;
+    let place = read.place;
+    if number != 0 {
+        return refused(number, place);
+    }
+    judge_rows(shape, f, read, &levels, &types)
 }

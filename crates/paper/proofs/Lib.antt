@@ -29,3 +29,4 @@ pub mod MadeUp
 pub mod Sound
 pub mod Needed
 pub mod Figures
+pub mod Index

@@ -11,6 +11,7 @@ pub mod Verdict
 pub mod Calls
 pub mod Widths
 pub mod Labels
+pub mod Index
 pub mod Links
 pub mod Edges
 pub mod MadeUp
@@ -24,3 +25,4 @@ pub mod Tried
 pub mod WidthSamples
 pub mod LabelSamples
 pub mod PartnerSamples
+pub mod IndexSamples

@@ -24,8 +24,10 @@ use Rattle.bytes.specs.Served.{mostLevels, Served}
 use Rattle.bytes.proofs.Writing.{front-written}
 use Rattle.tables.proofs.Rows.{row-in}
 use Rattle.shapes.specs.Tests.{shapeIn}
-use Rattle.closest.specs.Runs.{Runs}
-use Rattle.shapes.specs.Work.{Work, Ready, Prepared}
+use Rattle.closest.specs.Runs.{Runs, NextRows}
+use Rattle.closest.specs.Rows.{RowsIn}
+use Rattle.closest.specs.declared.rows.RowsRead.{RowsRead}
+use Rattle.shapes.specs.Work.{Work, Ready}
 use Rattle.shapes.specs.declared.shape.Shape.{Shape}
 use Rattle.lines.specs.Lines.{Numbered, bytesOf, sourcesOf}
 use Rattle.lines.specs.Places.{Spacious}
@@ -68,6 +70,14 @@ reshapes {f} served {t} {s} {new} {sources} r new′ sources′ er en es = recor
     listed : take (r .lines) sources′ ≡ take (reshape f t s new sources .reply .rest) (reshape f t s new sources .sources)
     listed = ap₂ (λ k l. take k l) count es
 
+-- a refusal changes nothing
+pub leaves : {f : Format} → Served f → (t s new sources : List ℕ) (r : Reshaped) (k p : ℕ) → reshaped r ≡ record { number = k; place = p; rest = 0 }
+    → reshape f t s new sources ≡ record { reply = record { number = k; place = p; rest = 0 }; table = new; sources = sources }
+    → Reshapes f t s new sources r new sources
+leaves served t s new sources r k p is e =
+    reshapes served r new sources (is ∙ sym (ap (λ (x : Reshaping). x .reply) e)) (sym (ap (λ (x : Reshaping). x .table) e))
+    (sym (ap (λ (x : Reshaping). x .sources) e))
+
 -- the runs are named, and the lists are long enough for what is written
 pub runs-named : {f : Format} {t s : List ℕ} {w : Work} → Ready f t s w → {runs lists : List ℕ} → Runs mostLevels (w .rows) (w .levels) runs
     → Spacious runs lists → RunsNamed f (w .rows) t (w .types) runs (w .shape) lists
@@ -82,12 +92,18 @@ runs-named {w = w} y names room = record {
   room = room;
 }
 
+-- the next rows of the rows that were read are those of the rows that are worked on
+pub next-as : {f : Format} {t s : List ℕ} {w : Work} → Ready f t s w → {read : RowsRead} {levels ks : List ℕ} → RowsIn f t read levels ks
+    → (next : List ℕ) → NextRows (read .rows) ks next × (read .rows ≤ length next) → NextRows (w .rows) ks next × (w .rows ≤ length next)
+next-as y {ks = ks} rows next =
+    subst (λ n. NextRows n ks next × (n ≤ length next)) (rows .levelled .typed .rows-n ∙ sym (y .levelled .typed .rows-n))
+
 -- what writing leaves, from the first place on
 pub left-at-front : {f : Format} {t : List ℕ} {d : Shape} {new₀ sources₀ new sources : List ℕ} {q : ℕ} → WrittenAll f t d new₀ sources₀ new sources q
     → (q ≡ length (allLines f t d)) × ((new ≡ sets new₀ 0 (bytesOf f t d (allLines f t d))) × (sources ≡ sets sources₀ 0 (sourcesOf (allLines f t d))))
 left-at-front {f} written = (omega (arith, written .counted), (rw (mul-zero (rowBytes f)) at (written .records), written .places))
 
-module _ {f : Format} {t s : List ℕ} {w : Work} (p : Prepared f t s w) (z : w .number ≡ 0) (table sources : List ℕ)
+module _ {f : Format} {t s : List ℕ} {w : Work} (y : Ready f t s w) (table sources : List ℕ)
     (le : length (lines (nodes (rows f t)) (shapeIn f t s) (f .levels)) ≤ roomIn f table sources) where
   abbrev ls : List Line
   ls = lines (nodes (rows f t)) (shapeIn f t s) (f .levels)
@@ -100,22 +116,22 @@ module _ {f : Format} {t s : List ℕ} {w : Work} (p : Prepared f t s w) (z : w 
 
   pub fits : Fits f table sources (length (allLines f t (w .shape)))
   fits =
-      let n = length-is (p .ready z) in
+      let n = length-is y in
       record { records = subst (λ k. rowBytes f * k ≤ length table) (sym n) records-in; places = omega (arith, n); few = omega (arith, n) }
 
   pub lines-left : (n : ℕ) → n ≡ length (allLines f t (w .shape))
       → record { number = 0; place = 0; rest = n } ≡ reshape f t s table sources .reply
   lines-left n e =
-      ap {B = Reply ℕ} (λ k. record { number = 0; place = 0; rest = k }) (e ∙ length-is (p .ready z))
-      ∙ sym (ap (λ (x : Reshaping). x .reply) (reshape-given p table sources z le))
+      ap {B = Reply ℕ} (λ k. record { number = 0; place = 0; rest = k }) (e ∙ length-is y)
+      ∙ sym (ap (λ (x : Reshaping). x .reply) (reshape-given y table sources le))
 
   pub table-left : (table′ : List ℕ) → table′ ≡ sets table 0 (bytesOf f t (w .shape) (allLines f t (w .shape)))
       → table′ ≡ reshape f t s table sources .table
   table-left table′ e =
       let new = newTable f (shapeIn f t s) (rows f t) ls in
-      let long : length new ≡ length ls * rowBytes f = written-length f t s _ (p .ready z .given-is) (omega arith) in
-      e ∙ ap (sets table 0) (bytes-are (p .ready z)) ∙ front-written table new (omega (arith, long, records-in, mul-comm (length ls) (rowBytes f)))
-      ∙ sym (ap (λ (x : Reshaping). x .table) (reshape-given p table sources z le))
+      let long : length new ≡ length ls * rowBytes f = written-length f t s _ (y .given-is) (omega arith) in
+      e ∙ ap (sets table 0) (bytes-are y) ∙ front-written table new (omega (arith, long, records-in, mul-comm (length ls) (rowBytes f)))
+      ∙ sym (ap (λ (x : Reshaping). x .table) (reshape-given y table sources le))
 
   pub sources-left : (sources′ : List ℕ) → sources′ ≡ sets sources 0 (sourcesOf (allLines f t (w .shape)))
       → sources′ ≡ reshape f t s table sources .sources
@@ -123,5 +139,5 @@ module _ {f : Format} {t s : List ℕ} {w : Work} (p : Prepared f t s w) (z : w 
   sources-left sources′ e =
       let list = sourceList ls in
       let long : length list ≡ length ls = length-map ls (λ (l : Line). l .entry * entryUnit + l .source .place) in
-      e ∙ ap (sets sources 0) (sources-are (p .ready z)) ∙ front-written sources list (omega (arith, long))
-      ∙ sym (ap (λ (x : Reshaping). x .sources) (reshape-given p table sources z le))
+      e ∙ ap (sets sources 0) (sources-are y) ∙ front-written sources list (omega (arith, long))
+      ∙ sym (ap (λ (x : Reshaping). x .sources) (reshape-given y table sources le))

@@ -12,17 +12,23 @@ use Rattle.paper.specs.Sound.{SoundSource}
 use Rattle.paper.specs.Edges.{ChildrenShown, ChildrenBetween}
 use Rattle.paper.specs.Figures.{Figures}
 use Rattle.paper.specs.Shown.{FiguresAgree}
-use Rattle.paper.specs.Calls.{Reply, judge, summarise}
+use Rattle.paper.specs.Calls.{Reply, given, judge, summarise}
+use Rattle.paper.specs.Index.{testsIndex, summariseWith}
 use Rattle.paper.proofs.Figures.{summary-agrees, summary-shows-all}
-use Rattle.reshaping.specs.Reshaped.{summarised, Reshapes}
+use Rattle.reshaping.specs.Reshaped.{reshaped, summarised, Reshapes, ReshapesWith}
 use Rattle.reshaping.specs.declared.reshape.Reshaped.{Reshaped}
 use Rattle.reshaping.specs.declared.summarise.Summary.{Summary}
+use Rattle.reshaping.proofs.Indexed.{summary-with-plain}
+
+-- two answers that are one reply are one
+answer-same : (a b : Reshaped) → reshaped a ≡ reshaped b → a ≡ b
+answer-same a b = ap {B = Reshaped} (λ (r : Reply ℕ). record { number = r .number; place = r .place; lines = r .rest })
 
 module _ {f : Format} {t s new sources new₁ sources₁ : List ℕ} {a : Reshaped} (p : Reshapes f t s new sources a new₁ sources₁) where
   -- Two reshapes that keep the promise give one answer, and leave the same in every lent byte and place.
   pub reshape-unique : {new₂ sources₂ : List ℕ} {b : Reshaped} → Reshapes f t s new sources b new₂ sources₂ → (a ≡ b) × (new₁ ≡ new₂) × (sources₁ ≡ sources₂)
-  reshape-unique q = (
-    ap {B = Reshaped} (λ (r : Reply ℕ). record { number = r .number; place = r .place; lines = r .rest }) (p .answer ∙ sym (q .answer)),
+  reshape-unique {b = b} q = (
+    answer-same a b (p .answer ∙ sym (q .answer)),
     p .bytes ∙ sym (q .bytes),
     p .places ∙ sym (q .places),
   )
@@ -53,8 +59,9 @@ module _ {f : Format} {t s new sources new₁ sources₁ : List ℕ} {a : Reshap
   sound-promised = p .sound
 
 -- ---- summarising
-pub summarise-unique : (f : Format) (t s : List ℕ) (a b : Summary) → summarised a ≡ summarise f t s → summarised b ≡ summarise f t s → a ≡ b
-summarise-unique f t s a b ea eb =
+-- two summaries that are one reply are one
+summary-same : (a b : Summary) → summarised a ≡ summarised b → a ≡ b
+summary-same a b e =
     let from : Reply Figures → Summary = λ r. record {
       number = r .number;
       place = r .place;
@@ -63,7 +70,10 @@ summarise-unique f t s a b ea eb =
       copies = r .rest .copies;
       different = r .rest .different;
     } in
-    ap from (ea ∙ sym eb)
+    ap from e
+
+pub summarise-unique : (f : Format) (t s : List ℕ) (a b : Summary) → summarised a ≡ summarise f t s → summarised b ≡ summarise f t s → a ≡ b
+summarise-unique f t s a b ea eb = summary-same a b (ea ∙ sym eb)
 
 module _ (f : Format) (t s : List ℕ) (a : Summary) (q : summarised a ≡ summarise f t s) where
   -- An entry's different rows are no more than its lines, nor than the rows of its type, and its other lines are copies.
@@ -73,3 +83,22 @@ module _ (f : Format) (t s : List ℕ) (a : Summary) (q : summarised a ≡ summa
   -- Where the verdict is 0, every row of an entry's type is shown.
   pub all-shown : judge f t s .rest .verdict ≡ kept → a .different ≡ a .rows
   all-shown ok = subst (λ (r : Reply Figures). r .rest .different ≡ r .rest .rows) (sym q) (summary-shows-all f t s ok)
+
+-- ---- with an index
+module _ {f : Format} {t s last next new sources new₁ sources₁ : List ℕ} {a : Reshaped} (p : ReshapesWith f t s last next new sources a new₁ sources₁) where
+  -- Two reshapes with an index that keep the promise give one answer, and leave the same in every lent byte and place.
+  pub reshape-with-unique : {new₂ sources₂ : List ℕ} {b : Reshaped} → ReshapesWith f t s last next new sources b new₂ sources₂
+      → (a ≡ b) × (new₁ ≡ new₂) × (sources₁ ≡ sources₂)
+  reshape-with-unique {b = b} q = (answer-same a b (p .answer ∙ sym (q .answer)), p .bytes ∙ sym (q .bytes), p .places ∙ sym (q .places))
+
+  -- Where the index is this table's, all that is promised of a reshape without one is a part of the promise.
+  pub plain-promised : testsIndex f t last next ≡ given tt → Reshapes f t s new sources a new₁ sources₁
+  plain-promised = p .plain
+
+module _ (f : Format) (t s last next : List ℕ) (a : Summary) (q : summarised a ≡ summariseWith f t s last next) where
+  pub summarise-with-unique : (b : Summary) → summarised b ≡ summariseWith f t s last next → a ≡ b
+  summarise-with-unique b e = summary-same a b (q ∙ sym e)
+
+  -- Where the index is this table's, it is the summary without one.
+  pub summary-as-plain : testsIndex f t last next ≡ given tt → summarised a ≡ summarise f t s
+  summary-as-plain e = q ∙ sym (summary-with-plain f t s last next e)

@@ -11,7 +11,10 @@ use Rattle.paper.specs.MadeUp.{NothingMadeUp, unshown}
 use Rattle.paper.specs.Sound.{SoundSource}
 use Rattle.paper.specs.Edges.{ChildrenShown, ChildrenBetween}
 use Rattle.paper.specs.Figures.{Figures}
-use Rattle.paper.specs.Calls.{Reply, reshape, judge}
+use Rattle.paper.specs.Calls.{Reply, given, reshape, summarise, judge}
+use Rattle.paper.specs.Index.{testsIndex, reshapeWith}
+use Rattle.closest.specs.Rows.{RowsIn}
+use Rattle.closest.specs.declared.rows.RowsRead.{RowsRead}
 use Rattle.reshaping.specs.declared.reshape.Reshaped.{Reshaped}
 use Rattle.reshaping.specs.declared.summarise.Summary.{Summary}
 
@@ -22,6 +25,10 @@ reshaped r = record { number = r .number; place = r .place; rest = r .lines }
 -- number, place, and the figures of 16 entries
 abbrev pub summarised : Summary → Reply Figures
 summarised r = record { number = r .number; place = r .place; rest = record { lines = r .lines; rows = r .rows; copies = r .copies; different = r .different } }
+
+-- whatever table the rows are of, r is the summary of its reshape
+abbrev pub SummarisesRows : Format → List ℕ → RowsRead → List ℕ → List ℕ → Summary → Type 0
+SummarisesRows f s read levels types r = (t : List ℕ) → RowsIn f t read levels types → summarised r ≡ summarise f t s
 
 -- The whole promise of a reshape of the table t to the shape s: r is the answer, and new′ and sources′ are what the lent bytes and places
 -- hold afterwards.
@@ -43,3 +50,11 @@ pub record Reshapes (f : Format) (t s new sources : List ℕ) (r : Reshaped) (ne
   pub between : r .number ≡ 0 → ChildrenBetween f t s (take (r .lines * rowBytes f) new′) (take (r .lines) sources′)
   -- A reshaped table of at most 1,024 lines is a sound source: no call refuses it with 1 to 4.
   pub sound : r .number ≡ 0 → r .lines ≤ mostRows → SoundSource f s (take (r .lines * rowBytes f) new′) (r .lines)
+
+-- The whole promise of a reshape with the lists last and next lent as the index of t: the answer and what is left are the definition's, and
+-- where the index is this table's, the promise is that of the reshape without one, so that all of its parts hold.
+pub record ReshapesWith (f : Format) (t s last next new sources : List ℕ) (r : Reshaped) (new′ sources′ : List ℕ) : Type 0 where
+  pub answer : reshaped r ≡ reshapeWith f t s last next new sources .reply
+  pub bytes : new′ ≡ reshapeWith f t s last next new sources .table
+  pub places : sources′ ≡ reshapeWith f t s last next new sources .sources
+  pub plain : testsIndex f t last next ≡ given tt → Reshapes f t s new sources r new′ sources′

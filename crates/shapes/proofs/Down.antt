@@ -16,8 +16,8 @@ use Rattle.paper.specs.Format.{mostTypes}
 use Rattle.paper.specs.Tables.{typeNumber}
 use Rattle.paper.proofs.Lists.{same-self, same-eq, getD-has, up-snoc, last-snoc, up-last}
 use Rattle.paper.proofs.Tables.{number-at, number-same}
-use Rattle.types.specs.Types.{parentOf, Found}
-use Rattle.shapes.specs.EntryTypes.{Told, Numbers}
+use Rattle.types.specs.Types.{parentOf, Found, Told}
+use Rattle.shapes.specs.EntryTypes.{Numbers}
 
 -- ---- the number of a type
 -- the number is the first place

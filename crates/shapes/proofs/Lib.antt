@@ -1,7 +1,6 @@
 pub mod Entries
 pub mod Kept
 pub mod Breaks
-pub mod Told
 pub mod Down
 pub mod Numbers
 pub mod Places

@@ -19,7 +19,8 @@ use Rattle.types.proofs.Step.{below}
 use Rattle.types.proofs.Listed.{at-drop}
 use Rattle.shapes.proofs.Entries.{entry, entries-from, entries-end}
 use Rattle.shapes.proofs.Down.{number-none}
-use Rattle.shapes.specs.EntryTypes.{Told, Numbers, NumbersEach}
+use Rattle.types.specs.Types.{Told}
+use Rattle.shapes.specs.EntryTypes.{Numbers, NumbersEach}
 
 -- the number of the labels that are read from entry i is that of the type that it names
 pub read-numbers : (f : Format) (s parents labels : List ℕ) (count i : ℕ) (b : List ℕ) (size k : ℕ) → b ≡ rec (entryBytes f) i s → size ≡ byte b 1

@@ -5,17 +5,17 @@ use mathlib.Core.Path.{_≡_, refl, sym, _∙_, ap, ap₂, subst}
 use mathlib.Core.List.{List}
 use lib.ListN.{length, getD}
 use Rattle.paper.specs.Format.{Format, mostTypes}
-use Rattle.paper.specs.Tables.{rows, types}
+use Rattle.paper.specs.Tables.{rows}
 use Rattle.paper.specs.Closeness.{Node, nodes, kindsMeet}
 use Rattle.paper.specs.Shapes as Paper
 use Rattle.paper.specs.Calls.{refused}
 use Rattle.bytes.specs.Served.{Served}
 use Rattle.closest.specs.Deepest.{Meetings}
-use Rattle.closest.specs.Runs.{SoundRows, Levelled, LevelsOf, Rows}
+use Rattle.closest.specs.Rows.{RowsIn}
+use Rattle.closest.specs.declared.rows.RowsRead.{RowsRead}
 use Rattle.closest.proofs.Deepest.{types-meet, kinds-shallow}
-use Rattle.closest.proofs.Meets.{kind-few, ks-long}
 use Rattle.shapes.specs.Ways.{wayAt}
-use Rattle.shapes.specs.Tests.{Read, Passes, shapeIn}
+use Rattle.shapes.specs.Tests.{Read, Passes, PassesEach, shapeIn}
 use Rattle.shapes.specs.Edges.{Known, meetingOf}
 use Rattle.shapes.specs.Shape.{levelOf, typeOf, parentOf, edgeOf, Sized, Drawn}
 use Rattle.shapes.specs.Work.{Work, Holds, Prepared}
@@ -24,14 +24,20 @@ use Rattle.shapes.specs.declared.tests.Tested.{Tested}
 use Rattle.shapes.proofs.Given as Given
 
 -- A refusal is no work.
-pub refusal : (f : Format) (t s : List ℕ) (r : Tested) (ks ways : List ℕ) (w : Work) → Passes f t s r ks ways → (r .number ≡ 0 → ⊥)
+pub refusal : (f : Format) (t s : List ℕ) (r : Tested) (ways : List ℕ) (w : Work) → Passes f t s r ways → (r .number ≡ 0 → ⊥)
     → (w .number ≡ r .number) × (w .place ≡ r .place) → Prepared f t s w
-refusal f t s r ks ways w p ne is = record {
+refusal f t s r ways w p ne is = record {
   refused-is = λ _. p .refused-is ne ∙ ap₂ (λ a b. refused a b) (sym (is .0)) (sym (is .1));
   ready = λ z. absurd (ne (sym (is .0) ∙ z));
 }
 
-module _ {f : Format} {t s : List ℕ} {r : Tested} {ks ways : List ℕ} (p : Passes f t s r ks ways) (z : r .number ≡ 0) where
+-- The rows of a table have what tests 5 to 7 ask of it.
+pub tested : {f : Format} {t s : List ℕ} {read : RowsRead} {levels ks : List ℕ} {r : Tested} {ways : List ℕ} → RowsIn f t read levels ks
+    → PassesEach f (read .parents) (read .labels) (read .count) s r ways → Passes f t s r ways
+tested {t = t} i p = p t (i .given-is) (i .told)
+
+module _ {f : Format} {t s : List ℕ} {read : RowsRead} {levels ks : List ℕ} {r : Tested} {ways : List ℕ} (i : RowsIn f t read levels ks)
+    (p : Passes f t s r ways) (z : r .number ≡ 0) where
   abbrev ns : List Node
   ns = nodes (rows f t)
 
@@ -47,34 +53,18 @@ module _ {f : Format} {t s : List ℕ} {r : Tested} {ks ways : List ℕ} (p : Pa
   some-entry : 1 ≤ r .entries
   some-entry = omega (arith, Given.some-entry f t s (p .given-is z), held .counted)
 
-  -- ---- what the levels and the edges ask for
-  pub sound-rows : SoundRows f (r .rows) t
-  sound-rows = record { sound = p .typed z .sound; rows-n = p .typed z .rows-n; few = p .few-rows z }
-
+  -- ---- what the edges ask for
   pub known : Known (r .entries) (r .types) (r .parents)
   known = record {
     inside = record {
       few = held .few;
       under = λ e lt. omega (arith, held .parent-is e lt, Given.parent-in f t s (p .given-is z) e (inways e lt), held .counted);
     };
-    typed = λ e lt. omega (arith, p .known z e lt, p .few-types z);
+    typed = λ e lt. omega (arith, p .known z e lt, i .told .count-is, i .told .few);
   }
 
-  pub rows-are : (levels : List ℕ) → LevelsOf f (r .rows) t levels → length levels ≡ 1024 → Rows (r .rows) levels ks
-  rows-are levels ls long = record {
-    few = p .few-rows z;
-    levels-long = omega (arith, p .few-rows z);
-    types-long = ks-long f (r .rows) t ks (p .typed z);
-    level-some = ls .level-some;
-    type-few = λ i lt. omega (arith, kind-few f (r .rows) t ks (p .typed z) i lt, p .few-types z);
-  }
-
-  module _ (levels meetings : List ℕ) (ls : LevelsOf f (r .rows) t levels) (long : length levels ≡ 1024)
-      (met : Meetings (r .rows) levels ks (r .types) meetings)
+  module _ (meetings : List ℕ) (met : Meetings (read .rows) levels ks (r .types) meetings)
       (d : Shape) (drawn : Drawn (r .entries) (r .levels) (r .labels) (r .types) (r .parents) meetings d) where
-    levelled : Levelled f (r .rows) t levels ks
-    levelled = record { typed = p .typed z; level-is = ls .level-is }
-
     -- ---- an entry of the shape as it was read
     inside : (e : ℕ) → e < d .entries → e < r .entries
     inside e lt = omega (arith, drawn .entries-are)
@@ -96,7 +86,7 @@ module _ {f : Format} {t s : List ℕ} {r : Tested} {ks ways : List ℕ} (p : Pa
     meeting-is e c le lc =
         let few = held .few in
         ap₂ (λ a b. max a b) (met (getD (r .types) c 0) e (type-few c lc) (omega arith)) (met (getD (r .types) e 0) c (type-few e le) (omega arith))
-        ∙ types-meet f (r .rows) t levels ks levelled (getD (r .types) e 0) (getD (r .types) c 0)
+        ∙ types-meet f (read .rows) t levels ks (i .levelled) (getD (r .types) e 0) (getD (r .types) c 0)
 
     meets : (e c : ℕ) → e < d .entries → c < d .entries → meetingOf meetings (d .types) e c ≡ kindsMeet ns (typeOf d e) (typeOf d c)
     meets e c le lc =
@@ -132,7 +122,7 @@ module _ {f : Format} {t s : List ℕ} {r : Tested} {ks ways : List ℕ} (p : Pa
       under = λ c pos lt. nearest c pos lt .0;
       top = top;
       down = λ c pos lt. nearest c pos lt .1;
-      deep = λ c lt. omega (arith, edge-is c lt, kinds-shallow f (r .rows) t ks (p .typed z) (typeOf d (parentOf d c)) (typeOf d c), served .shallow);
+      deep = λ c lt. omega (arith, edge-is c lt, kinds-shallow f (read .rows) t ks (i .levelled .typed) (typeOf d (parentOf d c)) (typeOf d c), served .shallow);
       before = λ e lt. omega (arith, drawn .ends-are .before e, drawn .entries-are);
       last = λ c pos lt. subst (λ q. c < getD (d .ends) q 0) (sym (parent-at c)) (drawn .ends-are .last c pos (inside c lt));
     }
@@ -141,7 +131,7 @@ module _ {f : Format} {t s : List ℕ} {r : Tested} {ks ways : List ℕ} (p : Pa
     work = record {
       number = 0;
       place = 0;
-      rows = r .rows;
+      rows = read .rows;
       levels = levels;
       types = ks;
       meetings = meetings;
@@ -162,7 +152,7 @@ module _ {f : Format} {t s : List ℕ} {r : Tested} {ks ways : List ℕ} (p : Pa
     pub prepared : Served f → Prepared f t s (record {
       number = 0;
       place = 0;
-      rows = r .rows;
+      rows = read .rows;
       levels = levels;
       types = ks;
       meetings = meetings;
@@ -174,8 +164,8 @@ module _ {f : Format} {t s : List ℕ} {r : Tested} {ks ways : List ℕ} (p : Pa
       ready = λ _. record {
         served = served;
         given-is = p .given-is z;
-        levelled = levelled;
-        rows-are = rows-are levels ls long;
+        levelled = i .levelled;
+        rows-are = i .rows-are;
         shaped = record { sized = sized served; meets = edge-is };
         shallow = λ e lt. deep e (inside e lt);
         meets = meets;

@@ -1,4 +1,4 @@
--- Refusals 1 to 7 in their order: what the tests answer once each is known. Assumes nothing.
+-- Refusals 5 to 7 in their order, after those of the table: what the tests answer once each is known. Assumes nothing.
 use Prim.Native.Nat.{ℕ, _≤_, _<_}
 use mathlib.Core.Path.{_≡_, refl, sym, _∙_, ap}
 use mathlib.Core.Bool.{Bool, true, false, not}
@@ -12,7 +12,7 @@ use Rattle.paper.specs.Format.{Format}
 use Rattle.paper.specs.Tables.{Row, rows, types}
 use Rattle.paper.specs.Closeness.{nodes}
 use Rattle.paper.specs.Shapes.{Entry, entries, named, shapeOver}
-use Rattle.paper.specs.Calls.{Answer, refused, given, _>>=_, refuseAt, Work, typeTooMany, typeMissing, tests1-3, tests1-4, tests5-6, tests1-7}
+use Rattle.paper.specs.Calls.{Answer, refused, given, _>>=_, refuseAt, Work, typeMissing, tests1-4, tests5-6, tests1-7}
 
 -- ---- the first entry whose type has no row, from its place
 module _ (rs : List Row) (es : List Entry) (p : ℕ) (first : p ≡ place (λ e. not (any (same (named e)) (types rs))) es) where
@@ -40,40 +40,28 @@ missed rs es o = refuseAt 7 o >>= (λ _. given (workOf rs es))
 abbrev shaped : List Row → Answer (List Entry) → Answer Work
 shaped rs a = a >>= (λ (es : List Entry). missed rs es (typeMissing rs es))
 
-abbrev listed : List Row → Option ℕ → Answer (List Entry) → Answer Work
-listed rs o a = (refuseAt 4 o >>= (λ _. given rs)) >>= (λ (rs : List Row). shaped rs a)
-
 module _ (f : Format) (t s : List ℕ) where
-  abbrev tabled : Answer (List Row) → Answer Work
-  tabled a = (a >>= (λ (rs : List Row). refuseAt 4 (typeTooMany rs) >>= (λ _. given rs))) >>= (λ (rs : List Row). shaped rs (tests5-6 f s))
-
-  tests-are : tests1-7 f t s ≡ tabled (tests1-3 f t)
-  unfolding tests1-7 tests1-4
+  tests-are : tests1-7 f t s ≡ tests1-4 f t >>= (λ (rs : List Row). shaped rs (tests5-6 f s))
+  unfolding tests1-7
   tests-are = refl
 
-  pub refused-table : (k p : ℕ) → tests1-3 f t ≡ refused k p → tests1-7 f t s ≡ refused k p
-  refused-table k p e = tests-are ∙ ap tabled e
+  -- What refuses a table refuses it beside every shape.
+  pub refused-table : (k p : ℕ) → tests1-4 f t ≡ refused k p → tests1-7 f t s ≡ refused k p
+  refused-table k p e = tests-are ∙ ap (λ a. a >>= (λ (rs : List Row). shaped rs (tests5-6 f s))) e
 
-  module _ (table : tests1-3 f t ≡ given (rows f t)) where
-    from-table : tests1-7 f t s ≡ listed (rows f t) (typeTooMany (rows f t)) (tests5-6 f s)
-    from-table = tests-are ∙ ap tabled table
+  module _ (table : tests1-4 f t ≡ given (rows f t)) where
+    from-table : tests1-7 f t s ≡ shaped (rows f t) (tests5-6 f s)
+    from-table = tests-are ∙ ap (λ a. a >>= (λ (rs : List Row). shaped rs (tests5-6 f s))) table
 
-    pub refused-types : (p : ℕ) → typeTooMany (rows f t) ≡ some p → tests1-7 f t s ≡ refused 4 p
-    refused-types p e = from-table ∙ ap (λ o. listed (rows f t) o (tests5-6 f s)) e
+    pub refused-shape : (k p : ℕ) → tests5-6 f s ≡ refused k p → tests1-7 f t s ≡ refused k p
+    refused-shape k p e = from-table ∙ ap (shaped (rows f t)) e
 
-    module _ (few : typeTooMany (rows f t) ≡ none) where
-      from-types : tests1-7 f t s ≡ shaped (rows f t) (tests5-6 f s)
-      from-types = from-table ∙ ap (λ o. listed (rows f t) o (tests5-6 f s)) few
+    module _ (shape : tests5-6 f s ≡ given (entries f s)) where
+      from-shape : tests1-7 f t s ≡ missed (rows f t) (entries f s) (typeMissing (rows f t) (entries f s))
+      from-shape = from-table ∙ ap (shaped (rows f t)) shape
 
-      pub refused-shape : (k p : ℕ) → tests5-6 f s ≡ refused k p → tests1-7 f t s ≡ refused k p
-      refused-shape k p e = from-types ∙ ap (shaped (rows f t)) e
+      pub refused-missing : (p : ℕ) → typeMissing (rows f t) (entries f s) ≡ some p → tests1-7 f t s ≡ refused 7 p
+      refused-missing p e = from-shape ∙ ap (missed (rows f t) (entries f s)) e
 
-      module _ (shape : tests5-6 f s ≡ given (entries f s)) where
-        from-shape : tests1-7 f t s ≡ missed (rows f t) (entries f s) (typeMissing (rows f t) (entries f s))
-        from-shape = from-types ∙ ap (shaped (rows f t)) shape
-
-        pub refused-missing : (p : ℕ) → typeMissing (rows f t) (entries f s) ≡ some p → tests1-7 f t s ≡ refused 7 p
-        refused-missing p e = from-shape ∙ ap (missed (rows f t) (entries f s)) e
-
-        pub none-refused : typeMissing (rows f t) (entries f s) ≡ none → tests1-7 f t s ≡ given (workOf (rows f t) (entries f s))
-        none-refused e = from-shape ∙ ap (missed (rows f t) (entries f s)) e
+      pub none-refused : typeMissing (rows f t) (entries f s) ≡ none → tests1-7 f t s ≡ given (workOf (rows f t) (entries f s))
+      none-refused e = from-shape ∙ ap (missed (rows f t) (entries f s)) e

@@ -1,24 +1,14 @@
--- What a list of types says, and what the types of a shape's entries are in it. Assumes nothing.
+-- What the types of a shape's entries are in a list of types. Assumes nothing.
 use Prim.Native.Nat.{ℕ, _≤_, _<_}
 use mathlib.Core.Path.{_≡_}
 use mathlib.Core.Bool.{not}
-use mathlib.Core.List.{List, [], map}
-use lib.ListN.{length, getD, take}
-use Rattle.paper.specs.Lists.{Has, any, place, same, lastOr, up}
-use Rattle.paper.specs.Format.{mostTypes}
+use mathlib.Core.List.{List, map}
+use lib.ListN.{length, getD}
+use Rattle.paper.specs.Lists.{any, place, same}
 use Rattle.paper.specs.Tables.{typeNumber}
 use Rattle.paper.specs.Shapes.{Entry, named}
-use Rattle.types.specs.Types.{parentOf}
+use Rattle.types.specs.Types.{Told}
 use Rattle.shapes.specs.declared.entry_types.EntryTypes.{EntryTypes}
-
--- the first `count` places list the types ts, each by its parent type and last label; what stands above a type is a type
-pub record Told (ts : List (List ℕ)) (parents labels : List ℕ) (count : ℕ) : Type 0 where
-  pub count-is : count ≡ length ts
-  pub few : count ≤ mostTypes
-  pub parent : (k : ℕ) → k < count → getD parents k 0 ≡ parentOf ts (up (getD ts k []))
-  pub label : (k : ℕ) → k < count → getD labels k 0 ≡ lastOr 0 (getD ts k [])
-  pub whole : (v : List ℕ) → Has v ts → 0 < length v
-  pub above : (v : List ℕ) → Has v ts → (k : ℕ) → 0 < k → k ≤ length v → Has (take k v) ts
 
 -- `place` is the first entry whose type is none of ts, the number of entries for none; then the rest is the number of each entry's type
 pub record TypesAre (ts : List (List ℕ)) (es : List Entry) (entries : ℕ) (r : EntryTypes) : Type 0 where

@@ -3,7 +3,7 @@ use Prim.Native.Nat.{ℕ, _*_, _≤_, _<_}
 use mathlib.Core.Path.{_≡_}
 use mathlib.Core.List.{List}
 use lib.ListN.{length, getD}
-use Rattle.paper.specs.Format.{Format, mostRows, mostEntries}
+use Rattle.paper.specs.Format.{Format, mostEntries}
 use Rattle.paper.specs.Tables.{rows}
 use Rattle.paper.specs.Closeness.{nodes, kindsMeet}
 use Rattle.paper.specs.Shapes as Paper
@@ -11,6 +11,8 @@ use Rattle.paper.specs.Calls.{refused, given, tests1-7}
 use Rattle.bytes.specs.Served.{Served}
 use Rattle.closest.specs.Deepest.{noMeetings}
 use Rattle.closest.specs.Runs.{Levelled, Rows}
+use Rattle.closest.specs.Rows.{RowsIn}
+use Rattle.closest.specs.declared.rows.RowsRead.{RowsRead}
 use Rattle.shapes.specs.Ways.{wayPlaces, wayAt}
 use Rattle.shapes.specs.Tests.{shapeIn}
 use Rattle.shapes.specs.Edges.{meetingOf}
@@ -55,10 +57,8 @@ pub record Prepared (f : Format) (t s : List ℕ) (w : Work) : Type 0 where
   pub refused-is : (w .number ≡ 0 → ⊥) → tests1-7 f t s ≡ refused (w .number) (w .place)
   pub ready : w .number ≡ 0 → Ready f t s w
 
--- the lists that are lent to prepare it: places for all rows, no meetings yet, and places for all ways
-pub record Blank (levels types meetings ways : List ℕ) : Type 0 where
-  pub levels-long : length levels ≡ mostRows
-  pub types-long : length types ≡ mostRows
+-- the lists that are lent to prepare it: no meetings yet, and places for all ways
+pub record Blank (meetings ways : List ℕ) : Type 0 where
   pub none-met : meetings ≡ noMeetings
   pub ways-long : length ways ≡ wayPlaces * mostEntries
 
@@ -75,6 +75,7 @@ workOf r levels types meetings ways = record {
   ways = ways;
 }
 
--- preparing gives r back, and leaves these lists
-abbrev pub Prepares : Format → List ℕ → List ℕ → Preparation → List ℕ → List ℕ → List ℕ → List ℕ → Type 0
-Prepares f t s r levels types meetings ways = Prepared f t s (workOf r levels types meetings ways)
+-- whatever table the rows are of, preparing gives r back, and leaves these meetings and ways
+abbrev pub Prepares : Format → List ℕ → RowsRead → Preparation → List ℕ → List ℕ → List ℕ → List ℕ → Type 0
+Prepares f s read r levels types meetings ways =
+    (t : List ℕ) → RowsIn f t read levels types → Prepared f t s (workOf r levels types meetings ways)

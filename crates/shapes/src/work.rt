@@ -1,11 +1,12 @@
 // A table and a shape as judging, reshaping and summarising work on them.
 use crate::shape::Shape;
 use crate::shape::draw;
-use crate::tests::tests1_7;
-use closest::meet::row_levels;
+use crate::tests::tests5_7;
+use closest::rows::RowsRead;
 use paper::Format;
 ghost use mathlib.Core.Path.{_≡_};
 ghost use Rattle.bytes.specs.Served.{Served};
+ghost use Rattle.closest.specs.Rows.{SomeRows};
 ghost use Rattle.shapes.specs.Work.{Blank, Prepares};
 
 // A refusal, or the number of rows and the shape.
@@ -35,33 +36,35 @@ fn unprepared(number: usize, place: usize) -> Preparation
     }
 }
 
-// Refusals 1 to 7 in their order, or the work: each row's level and type number, where the types meet, and the ways of the entries are found
-// in the lent lists, so that none of them is copied on its way to a walk.
+// Refusals 5 to 7 in their order, or the work, for the rows of a table that were read: where the types meet and the ways of the entries are
+// found in the lent lists, so that none of them is copied on its way to a walk.
 pub fn prepare(
-    table: &[u8],
     shape: &[u8],
     f: Format,
-    levels: &mut [u8],
-    types: &mut [u8],
+    read: RowsRead,
+    levels: &[u8],
+    types: &[u8],
     meetings: &mut [u8],
     ways: &mut [u8],
 ) -> Preparation
-    requires { ⌜ Served f × Blank (now levels) (now types) (now meetings) (now ways) ⌝ }
-    ensures { λ r. ⌜ Prepares f (now (table .entry)) (now (shape .entry)) r (now (levels .exit)) (now (types .exit)) (now (meetings .exit)) (now (ways .exit)) ⌝ }
+    requires { ⌜ Served f × SomeRows f read (now levels) (now types) × Blank (now meetings) (now ways) ⌝ }
+    ensures { λ r. ⌜ Prepares f (now (shape .entry)) read r (now (levels .entry)) (now (types .entry)) (now (meetings .exit)) (now (ways .exit)) ⌝ }
 {
-    let read = tests1_7(table, shape, f, types, ways);
-    let number = read.number;
-    let place = read.place;
+    let count = read.count;
+    let type_parents = read.parents;
+    let type_labels = read.labels;
+    let tested = tests5_7(shape, f, &type_parents, &type_labels, count, ways);
+    let number = tested.number;
+    let place = tested.place;
     if number != 0 {
         return unprepared(number, place);
     }
     let rows = read.rows;
-    let entries = read.entries;
-    let entry_types = read.types;
-    let entry_levels = read.levels;
-    let labels = read.labels;
-    let parents = read.parents;
-    row_levels(table, f, rows, levels);
+    let entries = tested.entries;
+    let entry_types = tested.types;
+    let entry_levels = tested.levels;
+    let labels = tested.labels;
+    let parents = tested.parents;
     closest::meet::meetings(levels, types, rows, entry_types, meetings);
     let drawn = draw(
         entries,

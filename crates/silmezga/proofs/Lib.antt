@@ -3,3 +3,4 @@ pub mod Held
 pub mod Trees
 pub mod ReadBack
 pub mod Unique
+pub mod Indexed

@@ -1,12 +1,13 @@
-// The thirteen calls: six for tables and shapes, widening and narrowing, converting labels, and typed trees. Each has its whole promise: its refusals in
-// their order, and what every lent byte, place and summary holds afterwards. None asks anything of its caller: a call takes bytes of every kind and
-// gives its answer, or a refusal with a number and a place, and a refused call changes nothing that it was lent. The definitions that the promises
-// name are those of `paper` (specs/Calls, specs/Widths, specs/Labels) and of `grammar` (specs/Grammar, specs/Typed). The caller says which width its
-// files have, and each promise is over the format that the width names. `reader` is the small reader over a table, under the same rule; its file, with
-// its promises, stands in crate `reading`.
+// The seventeen calls: six for tables and shapes, widening and narrowing, converting labels, typed trees, and four for a table with its index. Each has
+// its whole promise: its refusals in their order, and what every lent byte, place and summary holds afterwards. None asks anything of its caller: a call
+// takes bytes and lists of every kind and gives its answer, or a refusal with a number and a place, and a refused call changes nothing that it was lent.
+// The definitions that the promises name are those of `paper` (specs/Calls, specs/Widths, specs/Labels, specs/Index) and of `grammar` (specs/Grammar,
+// specs/Typed). The caller says which width its files have, and each promise is over the format that the width names. `reader` is the small reader over
+// a table, under the same rule; its file, with its promises, stands in crate `reading`.
 use adorned::Adorned;
 pub use adorned::TypeSummary;
 pub use adorned::lent::AdornedTypes;
+pub use indexes::build::IndexBuilt;
 pub use judging::judge::Judged;
 pub use judging::verdict::Verdict;
 pub use labels::convert::Converted;
@@ -25,6 +26,7 @@ ghost use Rattle.paper.specs.Format.{base, eight};
 ghost use Rattle.paper.specs.Widths.{formatOf, moveTable, moveShape};
 ghost use Rattle.paper.specs.Calls.{examine, lookUp, adorn, judge, summarise};
 ghost use Rattle.paper.specs.Labels.{convert};
+ghost use Rattle.paper.specs.Index.{judgeWith, summariseWith};
 ghost use Rattle.grammar.specs.Typed.{printTree};
 ghost use Rattle.tables.specs.Reply.{examined, HandsBack};
 ghost use Rattle.adorned.specs.Told.{told, Says, adornFigures};
@@ -33,8 +35,9 @@ ghost use Rattle.widths.specs.Answers.{Moves};
 ghost use Rattle.labels.specs.Answers.{Converts};
 ghost use Rattle.typed.specs.Read.{ReadsTree};
 ghost use Rattle.spelling.specs.Printed.{Prints};
+ghost use Rattle.indexes.specs.Built.{Builds};
 ghost use Rattle.judging.specs.Judged.{judged, inNumbers};
-ghost use Rattle.reshaping.specs.Reshaped.{Reshapes, summarised};
+ghost use Rattle.reshaping.specs.Reshaped.{Reshapes, ReshapesWith, summarised};
 
 // Examines a table: refusals 1 to 3, or the count of rows.
 pub fn examine(width: Width, table: &[u8]) -> Examined
@@ -192,4 +195,71 @@ pub fn print_tree(width: Width, shape: &[u8], text: &mut [u8]) -> TreePrinted
     ensures { λ r. ⌜ Prints (printTree (formatOf width) (now (shape .entry)) (now (text .entry))) r (now (text .exit)) ⌝ }
 {
     spelling::print::print_tree(shape, paper::format_of(width), text)
+}
+
+// Builds the index of a table: refusals 1 to 3; 14 where either list has fewer places than the table has rows; or the count of rows, with each row's
+// last descendant, itself if none, and the next row of its type, 65,535 for none, at the front of what was lent; places past the rows stay as they
+// were. A table may have more than 64 types.
+pub fn build_index(width: Width, table: &[u8], last: &mut [u16], next: &mut [u16]) -> IndexBuilt
+    ensures { λ r. ⌜ Builds (formatOf width) (now (table .entry)) (now (last .entry)) (now (next .entry)) r (now (last .exit)) (now (next .exit)) ⌝ }
+{
+    indexes::build::build_index(table, paper::format_of(width), last, next)
+}
+
+// Judges a table and a shape, with the table's index, two lists of one place a row: `last`, the row's last descendant, and `next`, the next row of the
+// same type. Refusals 1 to 4; 14 where either list has fewer places than the table has rows; 15 with the first row at which either list is not this
+// table's; then 5 to 7. Places past the rows are not read. Where the lists are this table's, everything is as judging without an index has it.
+pub fn judge_with_index(
+    width: Width,
+    table: &[u8],
+    shape: &[u8],
+    last: &[u16],
+    next: &[u16],
+) -> Judged
+    ensures { λ r. ⌜
+        (let asked = judgeWith (formatOf width) (now (table .entry)) (now (shape .entry)) (now (last .entry)) (now (next .entry)) in
+        judged r ≡ inNumbers asked) ⌝ }
+{
+    judging::judge::judge_with_index(table, shape, paper::format_of(width), last, next)
+}
+
+// Reshapes a table, with its index: refusals 1 to 4, then 14 and 15 as judging with an index has them, then 5 to 8, or the new table and its source
+// list, at the front of what was lent; what lies past them stays as it was. `ReshapesWith` says so of the answer and of every lent byte and place. Where
+// the lists are this table's, everything is as reshaping without an index has it, with all that `Reshapes` promises.
+pub fn reshape_with_index(
+    width: Width,
+    table: &[u8],
+    shape: &[u8],
+    last: &[u16],
+    next: &[u16],
+    new: &mut [u8],
+    sources: &mut [u32],
+) -> Reshaped
+    ensures { λ r. ⌜
+        (let promised = ReshapesWith (formatOf width) (now (table .entry)) (now (shape .entry)) (now (last .entry)) (now (next .entry)) in
+        promised (now (new .entry)) (now (sources .entry)) r (now (new .exit)) (now (sources .exit))) ⌝ }
+{
+    reshaping::reshape::reshape_with_index(
+        table,
+        shape,
+        paper::format_of(width),
+        last,
+        next,
+        new,
+        sources,
+    )
+}
+
+// Summarises a reshape, with the table's index: refusals 1 to 4, then 14 and 15 as judging with an index has them, then 5 to 8, with room for 4,096
+// lines. Where the lists are this table's, everything is as summarising without an index has it.
+pub fn summarise_with_index(
+    width: Width,
+    table: &[u8],
+    shape: &[u8],
+    last: &[u16],
+    next: &[u16],
+) -> Summary
+    ensures { λ r. ⌜ summarised r ≡ summariseWith (formatOf width) (now (table .entry)) (now (shape .entry)) (now (last .entry)) (now (next .entry)) ⌝ }
+{
+    reshaping::summarise::summarise_with_index(table, shape, paper::format_of(width), last, next)
 }

@@ -1,7 +1,7 @@
 -- Laws of the answers in numbers: where a looked-up row stands, the verdict and the second answer. Assumes nothing.
 use Prim.Native.Nat.{ℕ, _*_, _≤_, _<_}
 use native.Mathlib.Omega.{arith}
-use mathlib.Core.Path.{_≡_, sym, _∙_, ap, ap₂}
+use mathlib.Core.Path.{_≡_, sym, _∙_, ap}
 use mathlib.Core.List.{List, [], _∷_, _++_}
 use lib.ListN.{length, take, drop}
 use Rattle.paper.specs.Lists.{padded}
@@ -9,17 +9,15 @@ use Rattle.paper.specs.Format.{Format, mostRows, rowBytes, whole}
 use Rattle.paper.specs.Tables.{rows}
 use Rattle.paper.specs.Verdict.{Judgement}
 use Rattle.paper.specs.Calls.{given, Reply, tests1-3, lookUp}
-use Rattle.judging.specs.Told.{numbersOf}
 use Rattle.judging.specs.Judged.{InNumbers, judged, inNumbers}
 use Rattle.judging.specs.declared.judge.Judged.{Judged}
-use Rattle.judging.specs.declared.verdict.Verdict.{Verdict}
 use Rattle.paper.proofs.Calls.{passed1-3}
 use Rattle.bytes.proofs.Laws.{record-length}
 use Rattle.tables.specs.Reply.{startOf}
 use Rattle.tables.proofs.Back.{refused-start}
 use Rattle.tables.proofs.Examine.{lookUp-row}
 use Rattle.tables.proofs.Rows.{row-in}
-use Rattle.silmezga_c.specs.Told.{LooksUp, asNumber, InFour, toldOf, fourNumbers}
+use Rattle.silmezga_c.specs.Told.{LooksUp, asNumber, InFour, judgedNumbers, fourNumbers}
 use Rattle.silmezga_c.specs.declared.LookedUp.{LookedUp}
 
 -- ---- look-up
@@ -61,13 +59,10 @@ module _ (f : Format) (t : List ℕ) (i : ℕ) where
 abbrev four : InNumbers → List ℕ
 four y = padded 3 (y .verdict) ++ (asNumber (y .noneApart) ∷ [])
 
--- a verdict's numbers, made up to three, and the second answer's are those of the reply that they were judged to be
-pub in-four : (j : Judged) (x : Reply Judgement) → judged j ≡ inNumbers x → {v : Verdict} → j .verdict ≡ v → {n : ℕ} → n ≡ asNumber (j .«none_apart»)
-    → toldOf j (padded 3 (numbersOf v) ++ (n ∷ [])) ≡ fourNumbers x
-in-four j x e p q =
-    ap₂ (λ v n. toldOf j (padded 3 (numbersOf v) ++ (n ∷ []))) (sym p) q
-    ∙ ap {B = Reply InFour} (λ (y : Reply InNumbers). record {
-      number = y .number;
-      place = y .place;
-      rest = record { four = four (y .rest); edges = y .rest .edges };
-    }) e
+-- what was judged, in numbers, is the reply that it was judged to be, in numbers
+pub in-four : (j : Judged) (x : Reply Judgement) → judged j ≡ inNumbers x → judgedNumbers j ≡ fourNumbers x
+in-four j x e = ap {B = Reply InFour} (λ (y : Reply InNumbers). record {
+  number = y .number;
+  place = y .place;
+  rest = record { four = four (y .rest); edges = y .rest .edges };
+}) e

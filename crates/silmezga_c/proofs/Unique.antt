@@ -29,7 +29,7 @@ use Rattle.typed.specs.declared.read.TreeRead.{TreeRead}
 use Rattle.spelling.specs.declared.print.TreePrinted.{TreePrinted}
 use Rattle.silmezga.proofs.Trees.{width-named, read-settled, print-settled}
 use Rattle.silmezga.proofs.Unique.{adorn-unique, moved-settled, converted-settled}
-use Rattle.silmezga_c.specs.Told.{widthOf, formatNumbered, LooksUp, InFour, edgesTold, inFour, fourNumbers}
+use Rattle.silmezga_c.specs.Told.{widthOf, formatNumbered, LooksUp, InFour, edgesTold, inFour}
 use Rattle.silmezga_c.specs.declared.LookedUp.{LookedUp}
 use Rattle.silmezga_c.specs.declared.JudgedNumbers.{JudgedNumbers}
 use Rattle.silmezga_c.proofs.silmezga_examine.Reads as examine
@@ -78,9 +78,9 @@ adorn-settled M 𝓤 H A mem run κs a g r s e f =
     λ i. (u .0 i, u .1 i))
 
 -- ---- judging
-judge-unique : (f : Format) (t s : List ℕ) (a b : JudgedNumbers) → inFour a ≡ fourNumbers (judge f t s) → inFour b ≡ fourNumbers (judge f t s) → a ≡ b
-judge-unique f t s a b p q =
-    let e : inFour a ≡ inFour b = p ∙ sym q in
+-- two answers that are one reply are one
+pub judged-same : (a b : JudgedNumbers) → inFour a ≡ inFour b → a ≡ b
+judged-same a b e =
     let at : (k : ℕ) → getD (inFour a .rest .four) k 0 ≡ getD (inFour b .rest .four) k 0 = λ k. ap (λ (x : Reply InFour). getD (x .rest .four) k 0) e in
     λ i. record {
       number = ap (λ (x : Reply InFour). x .number) e i;
@@ -99,7 +99,7 @@ pub judge-asks : Asks-nothing judge-call.Asked
 judge-asks κs a = tt
 
 pub judge-settled : Settles judge-call.Learnt (λ κs r e. r)
-judge-settled κs a r s e f = judge-unique (formatNumbered (a .0)) (now (a .1 .0)) (now (a .1 .1 .0)) r s
+judge-settled κs a r s e f x y = judged-same r s (x ∙ sym y)
 
 -- where judging is accepted, the numbers of each edge agree with rows and verdict
 pub judge-edges-agree : (κs : _) (a : _) (r : JudgedNumbers) (e : _) → judge-call.Learnt κs a r e → r .number ≡ 0

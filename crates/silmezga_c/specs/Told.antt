@@ -14,6 +14,7 @@ use Rattle.paper.specs.Calls.{Reply, lookUp}
 use Rattle.paper.specs.declared.Width.{Width}
 use Rattle.paper.specs.declared.Width.the-variants.{Six, Eight}
 use Rattle.tables.specs.Reply.{startOf}
+use Rattle.judging.specs.Told.{numbersOf}
 use Rattle.judging.specs.Judged.{edgesOf}
 use Rattle.judging.specs.declared.judge.Judged.{Judged}
 use Rattle.silmezga_c.specs.declared.LookedUp.{LookedUp}
@@ -63,6 +64,10 @@ inFour r = record {
 -- what was judged, with these four numbers
 abbrev pub toldOf : Judged → List ℕ → Reply InFour
 toldOf j four = record { number = j .number; place = j .place; rest = record { four = four; edges = edgesOf j } }
+
+-- what was judged, with the numbers of its verdict, made up to three, and of its second answer
+abbrev pub judgedNumbers : Judged → Reply InFour
+judgedNumbers j = toldOf j (padded 3 (numbersOf (j .verdict)) ++ (asNumber (j .«none_apart») ∷ []))
 
 -- a reply with a judgement, in numbers: document 01's number of the verdict and its values, zeros where it has none, and the second answer
 abbrev pub fourNumbers : Reply Judgement → Reply InFour

@@ -7,6 +7,7 @@ use adorned::lent::AdornedTypes;
 use reshaping::reshape::Reshaped;
 use reshaping::summarise::Summary;
 use silmezga::Converted;
+use silmezga::IndexBuilt;
 use silmezga::Judged;
 use silmezga::Moved;
 use silmezga::TreePrinted;
@@ -20,16 +21,18 @@ ghost use Rattle.paper.specs.Format.{base, eight};
 ghost use Rattle.paper.specs.Widths.{moveTable, moveShape};
 ghost use Rattle.paper.specs.Calls.{examine, adorn, judge, summarise};
 ghost use Rattle.paper.specs.Labels.{convert};
+ghost use Rattle.paper.specs.Index.{judgeWith, summariseWith};
 ghost use Rattle.grammar.specs.Typed.{printTree};
 ghost use Rattle.tables.specs.Reply.{examined};
 ghost use Rattle.adorned.specs.Told.{told};
 ghost use Rattle.adorned.specs.Lent.{adornedTypes};
-ghost use Rattle.reshaping.specs.Reshaped.{Reshapes, summarised};
+ghost use Rattle.indexes.specs.Built.{Builds};
+ghost use Rattle.reshaping.specs.Reshaped.{Reshapes, ReshapesWith, summarised};
 ghost use Rattle.widths.specs.Answers.{Moves};
 ghost use Rattle.labels.specs.Answers.{Converts};
 ghost use Rattle.typed.specs.Read.{ReadsTree};
 ghost use Rattle.spelling.specs.Printed.{Prints};
-ghost use Rattle.silmezga_c.specs.Told.{widthOf, formatNumbered, LooksUp, asNumber, inFour, toldOf, fourNumbers};
+ghost use Rattle.silmezga_c.specs.Told.{widthOf, formatNumbered, LooksUp, asNumber, inFour, toldOf, judgedNumbers, fourNumbers};
 
 // The width that a number names.
 fn width_of(number: u32) -> Width
@@ -157,12 +160,10 @@ fn as_number(yes: bool) -> usize
     0
 }
 
-// Refusals 1 to 7, or the verdict and the second answer in numbers, and the numbers of each edge.
-#[no_mangle]
-pub extern "C" fn silmezga_judge(width: u32, table: &[u8], shape: &[u8]) -> JudgedNumbers
-    ensures { λ r. ⌜ inFour r ≡ fourNumbers (judge (formatNumbered width) (now (table .entry)) (now (shape .entry))) ⌝ }
+// What was judged, all in numbers.
+fn judged_numbers(j: Judged) -> JudgedNumbers
+    ensures { λ r. ⌜ inFour r ≡ judgedNumbers j ⌝ }
 {
-    let j = silmezga::judge(width_of(width), table, shape);
     let verdict = j.verdict;
     let none = as_number(j.none_apart);
     match verdict {
@@ -171,6 +172,14 @@ pub extern "C" fn silmezga_judge(width: u32, table: &[u8], shape: &[u8]) -> Judg
         Verdict::Apart { first, second } => in_numbers(j, 2, first, second, none),
         Verdict::Unsure { first, second } => in_numbers(j, 3, first, second, none),
     }
+}
+
+// Refusals 1 to 7, or the verdict and the second answer in numbers, and the numbers of each edge.
+#[no_mangle]
+pub extern "C" fn silmezga_judge(width: u32, table: &[u8], shape: &[u8]) -> JudgedNumbers
+    ensures { λ r. ⌜ inFour r ≡ fourNumbers (judge (formatNumbered width) (now (table .entry)) (now (shape .entry))) ⌝ }
+{
+    judged_numbers(silmezga::judge(width_of(width), table, shape))
 }
 
 // Refusals 1 to 8, or the new table and its source list, at the front of what was lent; what lies past them stays as it was. Where the
@@ -272,4 +281,69 @@ pub extern "C" fn silmezga_print_tree(width: u32, shape: &[u8], text: &mut [u8])
     ensures { λ r. ⌜ Prints (printTree (formatNumbered width) (now (shape .entry)) (now (text .entry))) r (now (text .exit)) ⌝ }
 {
     silmezga::print_tree(width_of(width), shape, text)
+}
+
+// Refusals 1 to 3, then 14, or the count of rows, with each row's last descendant and the next row of its type at the front of what was lent; places
+// past the rows stay as they were.
+#[no_mangle]
+pub extern "C" fn silmezga_build_index(
+    width: u32,
+    table: &[u8],
+    last: &mut [u16],
+    next: &mut [u16],
+) -> IndexBuilt
+    ensures { λ r. ⌜ Builds (formatNumbered width) (now (table .entry)) (now (last .entry)) (now (next .entry)) r (now (last .exit)) (now (next .exit)) ⌝ }
+{
+    silmezga::build_index(width_of(width), table, last, next)
+}
+
+// Refusals 1 to 4, then 14 and 15 of the lists, then 5 to 7, or the verdict and the second answer in numbers, and the numbers of each edge. Where the
+// lists are this table's, everything is as without an index.
+#[no_mangle]
+pub extern "C" fn silmezga_judge_with_index(
+    width: u32,
+    table: &[u8],
+    shape: &[u8],
+    last: &[u16],
+    next: &[u16],
+) -> JudgedNumbers
+    ensures { λ r. ⌜
+        (let asked = judgeWith (formatNumbered width) (now (table .entry)) (now (shape .entry)) (now (last .entry)) (now (next .entry)) in
+        inFour r ≡ fourNumbers asked) ⌝ }
+{
+    judged_numbers(silmezga::judge_with_index(width_of(width), table, shape, last, next))
+}
+
+// Refusals 1 to 4, then 14 and 15 of the lists, then 5 to 8, or the new table and its source list, at the front of what was lent; what lies past them
+// stays as it was. Where the lists are this table's, everything is as without an index, with all that is promised of that call.
+#[no_mangle]
+pub extern "C" fn silmezga_reshape_with_index(
+    width: u32,
+    table: &[u8],
+    shape: &[u8],
+    last: &[u16],
+    next: &[u16],
+    new: &mut [u8],
+    sources: &mut [u32],
+) -> Reshaped
+    ensures { λ r. ⌜
+        (let promised = ReshapesWith (formatNumbered width) (now (table .entry)) (now (shape .entry)) (now (last .entry)) (now (next .entry)) in
+        promised (now (new .entry)) (now (sources .entry)) r (now (new .exit)) (now (sources .exit))) ⌝ }
+{
+    silmezga::reshape_with_index(width_of(width), table, shape, last, next, new, sources)
+}
+
+// Refusals 1 to 4, then 14 and 15 of the lists, then 5 to 8, with room for 4,096 lines, or the figures of each of 16 entries. Where the lists are this
+// table's, everything is as without an index.
+#[no_mangle]
+pub extern "C" fn silmezga_summarise_with_index(
+    width: u32,
+    table: &[u8],
+    shape: &[u8],
+    last: &[u16],
+    next: &[u16],
+) -> Summary
+    ensures { λ r. ⌜ summarised r ≡ summariseWith (formatNumbered width) (now (table .entry)) (now (shape .entry)) (now (last .entry)) (now (next .entry)) ⌝ }
+{
+    silmezga::summarise_with_index(width_of(width), table, shape, last, next)
 }

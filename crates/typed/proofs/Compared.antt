@@ -11,7 +11,7 @@ use lib.Seq.{take-suc, length-take-le}
 use borrow.Author.Tests.{le-leb, lt-leb}
 use Rattle.paper.specs.Lists.{same, up}
 use Rattle.grammar.specs.Typed.{matches}
-use Rattle.shapes.specs.EntryTypes.{Told}
+use Rattle.types.specs.Types.{Told}
 use Rattle.typed.specs.Matching.{Ends}
 use Rattle.typed.proofs.Upwards.{Stands, stands-root, stands-split, stands-up, stands-length}
 use Rattle.typed.proofs.Suffix.{nameWith, unequal, matches-more, matches-not, matches-short, matches-end, matches-whole}

@@ -8,7 +8,7 @@ use lib.ListN.{length, getD}
 use Rattle.paper.specs.Lists.{up}
 use Rattle.paper.proofs.Lists.{getD-has}
 use Rattle.names.specs.Word.{mostKept}
-use Rattle.shapes.specs.EntryTypes.{Told}
+use Rattle.types.specs.Types.{Told}
 use Rattle.typed.specs.Entries.{Sized}
 use Rattle.typed.proofs.Upwards.{Stands, stands-root, stands-up, stands-length}
 

@@ -15,7 +15,7 @@ use Rattle.grammar.specs.Grammar.{Name}
 use Rattle.grammar.specs.Typed.{matches}
 use Rattle.names.specs.Word.{Holds}
 use Rattle.names.specs.declared.word.Word.{Word}
-use Rattle.shapes.specs.EntryTypes.{Told}
+use Rattle.types.specs.Types.{Told}
 use Rattle.typed.specs.Matching.{soleNumber, Ends, Sole}
 use Rattle.typed.proofs.Suffix.{nameWith, matches-short}
 

@@ -8,8 +8,7 @@ use lib.ListN.{length, getD, length-append}
 use Rattle.paper.specs.Lists.{Has, lastOr, up}
 use Rattle.paper.proofs.Lists.{getD-has}
 use Rattle.paper.proofs.Tables.{number-at}
-use Rattle.types.specs.Types.{parentOf}
-use Rattle.shapes.specs.EntryTypes.{Told}
+use Rattle.types.specs.Types.{parentOf, Told}
 use Rattle.shapes.proofs.Down.{known-up, in-two}
 
 -- q is the number of the type v, or of none where v has no label.

@@ -10,7 +10,7 @@ use Rattle.paper.specs.Format.{mostTypes}
 use Rattle.grammar.specs.Grammar.{Name}
 use Rattle.grammar.specs.Typed.{matches}
 use Rattle.names.specs.Word.{mostKept}
-use Rattle.shapes.specs.EntryTypes.{Told}
+use Rattle.types.specs.Types.{Told}
 
 -- the number of the one type that the name matches; 64 where it matches none or several
 unfoldable pub soleNumber : List (List ℕ) → Name → ℕ

@@ -4,3 +4,4 @@ pub mod Step
 pub mod Search
 pub mod Listed
 pub mod Few
+pub mod Told

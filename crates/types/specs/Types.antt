@@ -3,7 +3,7 @@ use Prim.Native.Nat.{ℕ, _<_, _≤_}
 use mathlib.Core.Path.{_≡_}
 use mathlib.Core.List.{List, [], _∷_, map}
 use lib.ListN.{length, getD, take}
-use Rattle.paper.specs.Lists.{place, same, lastOr, up}
+use Rattle.paper.specs.Lists.{Has, place, same, lastOr, up}
 use Rattle.paper.specs.Format.{mostTypes}
 use Rattle.paper.specs.Tables.{Row, rowTypes, types, typeNumber}
 use Rattle.paper.specs.Calls.{typeTooMany}
@@ -27,6 +27,15 @@ pub record Lists (rs : List Row) (ks : List ℕ) (t : Types) : Type 0 where
   pub first : length rs ≤ t .over → (k : ℕ) → k < t .count → getD (t .first) k 0 ≡ place (same (getD (types rs) k [])) (rowTypes rs)
   pub label : length rs ≤ t .over → (k : ℕ) → k < t .count → getD (t .labels) k 0 ≡ lastOr 0 (getD (types rs) k [])
   pub parent : length rs ≤ t .over → (k : ℕ) → k < t .count → getD (t .parents) k 0 ≡ parentOf (types rs) (up (getD (types rs) k []))
+
+-- the first `count` places list the types ts, each by its parent type and last label; what stands above a type is a type
+pub record Told (ts : List (List ℕ)) (parents labels : List ℕ) (count : ℕ) : Type 0 where
+  pub count-is : count ≡ length ts
+  pub few : count ≤ mostTypes
+  pub parent : (k : ℕ) → k < count → getD parents k 0 ≡ parentOf ts (up (getD ts k []))
+  pub label : (k : ℕ) → k < count → getD labels k 0 ≡ lastOr 0 (getD ts k [])
+  pub whole : (v : List ℕ) → Has v ts → 0 < length v
+  pub above : (v : List ℕ) → Has v ts → (k : ℕ) → 0 < k → k ≤ length v → Has (take k v) ts
 
 -- r is the first of the count listed types with this parent and label, count for none
 pub record Found (parents labels : List ℕ) (count p a r : ℕ) : Type 0 where

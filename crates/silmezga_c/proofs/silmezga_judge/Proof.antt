@@ -1,34 +1,13 @@
 -- `silmezga_c::silmezga_judge` meets its contract. Assumes nothing.
 use mathlib.Core.Path.{_≡_, _∙_, subst}
-use mathlib.Core.List.{[], _∷_, _++_}
-use Rattle.paper.specs.Lists.{padded}
 use Rattle.paper.specs.Widths.{formatOf}
-use Rattle.paper.specs.Calls.{Reply, judge}
-use Rattle.judging.specs.Told.{numbersOf}
+use Rattle.paper.specs.Calls.{judge}
 use Rattle.judging.specs.Judged.{judged, inNumbers}
-use Rattle.judging.specs.declared.verdict.Verdict.{Verdict}
-use Rattle.silmezga_c.specs.Told.{formatNumbered, InFour, toldOf, fourNumbers}
+use Rattle.silmezga_c.specs.Told.{formatNumbered}
 use Rattle.silmezga_c.proofs.Told.{in-four}
 use borrow.Author.Needs.{needs}
 use Rattle.silmezga_c.proofs.silmezga_judge.Statement.{statement}
 use Rattle.silmezga_c.proofs.silmezga_judge.Tie as tie
-
-abbrev begun : tie.After-as-number → tie.Start
-begun c = c .before .before .before .before .before
-
--- what is told of a verdict, where the second answer is a number
-abbrev numbers : tie.After-as-number → Verdict → Reply InFour
-numbers c v = toldOf (c .before .judge .result) (padded 3 (numbersOf v) ++ (c .as-number .result ∷ []))
-
--- told of the verdict that judging gave, it is what the contract says
-told : (c : tie.After-as-number) {v : Verdict} → c .before .judge .result .verdict ≡ v
-    → let a = begun c .args in numbers c v ≡ fourNumbers (judge (formatNumbered (a .width)) (a .table .now) (a .shape .now))
-told c e =
-    let a = begun c .args in
-    let k = c .before in
-    let j = k .judge in
-    let e′ = subst (λ w. judged (j .result) ≡ inNumbers (judge (formatOf w) (a .table .now) (a .shape .now))) (k .before .width-of .ensures) (j .ensures) in
-    in-four (j .result) (judge (formatNumbered (a .width)) (a .table .now) (a .shape .now)) e′ e (c .as-number .ensures)
 
 width-of-requires : tie.Need-width-of-requires
 width-of-requires c κs = search needs
@@ -36,61 +15,17 @@ width-of-requires c κs = search needs
 judge-requires : tie.Need-judge-requires
 judge-requires c κs = search needs
 
-as-number-requires : tie.Need-as-number-requires
-as-number-requires c κs = search needs
-
-enum-told : tie.Need-enum-told
-enum-told c = search needs
-
-in-numbers-requires : tie.Need-in-numbers-requires
-in-numbers-requires c κs = search needs
-
-enum-known-verdict : tie.Need-enum-known-verdict
-enum-known-verdict c = search needs
-
-in-numbers-requires-2 : tie.Need-in-numbers-requires-2
-in-numbers-requires-2 c κs = search needs
-
-enum-known-verdict-2 : tie.Need-enum-known-verdict-2
-enum-known-verdict-2 c = search needs
-
-in-numbers-requires-3 : tie.Need-in-numbers-requires-3
-in-numbers-requires-3 c κs = search needs
-
-enum-known-verdict-3 : tie.Need-enum-known-verdict-3
-enum-known-verdict-3 c = search needs
-
-in-numbers-requires-4 : tie.Need-in-numbers-requires-4
-in-numbers-requires-4 c κs = search needs
+judged-numbers-requires : tie.Need-judged-numbers-requires
+judged-numbers-requires c κs = search needs
 
 returns : tie.Need-returns
-returns c = c .in-numbers .ensures ∙ told (c .before .before .before) (c .before .enum-told .given .1)
-
-returns-2 : tie.Need-returns-2
-returns-2 c = c .in-numbers2 .ensures ∙ told (c .before .before .before .before) (c .before .before .verdict .given .1)
-
-returns-3 : tie.Need-returns-3
-returns-3 c = c .in-numbers3 .ensures ∙ told (c .before .before .before .before) (c .before .before .verdict2 .given .1)
-
-returns-4 : tie.Need-returns-4
-returns-4 c = c .in-numbers4 .ensures ∙ told (c .before .before .before .before) (c .before .before .verdict3 .given .1)
+returns c =
+    let j = c .before in
+    let k = j .before in
+    let a = k .before .before .before .args in
+    let r = j .judge .result in
+    let e = subst (λ w. judged r ≡ inNumbers (judge (formatOf w) (a .table .now) (a .shape .now))) (k .width-of .ensures) (j .judge .ensures) in
+    c .judged-numbers .ensures ∙ in-four r (judge (formatNumbered (a .width)) (a .table .now) (a .shape .now)) e
 
 pub silmezga-judge-spec : {M : Type 1} → statement M
-silmezga-judge-spec =
-    tie.close
-    (tie.spec
-    width-of-requires
-    judge-requires
-    as-number-requires
-    enum-told
-    in-numbers-requires
-    enum-known-verdict
-    in-numbers-requires-2
-    enum-known-verdict-2
-    in-numbers-requires-3
-    enum-known-verdict-3
-    in-numbers-requires-4
-    returns
-    returns-2
-    returns-3
-    returns-4)
+silmezga-judge-spec = tie.close (tie.spec width-of-requires judge-requires judged-numbers-requires returns)

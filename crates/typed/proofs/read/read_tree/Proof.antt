@@ -11,9 +11,9 @@ use Rattle.paper.specs.Tables.{rows, types}
 use Rattle.paper.specs.Calls.{typeTooMany}
 use Rattle.paper.proofs.Calls.{count-rows}
 use Rattle.tables.proofs.Examine as table-laws
+use Rattle.types.proofs.Told as Told
+use Rattle.closest.proofs.Read.{Tabled, table-passed, list-asked}
 use Rattle.shapes.proofs.Examined.{place-some, place-none}
-use Rattle.shapes.proofs.Passed.{Tabled, table-passed, list-asked, types-listed, told-types}
-use Rattle.shapes.proofs.Passed as Passed
 use Rattle.grammar.proofs.Fitting.{types-fit}
 use Rattle.grammar.proofs.NamesRead.{NamesRead}
 use Rattle.grammar.proofs.Named.{names-read}
@@ -82,7 +82,8 @@ listed c =
     let x = examinedAt l in
     let t = tabled (l .before .before) in
     record {
-      told = told-types (types-listed t (l .list-types .ensures) (omega (arith, c .if2 .left)));
+      told = Told.told (rows (format x) (table x)) _ (l .list-types .result) (l .list-types .ensures)
+          (omega (arith, c .if2 .left, t .whole-rows, count-rows (format x) (table x)));
       short = λ v h. let deep = begun x .pre .0 .shallow in omega (arith, deep, types-fit (format x) (rows (format x) (table x)) (t .kept) v h .most);
     }
 

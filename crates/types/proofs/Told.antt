@@ -8,11 +8,10 @@ use lib.Seq.{take-length}
 use Rattle.paper.specs.Lists.{Has, ways}
 use Rattle.paper.specs.Tables.{Row, rowTypes, types}
 use Rattle.paper.proofs.Tables.{step, has-distinct, distinct-has}
-use Rattle.types.specs.Types.{Lists}
+use Rattle.types.specs.Types.{Lists, Told}
 use Rattle.types.specs.declared.list.Types.{Types}
 use Rattle.types.proofs.Ways.{closed, way-whole}
 use Rattle.types.proofs.Few.{few-from}
-use Rattle.shapes.specs.EntryTypes.{Told}
 
 -- no type is empty
 whole-type : (rs : List Row) (v : List ℕ) → Has v (types rs) → 0 < length v

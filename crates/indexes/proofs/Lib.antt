@@ -1,0 +1,12 @@
+pub mod Ends
+pub mod Filled
+pub mod Wrong
+pub mod Counted
+pub mod Held
+pub mod Tests
+pub mod Copied
+pub mod Labelled
+pub mod Numbered
+pub mod Built
+pub mod Passed
+pub mod Unique

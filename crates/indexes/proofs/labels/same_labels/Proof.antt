@@ -1,0 +1,130 @@
+-- `labels::same_labels` meets its contract. Assumes nothing.
+use Prim.Native.Nat.{ℕ, _+_, _*_, _-_, _≤_, _<_}
+use native.Mathlib.Omega.{arith}
+use mathlib.Core.Path.{_≡_, sym, _∙_, subst}
+use mathlib.Core.Logic.{⊎-elim}
+use mathlib.Core.Bool.{true, false, true≢false}
+use lib.ListN.{length, getD}
+use borrow.Author.Needs.{needs}
+use Rattle.types.proofs.Step.{below}
+use Rattle.indexes.specs.Labels.{labelOf}
+use Rattle.indexes.proofs.labels.same_labels.Statement.{statement}
+use Rattle.indexes.proofs.labels.same_labels.Tie as tie
+use Rattle.bytes.proofs.wide.Reads as wide-reads
+
+abbrev Inv-loop : tie.InvT-loop
+Inv-loop levels labels rows i j m₀ m = (m ≤ getD levels i 0) × ((k : ℕ) → m ≤ k → k < getD levels i 0 → labelOf labels i k ≡ labelOf labels j k)
+
+abbrev μ-loop : tie.MeasureT-loop
+μ-loop levels labels rows i j m₀ m = m
+
+-- where the function begins, and where the two levels are found to be one
+abbrev begun : tie.At-loop Inv-loop μ-loop → tie.Start Inv-loop μ-loop
+begun w = w .before .before .before .before .before .before .before .before
+
+abbrev one : tie.At-loop Inv-loop μ-loop → tie.Else1 Inv-loop μ-loop
+one w = w .before .before .before
+
+-- level m - 1 has its place in both lists
+inside : (w : tie.At-loop Inv-loop μ-loop) → let s = begun w in (w .loop .m ≤ 8) × (8 * s .args .i + 8 ≤ length (s .args .labels .now)) × (8 * s .args .j + 8 ≤ length (s .args .labels .now))
+inside w =
+    let s = begun w in
+    let p = s .pre in
+    (omega (arith, w .loop .inv .0, p .0 .shallow (s .args .i) (p .1)), omega (arith, p .0 .labels-long, p .1), omega (arith, p .0 .labels-long, p .2))
+
+shared-slice-read-if1 : tie.Need-shared-slice-read-if1 Inv-loop μ-loop
+shared-slice-read-if1 c = search needs
+
+shared-slice-read-if1-2 : tie.Need-shared-slice-read-if1-2 Inv-loop μ-loop
+shared-slice-read-if1-2 c = search needs
+
+returns : tie.Need-returns Inv-loop μ-loop
+returns c = (λ e. absurd (true≢false (sym e)), λ _ alike. c .if1 .taken (alike .level))
+
+shared-slice-read-wide : tie.Need-shared-slice-read-wide Inv-loop μ-loop
+shared-slice-read-wide c = search needs
+
+wide-requires : tie.Need-wide-requires Inv-loop μ-loop
+wide-requires c κs = search needs
+
+loop-holds : tie.Need-loop-holds Inv-loop μ-loop
+loop-holds c = (omega (arith, c .wide .ensures .0), λ k a b. let z : ⊥ = omega (arith, c .wide .ensures .0) in absurd z)
+
+sub-m : tie.Need-sub-m Inv-loop μ-loop
+sub-m c = search needs
+
+mul-if2 : tie.Need-mul-if2 Inv-loop μ-loop
+mul-if2 c = search needs
+
+add-if2 : tie.Need-add-if2 Inv-loop μ-loop
+add-if2 c = search needs
+
+mul-if2-2 : tie.Need-mul-if2-2 Inv-loop μ-loop
+mul-if2-2 c = search needs
+
+shared-slice-read-if2 : tie.Need-shared-slice-read-if2 Inv-loop μ-loop
+shared-slice-read-if2 c = omega (arith, inside (c .before .before) .0, inside (c .before .before) .1, c .before .loop-test .taken)
+
+mul-if2-3 : tie.Need-mul-if2-3 Inv-loop μ-loop
+mul-if2-3 c = search needs
+
+add-if2-2 : tie.Need-add-if2-2 Inv-loop μ-loop
+add-if2-2 c = search needs
+
+mul-if2-4 : tie.Need-mul-if2-4 Inv-loop μ-loop
+mul-if2-4 c = search needs
+
+shared-slice-read-if2-2 : tie.Need-shared-slice-read-if2-2 Inv-loop μ-loop
+shared-slice-read-if2-2 c = omega (arith, inside (c .before .before .before) .0, inside (c .before .before .before) .2, c .before .before .loop-test .taken)
+
+returns-2 : tie.Need-returns-2 Inv-loop μ-loop
+returns-2 c =
+    let w = c .before .before .before .before in
+    let pos = c .before .before .before .loop-test .taken in
+    (λ e. absurd (true≢false (sym e)), λ _ alike. c .if2 .taken (alike .label (w .loop .m - 1) (omega (arith, w .loop .inv .0))))
+
+loop-less : tie.Need-loop-less Inv-loop μ-loop
+loop-less c = search needs
+
+loop-again : tie.Need-loop-again Inv-loop μ-loop
+loop-again c =
+    let w = c .before .before .before .before in
+    let pos = c .before .before .before .loop-test .taken in
+    let s = begun w .args in (
+      omega (arith, w .loop .inv .0),
+      λ k a b. ⊎-elim (λ lt. w .loop .inv .1 k (omega arith) b)
+          (λ e. subst (λ k. labelOf (s .labels .now) (s .i) k ≡ labelOf (s .labels .now) (s .j) k) e (c .if2 .left)) (below (w .loop .m - 1) k (omega arith)),
+    )
+
+returns-3 : tie.Need-returns-3 Inv-loop μ-loop
+returns-3 c =
+    let w = c .before in (
+      λ _. record { level = one w .if1 .left; label = λ k lt. w .loop .inv .1 k (omega (arith, c .loop-test .left)) lt },
+      λ e. absurd (true≢false e),
+    )
+
+pub same-labels-spec : {M : Type 1} → statement M
+same-labels-spec =
+    tie.close
+    (tie.spec
+    Inv-loop
+    μ-loop
+    shared-slice-read-if1
+    shared-slice-read-if1-2
+    returns
+    shared-slice-read-wide
+    wide-requires
+    loop-holds
+    sub-m
+    mul-if2
+    add-if2
+    mul-if2-2
+    shared-slice-read-if2
+    mul-if2-3
+    add-if2-2
+    mul-if2-4
+    shared-slice-read-if2-2
+    returns-2
+    loop-less
+    loop-again
+    returns-3)

@@ -1,0 +1,5 @@
+pub mod Wrong
+pub mod Last
+pub mod Tested
+pub mod Labels
+pub mod Built

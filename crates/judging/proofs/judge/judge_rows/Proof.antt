@@ -1,0 +1,200 @@
+-- `judging::judge::judge_rows` meets its contract. Assumes nothing.
+use Prim.Native.Nat.{ℕ}
+use mathlib.Core.Path.{sym, _∙_, ap}
+use mathlib.Core.List.{List}
+use Rattle.closest.specs.Rows.{RowsIn}
+use Rattle.shapes.specs.Work.{Work, Ready, workOf}
+use Rattle.judging.specs.Told.{told}
+use Rattle.judging.specs.Judged.{inNumbers}
+use Rattle.judging.proofs.Edges.{Long, edges-are, fulls-are}
+use Rattle.judging.proofs.Found.{not-kept}
+use Rattle.judging.proofs.Whole.{room, alone-verdict, pair-verdict, judge-refused, judge-given, answered}
+use borrow.Author.Needs.{needs}
+use Rattle.judging.proofs.judge.judge_rows.Statement.{statement}
+use Rattle.judging.proofs.judge.judge_rows.Tie as tie
+
+-- where the function begins, and where the shape is prepared
+abbrev begun : tie.After-prepare → tie.Start
+begun p = p .before .before .before .before .before .before
+
+abbrev prepared : tie.Else1 → tie.After-prepare
+prepared u = u .before .before .before
+
+-- what is given back, and what the lent lists hold
+abbrev work : tie.After-prepare → Work
+work p =
+    let a = begun p .args in
+    let left = p .prepare .last .1 .1 .1 .1 .1 in
+    workOf (p .prepare .result) (a .levels .now) (a .types .now) (left .0) (left .1 .0)
+
+-- the rows are those of a table
+abbrev Of : tie.After-prepare → List ℕ → Type 0
+Of p t = let a = begun p .args in RowsIn (a .f) t (a .read) (a .levels .now) (a .types .now)
+
+-- which passes tests 1 to 7 with the shape
+ready : (u : tie.Else1) (t : List ℕ) → Of (prepared u) t → let p = prepared u in Ready (begun p .args .f) t (begun p .args .shape .now) (work p)
+ready u t rows = prepared u .prepare .ensures t rows .ready (u .if1 .left)
+
+-- there is one such table
+some-ready : (u : tie.Else1) →
+    let p = prepared u in
+    let s = begun p in
+    Ready (s .args .f) (s .pre .1 .0) (s .args .shape .now) (work p)
+some-ready u = let s = begun (prepared u) in ready u (s .pre .1 .0) (s .pre .1 .1)
+
+-- where the edges are walked, after the tests
+abbrev tested : tie.After-walk-edges → tie.Else1
+tested e = e .before .before
+
+-- where no row is without a partner, and full edges are told
+abbrev told-full : tie.After-meetings3 → tie.After-full-edges
+told-full c = c .before .before
+
+abbrev searched : tie.After-full-edges → tie.After-enum-told
+searched c = c .before .before
+
+abbrev walked : tie.After-enum-told → tie.After-walk-edges
+walked k = k .before .before .before
+
+-- each of the four lists has 16 places
+long : (c : tie.After-walk-edges) → Long (c .walk-edges .result)
+long c =
+    let ok = c .walk-edges .ok in
+    record {
+      least-children = search needs;
+      greatest-children = search needs;
+      least-parents = search needs;
+      greatest-parents = search needs;
+    }
+
+slice-aggregate-prepare : tie.Need-slice-aggregate-prepare
+slice-aggregate-prepare c = search needs
+
+slice-aggregate-prepare-2 : tie.Need-slice-aggregate-prepare-2
+slice-aggregate-prepare-2 c = search needs
+
+prepare-requires : tie.Need-prepare-requires
+prepare-requires c κs = search needs
+
+refused-requires : tie.Need-refused-requires
+refused-requires c κs = search needs
+
+returns : tie.Need-returns
+returns c t rows =
+    let u = c .before in
+    let p = u .before .before .before in
+    let a = begun p .args in
+    c .refused .ensures
+    ∙ ap inNumbers (judge-refused (a .f) t (a .shape .now) _ _ (p .prepare .ensures t rows .refused-is (u .if1 .taken)))
+
+walk-edges-requires : tie.Need-walk-edges-requires
+walk-edges-requires c κs = let r = some-ready (c .before) in (r .rows-are, r .shaped .sized)
+
+first-lone-requires : tie.Need-first-lone-requires
+first-lone-requires c κs = let r = some-ready (tested c) in (r .rows-are, r .shaped .sized, c .walk-edges .ensures .all-met)
+
+enum-told : tie.Need-enum-told
+enum-told c = search needs
+
+full-edges-requires : tie.Need-full-edges-requires
+full-edges-requires c κs = search needs
+
+slice-aggregate-first-fault : tie.Need-slice-aggregate-first-fault
+slice-aggregate-first-fault c = search needs
+
+slice-aggregate-first-fault-2 : tie.Need-slice-aggregate-first-fault-2
+slice-aggregate-first-fault-2 c = search needs
+
+first-fault-requires : tie.Need-first-fault-requires
+first-fault-requires c κs =
+    let u = tested (walked (searched (told-full c))) in
+    (room (some-ready u) (sym (slice-aggregate-first-fault (c .before))), sym (slice-aggregate-first-fault-2 c))
+
+slice-aggregate-none-apart-beside : tie.Need-slice-aggregate-none-apart-beside
+slice-aggregate-none-apart-beside c = search needs
+
+slice-aggregate-none-apart-beside-2 : tie.Need-slice-aggregate-none-apart-beside-2
+slice-aggregate-none-apart-beside-2 c = search needs
+
+none-apart-beside-requires : tie.Need-none-apart-beside-requires
+none-apart-beside-requires c κs =
+    let v = c .before .before in
+    let g = told-full (v .before) in
+    let u = tested (walked (searched g)) in (
+      room (some-ready u) (sym (slice-aggregate-none-apart-beside (c .before))),
+      sym (slice-aggregate-none-apart-beside-2 c),
+      (g .full-edges .result, v .first-fault .ensures),
+    )
+
+given-requires : tie.Need-given-requires
+given-requires c κs = search needs
+
+slice-aggregate-none-apart : tie.Need-slice-aggregate-none-apart
+slice-aggregate-none-apart c = search needs
+
+slice-aggregate-none-apart-2 : tie.Need-slice-aggregate-none-apart-2
+slice-aggregate-none-apart-2 c = search needs
+
+none-apart-requires : tie.Need-none-apart-requires
+none-apart-requires c κs =
+    let u = tested (c .before .before .before .before) in
+    (room (some-ready u) (sym (slice-aggregate-none-apart (c .before))), sym (slice-aggregate-none-apart-2 c))
+
+given-requires-2 : tie.Need-given-requires-2
+given-requires-2 c κs = search needs
+
+returns-2 : tie.Need-returns-2
+returns-2 c t rows =
+    let o = c .before in
+    let v = o .before .before .before in
+    let g = told-full (v .before) in
+    let k = searched g in
+    let e = walked k in
+    let y = ready (tested e) t rows in
+    let found = e .walk-edges .result in
+    answered (c .given .result) (v .first-fault .result) (o .none-apart-beside .result) found _ (c .given .ensures)
+    (judge-given y _ _ _
+    (v .first-fault .ensures
+    ∙ pair-verdict y (g .full-edges .result) (fulls-are y found (e .walk-edges .ensures) (g .full-edges .result) (g .full-edges .ensures))
+    (sym (k .before .before .first-lone .ensures) ∙ ap told (k .enum-told .given .1)))
+    (o .none-apart-beside .ensures) (edges-are y found (e .walk-edges .ensures) (long e)))
+
+returns-3 : tie.Need-returns-3
+returns-3 c t rows =
+    let o = c .before in
+    let m = o .before .before .before in
+    let l = m .before in
+    let e = l .before in
+    let y = ready (tested e) t rows in
+    let found = e .walk-edges .result in
+    answered (c .given2 .result) (l .first-lone .result) (o .none-apart .result) found _ (c .given2 .ensures)
+    (judge-given y _ _ _
+    (alone-verdict y (told (l .first-lone .result)) (l .first-lone .ensures) (not-kept (l .first-lone .result) (m .match .keys2)))
+    (o .none-apart .ensures) (edges-are y found (e .walk-edges .ensures) (long e)))
+
+pub judge-rows-spec : {M : Type 1} → statement M
+judge-rows-spec =
+    tie.close
+    (tie.spec
+    slice-aggregate-prepare
+    slice-aggregate-prepare-2
+    prepare-requires
+    refused-requires
+    returns
+    walk-edges-requires
+    first-lone-requires
+    enum-told
+    full-edges-requires
+    slice-aggregate-first-fault
+    slice-aggregate-first-fault-2
+    first-fault-requires
+    slice-aggregate-none-apart-beside
+    slice-aggregate-none-apart-beside-2
+    none-apart-beside-requires
+    given-requires
+    slice-aggregate-none-apart
+    slice-aggregate-none-apart-2
+    none-apart-requires
+    given-requires-2
+    returns-2
+    returns-3)

@@ -1,0 +1,164 @@
+-- `reshaping::reshape::reshape_rows` meets its contract. Assumes nothing.
+use Prim.Native.Nat.{_≤_}
+use native.Mathlib.Omega.{arith}
+use lib.ListN.{length}
+use Rattle.paper.specs.Tables.{rows}
+use Rattle.paper.specs.Closeness.{nodes}
+use Rattle.paper.specs.NewTable.{lines}
+use Rattle.paper.specs.Calls.{roomIn}
+use Rattle.shapes.specs.Tests.{shapeIn}
+use Rattle.shapes.specs.Work.{Work, Ready, workOf}
+use Rattle.reshaping.proofs.Answers.{reshape-refused, reshape-full}
+use Rattle.reshaping.proofs.Paper.{length-is}
+use Rattle.reshaping.proofs.Summed.{counted-here, count-fits, count-exceeds}
+use Rattle.reshaping.proofs.Lent.{reshapes, leaves, runs-named, next-as, left-at-front, fits, lines-left, table-left, sources-left}
+use borrow.Author.Needs.{needs}
+use Rattle.reshaping.proofs.reshape.reshape_rows.Statement.{statement}
+use Rattle.reshaping.proofs.reshape.reshape_rows.Tie as tie
+
+-- ---- the places that the answers speak of
+abbrev begun : tie.After-prepare → tie.Start
+begun c = c .before .before .before .before .before .before .before .before .before .before
+
+abbrev prepared : tie.Else1 → tie.After-prepare
+prepared u = u .before .before .before
+
+abbrev passed : tie.After-lists → tie.Else1
+passed c = c .before .before .before
+
+abbrev counts : tie.After-room-in → tie.After-count-lines
+counts c = c .before .before .before
+
+-- what is given back, and what the lent lists hold
+abbrev work : tie.After-prepare → Work
+work p =
+    let a = begun p .args in
+    let left = p .prepare .last .1 .1 .1 .1 .1 in
+    workOf (p .prepare .result) (a .levels .now) (a .types .now) (left .0) (left .1 .0)
+
+ready : (c : tie.After-lists) → let p = prepared (passed c) in Ready (begun p .args .f) (begun p .args .table .now) (begun p .args .shape .now) (work p)
+ready c = let u = passed c in let s = begun (prepared u) in prepared u .prepare .ensures (s .args .table .now) (s .pre .0 .1) .ready (u .if1 .left)
+
+-- there is room for all lines
+room-enough : (d : tie.Else2) → let a = begun (prepared (passed (counts (d .before) .before))) .args in
+    length (lines (nodes (rows (a .f) (a .table .now))) (shapeIn (a .f) (a .table .now) (a .shape .now)) (a .f .levels))
+    ≤ roomIn (a .f) (a .new .now) (a .sources .now)
+room-enough d =
+    let r = d .before .room-in in
+    let n = counts (d .before) in
+    let y = ready (n .before) in
+    let few = count-fits (counted-here y (n .count-lines .ensures .1)) (r .result) (omega (arith, r .ensures)) (d .if2 .left) in
+    omega (arith, r .ensures, length-is y, few)
+
+slice-aggregate-prepare : tie.Need-slice-aggregate-prepare
+slice-aggregate-prepare c = search needs
+
+slice-aggregate-prepare-2 : tie.Need-slice-aggregate-prepare-2
+slice-aggregate-prepare-2 c = search needs
+
+prepare-requires : tie.Need-prepare-requires
+prepare-requires c κs = search needs
+
+refused-requires : tie.Need-refused-requires
+refused-requires c κs = search needs
+
+returns : tie.Need-returns
+returns c =
+    let p = c .before .before .before .before in
+    let s = begun p in
+    let a = s .args in
+    let r = p .prepare .result in
+    let e = p .prepare .ensures (a .table .now) (s .pre .0 .1) .refused-is (c .before .if1 .taken) in
+    leaves (s .pre .0 .0) _ _ (a .new .now) (a .sources .now) (c .refused .result) (r .number) (r .place) (c .refused .ensures)
+    (reshape-refused (a .f) (a .table .now) (a .shape .now) (r .number) (r .place) e (a .new .now) (a .sources .now))
+
+slice-aggregate-count-lines : tie.Need-slice-aggregate-count-lines
+slice-aggregate-count-lines c = search needs
+
+slice-aggregate-count-lines-2 : tie.Need-slice-aggregate-count-lines-2
+slice-aggregate-count-lines-2 c = search needs
+
+count-lines-requires : tie.Need-count-lines-requires
+count-lines-requires c κs =
+    let y = ready c in (
+      y .rows-are,
+      y .shaped .sized,
+      record { runs-long = omega (arith, slice-aggregate-count-lines (c .before)); list-long = omega (arith, slice-aggregate-count-lines-2 c) },
+    )
+
+room-in-requires : tie.Need-room-in-requires
+room-in-requires c κs = search needs
+
+refused-requires-2 : tie.Need-refused-requires-2
+refused-requires-2 c κs = search needs
+
+returns-2 : tie.Need-returns-2
+returns-2 c =
+    let d = c .before in
+    let r = d .before .room-in in
+    let n = counts (d .before) in
+    let y = ready (n .before) in
+    let s = begun (prepared (passed (n .before))) in
+    let a = s .args in
+    let over = count-exceeds (counted-here y (n .count-lines .ensures .1)) (r .result) (omega (arith, r .ensures)) (d .if2 .taken) in
+    leaves (s .pre .0 .0) _ _ (a .new .now) (a .sources .now) (c .refused2 .result) 8 0 (c .refused2 .ensures)
+    (reshape-full y (a .new .now) (a .sources .now) (omega (arith, over, length-is y, r .ensures)))
+
+slice-aggregate-write-table : tie.Need-slice-aggregate-write-table
+slice-aggregate-write-table c = search needs
+
+slice-aggregate-write-table-2 : tie.Need-slice-aggregate-write-table-2
+slice-aggregate-write-table-2 c = search needs
+
+write-table-requires : tie.Need-write-table-requires
+write-table-requires c κs =
+    let l = c .before .before in
+    let b = l .before .before in
+    let n = counts (b .before) in
+    let y = ready (n .before) in
+    let s = begun (prepared (passed (n .before))) in
+    let left = n .count-lines .last .1 .1 .1 .1 in
+    let named = runs-named y {runs = left .0} {lists = left .1 .0} (n .count-lines .ensures .0)
+    (record { runs-long = omega (arith, slice-aggregate-write-table (l .before)); list-long = omega (arith, slice-aggregate-write-table-2 l) }) in
+    (named, (next-as y (s .pre .0 .1) (s .args .next .now) (s .pre .1), fits y (s .args .new .now) (s .args .sources .now) (room-enough b)))
+
+same-length : tie.Need-same-length
+same-length c = search needs
+
+same-length-2 : tie.Need-same-length-2
+same-length-2 c = search needs
+
+returns-3 : tie.Need-returns-3
+returns-3 c =
+    let v = c .before .before .before .before .before in
+    let b = v .before .before .before .before .before in
+    let y = ready (counts (b .before) .before) in
+    let s = begun (prepared (passed (counts (b .before) .before))) in
+    let new = s .args .new .now in
+    let sources = s .args .sources .now in
+    let le = room-enough b in
+    let (ec, (et, ep)) = left-at-front (v .write-table .ensures) in
+    let er = lines-left y new sources le (v .write-table .result) ec in
+    reshapes (s .pre .0 .0) _ _ _ er (table-left y new sources le _ et) (sources-left y new sources le _ ep)
+
+pub reshape-rows-spec : {M : Type 1} → statement M
+reshape-rows-spec =
+    tie.close
+    (tie.spec
+    slice-aggregate-prepare
+    slice-aggregate-prepare-2
+    prepare-requires
+    refused-requires
+    returns
+    slice-aggregate-count-lines
+    slice-aggregate-count-lines-2
+    count-lines-requires
+    room-in-requires
+    refused-requires-2
+    returns-2
+    slice-aggregate-write-table
+    slice-aggregate-write-table-2
+    write-table-requires
+    same-length
+    same-length-2
+    returns-3)

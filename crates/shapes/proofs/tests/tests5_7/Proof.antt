@@ -1,0 +1,89 @@
+-- `tests::tests5_7`: each test decides one refusal. Assumes nothing.
+use Prim.Native.Nat.{ℕ}
+use native.Mathlib.Omega.{arith}
+use mathlib.Core.List.{List}
+use Rattle.paper.specs.Format.{Format}
+use Rattle.shapes.proofs.Passed.{Shaped, refusal, shape-refused, shape-passed, shape-asked, types-missing, passes}
+use borrow.Author.Needs.{needs}
+use Rattle.shapes.proofs.tests.tests5_7.Statement.{statement}
+use Rattle.shapes.proofs.tests.tests5_7.Tie as tie
+
+-- where the function begins; the shape that is lent, and its format
+abbrev begun : tie.After-examine-shape → tie.Start
+begun x = x .before .before .before .before .before
+
+abbrev shape : tie.After-examine-shape → List ℕ
+shape x = begun x .args .shape .now
+
+abbrev format : tie.After-examine-shape → Format
+format x = begun x .args .f
+
+-- where the shape has passed its own tests
+abbrev shapeAt : tie.After-entry-types → tie.Else1
+shapeAt k = k .before
+
+shaped : (c : tie.Else1) → Shaped (format (c .before)) (shape (c .before)) (c .before .examine-shape .result .entries)
+shaped c = let x = c .before in shape-passed (format x) (shape x) (x .examine-shape .result) (x .examine-shape .ensures) (c .if1 .left)
+
+examine-shape-requires : tie.Need-examine-shape-requires
+examine-shape-requires c κs = search needs
+
+refused-requires : tie.Need-refused-requires
+refused-requires c κs = search needs
+
+returns : tie.Need-returns
+returns c t table told =
+    let x = c .before .before in
+    let r = x .examine-shape .result in
+    refusal (format x) t (shape x) (c .refused .result) _ (r .number) (r .place) (c .refused .ensures) (c .before .if1 .taken)
+    (shape-refused (format x) (shape x) r (x .examine-shape .ensures) t table (c .before .if1 .taken))
+
+entry-types-requires : tie.Need-entry-types-requires
+entry-types-requires c κs =
+    let s = begun (c .before) in
+    let ((whole, some, deep), kept) = shape-asked (s .pre .0 .0) (shaped c) in
+    ((whole, some, omega arith), (kept, s .pre .1))
+
+refused-requires-2 : tie.Need-refused-requires-2
+refused-requires-2 c κs = search needs
+
+returns-2 : tie.Need-returns-2
+returns-2 c t table told =
+    let k = c .before .before in
+    let s = shapeAt k in
+    let x = s .before in
+    refusal (format x) t (shape x) (c .refused2 .result) _ 7 (k .entry-types .result .place) (c .refused2 .ensures) (λ z. omega (arith, z))
+    (types-missing t table told (shaped s) (k .entry-types .result) (k .entry-types .ensures) (omega (arith, c .before .if2 .taken)))
+
+entry-ways-requires : tie.Need-entry-ways-requires
+entry-ways-requires c κs =
+    let s = shapeAt (c .before .before) in
+    let x = s .before in
+    let (asked, kept) = shape-asked (begun x .pre .0 .0) (shaped s) in
+    (asked, (kept, begun x .pre .0 .1))
+
+same-length : tie.Need-same-length
+same-length c = search needs
+
+returns-3 : tie.Need-returns-3
+returns-3 c t table told =
+    let v = c .before .before .before .before .before .before in
+    let k = v .before .before .before in
+    let w = v .entry-ways in
+    let ways = w .last .1 .1 .1 .0 in
+    passes t table told (shaped (shapeAt k)) (k .entry-types .result) (k .entry-types .ensures) (omega (arith, v .before .before .if2 .left)) (w .result) ways
+    (w .ensures)
+
+pub tests5-7-spec : {M : Type 1} → statement M
+tests5-7-spec =
+    tie.close
+    (tie.spec
+    examine-shape-requires
+    refused-requires
+    returns
+    entry-types-requires
+    refused-requires-2
+    returns-2
+    entry-ways-requires
+    same-length
+    returns-3)

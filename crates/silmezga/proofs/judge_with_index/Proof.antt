@@ -1,0 +1,26 @@
+-- `silmezga::judge_with_index` meets its contract. Assumes nothing.
+use mathlib.Core.Path.{_≡_, subst}
+use Rattle.paper.specs.Index.{judgeWith}
+use Rattle.judging.specs.Judged.{judged, inNumbers}
+use Rattle.bytes.proofs.Laws.{format-served}
+use borrow.Author.Needs.{needs}
+use Rattle.silmezga.proofs.judge_with_index.Statement.{statement}
+use Rattle.silmezga.proofs.judge_with_index.Tie as tie
+
+abbrev begun : tie.After-format-of → tie.Start
+begun k = k .before .before .before .before .before
+
+format-of-requires : tie.Need-format-of-requires
+format-of-requires c κs = search needs
+
+judge-with-index-requires : tie.Need-judge-with-index-requires
+judge-with-index-requires c κs = format-served _ (begun c .args .width) (c .format-of .ensures)
+
+returns : tie.Need-returns
+returns c =
+    let a = begun (c .before) .args in
+    subst (λ f. judged (c .judge-with-index .result) ≡ inNumbers (judgeWith f (a .table .now) (a .shape .now) (a .last .now) (a .next .now)))
+    (c .before .format-of .ensures) (c .judge-with-index .ensures)
+
+pub judge-with-index-spec : {M : Type 1} → statement M
+judge-with-index-spec = tie.close (tie.spec format-of-requires judge-with-index-requires returns)

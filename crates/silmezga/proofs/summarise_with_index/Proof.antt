@@ -1,0 +1,26 @@
+-- `silmezga::summarise_with_index` meets its contract. Assumes nothing.
+use mathlib.Core.Path.{_≡_, subst}
+use Rattle.paper.specs.Index.{summariseWith}
+use Rattle.reshaping.specs.Reshaped.{summarised}
+use Rattle.bytes.proofs.Laws.{format-served}
+use borrow.Author.Needs.{needs}
+use Rattle.silmezga.proofs.summarise_with_index.Statement.{statement}
+use Rattle.silmezga.proofs.summarise_with_index.Tie as tie
+
+abbrev begun : tie.After-format-of → tie.Start
+begun k = k .before .before .before .before .before
+
+format-of-requires : tie.Need-format-of-requires
+format-of-requires c κs = search needs
+
+summarise-with-index-requires : tie.Need-summarise-with-index-requires
+summarise-with-index-requires c κs = format-served _ (begun c .args .width) (c .format-of .ensures)
+
+returns : tie.Need-returns
+returns c =
+    let a = begun (c .before) .args in
+    subst (λ f. summarised (c .summarise-with-index .result) ≡ summariseWith f (a .table .now) (a .shape .now) (a .last .now) (a .next .now))
+    (c .before .format-of .ensures) (c .summarise-with-index .ensures)
+
+pub summarise-with-index-spec : {M : Type 1} → statement M
+summarise-with-index-spec = tie.close (tie.spec format-of-requires summarise-with-index-requires returns)

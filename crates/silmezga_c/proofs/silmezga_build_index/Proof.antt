@@ -1,0 +1,31 @@
+-- `silmezga_c::silmezga_build_index` meets its contract. Assumes nothing.
+use mathlib.Core.Path.{subst}
+use Rattle.paper.specs.Widths.{formatOf}
+use Rattle.indexes.specs.Built.{Builds}
+use borrow.Author.Needs.{needs}
+use Rattle.silmezga_c.proofs.silmezga_build_index.Statement.{statement}
+use Rattle.silmezga_c.proofs.silmezga_build_index.Tie as tie
+
+width-of-requires : tie.Need-width-of-requires
+width-of-requires c κs = search needs
+
+build-index-requires : tie.Need-build-index-requires
+build-index-requires c κs = search needs
+
+same-length : tie.Need-same-length
+same-length c = search needs
+
+same-length-2 : tie.Need-same-length-2
+same-length-2 c = search needs
+
+returns : tie.Need-returns
+returns c =
+    let r = c .before .before .before .before in
+    let k = r .before .before .before in
+    let a = k .before .before .before .before .args in
+    let left = r .build-index .last .1 .1 in
+    subst (λ w. Builds (formatOf w) (a .table .now) (a .last .now) (a .next .now) (r .build-index .result) (left .0) (left .1 .0)) (k .width-of .ensures)
+    (r .build-index .ensures)
+
+pub silmezga-build-index-spec : {M : Type 1} → statement M
+silmezga-build-index-spec = tie.close (tie.spec width-of-requires build-index-requires same-length same-length-2 returns)

@@ -1,0 +1,32 @@
+-- `silmezga_c::silmezga_judge_with_index` meets its contract. Assumes nothing.
+use mathlib.Core.Path.{_≡_, _∙_, subst}
+use Rattle.paper.specs.Widths.{formatOf}
+use Rattle.paper.specs.Index.{judgeWith}
+use Rattle.judging.specs.Judged.{judged, inNumbers}
+use Rattle.silmezga_c.specs.Told.{formatNumbered}
+use Rattle.silmezga_c.proofs.Told.{in-four}
+use borrow.Author.Needs.{needs}
+use Rattle.silmezga_c.proofs.silmezga_judge_with_index.Statement.{statement}
+use Rattle.silmezga_c.proofs.silmezga_judge_with_index.Tie as tie
+
+width-of-requires : tie.Need-width-of-requires
+width-of-requires c κs = search needs
+
+judge-with-index-requires : tie.Need-judge-with-index-requires
+judge-with-index-requires c κs = search needs
+
+judged-numbers-requires : tie.Need-judged-numbers-requires
+judged-numbers-requires c κs = search needs
+
+returns : tie.Need-returns
+returns c =
+    let j = c .before in
+    let k = j .before in
+    let a = k .before .before .before .before .before .args in
+    let r = j .judge-with-index .result in
+    let e = subst (λ w. judged r ≡ inNumbers (judgeWith (formatOf w) (a .table .now) (a .shape .now) (a .last .now) (a .next .now)))
+    (k .width-of .ensures) (j .judge-with-index .ensures) in
+    c .judged-numbers .ensures ∙ in-four r (judgeWith (formatNumbered (a .width)) (a .table .now) (a .shape .now) (a .last .now) (a .next .now)) e
+
+pub silmezga-judge-with-index-spec : {M : Type 1} → statement M
+silmezga-judge-with-index-spec = tie.close (tie.spec width-of-requires judge-with-index-requires judged-numbers-requires returns)

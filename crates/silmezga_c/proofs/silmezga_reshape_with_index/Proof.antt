@@ -1,0 +1,32 @@
+-- `silmezga_c::silmezga_reshape_with_index` meets its contract. Assumes nothing.
+use mathlib.Core.Path.{subst}
+use Rattle.paper.specs.Widths.{formatOf}
+use Rattle.reshaping.specs.Reshaped.{ReshapesWith}
+use borrow.Author.Needs.{needs}
+use Rattle.silmezga_c.proofs.silmezga_reshape_with_index.Statement.{statement}
+use Rattle.silmezga_c.proofs.silmezga_reshape_with_index.Tie as tie
+
+width-of-requires : tie.Need-width-of-requires
+width-of-requires c κs = search needs
+
+reshape-with-index-requires : tie.Need-reshape-with-index-requires
+reshape-with-index-requires c κs = search needs
+
+same-length : tie.Need-same-length
+same-length c = search needs
+
+same-length-2 : tie.Need-same-length-2
+same-length-2 c = search needs
+
+returns : tie.Need-returns
+returns c =
+    let r = c .before .before .before .before in
+    let k = r .before .before .before in
+    let a = k .before .before .before .before .before .before .before .args in
+    let left = r .reshape-with-index .last .1 .1 .1 .1 .1 in
+    subst
+    (λ w. ReshapesWith (formatOf w) (a .table .now) (a .shape .now) (a .last .now) (a .next .now) (a .new .now) (a .sources .now)
+    (r .reshape-with-index .result) (left .0) (left .1 .0)) (k .width-of .ensures) (r .reshape-with-index .ensures)
+
+pub silmezga-reshape-with-index-spec : {M : Type 1} → statement M
+silmezga-reshape-with-index-spec = tie.close (tie.spec width-of-requires reshape-with-index-requires same-length same-length-2 returns)
