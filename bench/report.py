@@ -1,4 +1,7 @@
-"""Turns the figures of bench/driver.c and bench/trees.c into tables: report.py FIGURES TREES MACHINE COMPILER [PAGE]. Prints them, and writes PAGE if named."""
+"""
+Turns the figures of bench/driver.c, bench/trees.c and bench/index.c into tables: report.py FIGURES TREES INDEX MACHINE COMPILER [PAGE]. Prints them, and
+writes PAGE if named.
+"""
 import sys
 
 CALLS = "examine", "judge", "reshape", "summarise"
@@ -21,6 +24,11 @@ MOST_GROWTH = 9.0
 MOST_MISSING = 1.0
 # The most that reading a typed tree of 16 entries may take, for examining and typing the table.
 MOST_READING = 1.5
+# The most that a call may take with an index, for the one without; and that testing an index may take, for building one.
+MOST_WITH = 1.10
+MOST_TESTING = 1.0
+INDEXED = CALLS[1:]  # the calls that take an index
+TEN = "ten trees"  # over one table
 SPREAD = 0.05  # what the ratios of two runs of the same code differ by
 KEPT, MISSING = ", verdict 0", ", verdict 1"  # how the names of such a table's two tapes end
 
@@ -76,6 +84,11 @@ walks. Every row ends the runs of some edges or of none, without a branch; rows 
 with every verdict. With verdict 1 the search for the row without a partner begins in its run; then the pairs of entries are looked at for a 2
 only, for which full edges do not matter.
 
+A call with an index examines and types the table as one without, and then holds the lists to it in two walks of all rows, back from the last: one over
+the levels for the last descendants, one over the types for the next rows. That is what it takes more; reshaping takes less of it, since the lent next
+rows stand for those that it finds itself without an index. Building compares the labels of each row with those of the rows behind it up to the next of
+its type, because a table may have more types than are numbered elsewhere. So it is dear where rows of one type lie far apart, as on tape "64 types".
+
 `bench/plain.c` is quicker because it does less. It numbers the labels, so that a type is looked up. It lists the rows of each type, and
 the rows of the ancestor type that an edge's two types share cut their lists into runs, so that the numbers of an edge and the lines of an
 entry are counted by a walk of these lists and not of all rows; for the numbers, two types are walked once, however many edges join them. And beneath a
@@ -89,6 +102,18 @@ the last row, as here. The ratios of two runs of the same code differ by up to {
 TREES = """Each tree has 16 entries on all levels of its width, of the table's deepest types, all that there are up to 16. Whole paths are the line that is printed of the shape;
 the shortest names are as many last labels as tell the types apart. Examining and typing the table is what reading an empty text takes. The bar
 is for every tape."""
+
+INDEX = """An index is built by `build_index`, and lent to judging, reshaping and summarising, which test it. Before a tape is measured, the lists that are
+built are held to plain C straight from their definition, and the answers with the index to those without, with every lent byte and place; the run stops
+if any differs. All figures here are of `bench/index.c`, with and without the index in turns.
+
+Testing is what judging an empty shape takes more with an index, since it is refused after the index is tested. Building is what `build_index` takes more
+than examining. Testing is to take no more than building."""
+INDEX_RATIOS = "The calls with a right index beside those without. The bar is for every tape."
+INDEX_TREES = """Ten trees of two to six entries over one table, each judged and reshaped: twenty calls without an index, and the same with one that is built
+once, the building counted. There is no bar."""
+INDEX_GOES = """Where that time goes, by the figures above, each as often as there are calls. Every call examines, building too; typing is what judging an empty
+shape takes more than examining; the rest is what the others leave: reading the shape, judging and writing lines."""
 
 WIDE = """The same tapes widened, and two that are eight levels deep. The ratio to narrow is the time over that on the narrow tape."""
 MOVES = """The plain program tests the table with `bench/plain.c`, and copies record by record."""
@@ -110,7 +135,18 @@ def read_trees(path):
     return [(tape, width, names, int(size), float(typing), float(reading)) for tape, width, names, size, typing, reading in lines]
 
 
+def read_index(path):
+    """The nanoseconds of each task of bench/index.c, by tape, width and rows."""
+    figures = {}
+    for line in open(path):
+        tape, width, rows, task, ns = line.rstrip("\n").split("\t")
+        figures.setdefault((tape, width, int(rows)), {})[task] = float(ns)
+    return figures
+
+
 def time(ns):
+    if ns < 0:
+        return "-" + time(-ns)
     for unit, size in ("ms", 1e6), ("µs", 1e3):
         if ns >= size:
             return f"{ns / size:.3g} {unit}"
@@ -212,11 +248,90 @@ def tree_bars(trees, machine):
             for tape, width, names, size, typing, reading in trees]
 
 
-def passed(ratios, growths, typed):
-    """How many bars are passed, in a sentence."""
-    former, plain, own, read = [sum(row[at] == "pass" for row in rows) for rows, at in ((ratios, 4), (ratios, 6), (growths, 4), (typed, 8))]
+def index_parts(ns):
+    """What is no call of its own, of the figures of one table: building, testing, and typing the table."""
+    return ns["build"] - ns["examine"], ns["empty with"] - ns["empty"], ns["empty"] - ns["examine"]
+
+
+def testing_bars(index, machine):
+    """A row for each table: the times of building and testing and what they are the differences of, the most that is wanted, and whether the bar is passed."""
+    rows = []
+    for (tape, width, n), ns in index.items():
+        if "build" in ns:
+            building, testing, _ = index_parts(ns)
+            built = [time(ns["examine"]), time(ns["build"]), time(building)]
+            tested = [time(ns["empty"]), time(ns["empty with"]), time(testing)]
+            rows.append([tape, width, f"{n:,}"] + built + tested + [times(MOST_TESTING)] + held(testing / building, MOST_TESTING) + [machine])
+    return rows
+
+
+def beside_index(ns, task):
+    """The times of a task without and with an index, and how many times the first the second is."""
+    without, indexed = ns[task], ns[task + " with"]
+    return [time(without), time(indexed)], indexed / without
+
+
+def index_bars(index, machine):
+    """A row for each table and call that takes an index: the times without and with it, the most that is wanted, the ratio, and whether the bar is passed."""
+    rows = []
+    for (tape, width, n), ns in index.items():
+        for call in INDEXED:
+            if call in ns:
+                measured, ratio = beside_index(ns, call)
+                rows.append([tape, width, f"{n:,}", call] + measured + [times(MOST_WITH)] + held(ratio, MOST_WITH) + [machine])
+    return rows
+
+
+def ten_trees(index, machine):
+    """A row for each table that has ten trees: the times without and with an index, and their ratio."""
+    rows = []
+    for (tape, width, n), ns in index.items():
+        if TEN in ns:
+            measured, ratio = beside_index(ns, TEN)
+            rows.append([tape, width, f"{n:,}"] + measured + [times(ratio), machine])
+    return rows
+
+
+def goes(whole, parts):
+    """Where the time goes: the whole, each part of it with its share, and what they leave."""
+    return [time(whole)] + [f"{time(part)}, {part / whole:.0%}" if part else "" for part in parts + [whole - sum(parts)]]
+
+
+def ten_trees_parts(index, machine):
+    """Two rows for each such table, without and with an index: where the time goes."""
+    rows, calls = [], 2 * 10  # each of ten trees is judged and reshaped
+    for (tape, width, n), ns in index.items():
+        if TEN in ns:
+            building, testing, typing = index_parts(ns)
+            without = [calls * ns["examine"], calls * typing, 0, 0]
+            indexed = [(calls + 1) * ns["examine"], calls * typing, building, calls * testing]
+            for name, task, parts in ("without", TEN, without), ("with", TEN + " with", indexed):
+                rows.append([tape, width, f"{n:,}", name] + goes(ns[task], parts) + [machine])
+    return rows
+
+
+def with_index(index, tested, indexed, machine):
+    """The tables of the calls with an index, with what they say between them."""
+    place = ["tape", "width", "rows"]
+    built = ["examine", "build_index", "building", "judging an empty shape", "the same with an index", "testing"]
+    shares = ["index", "whole", "examining", "typing", "building", "testing", "the rest", "machine"]
+    lines = [INDEX, ""] + table([*place, *built, "at most", "testing to building", "", "machine"], tested) + [""]
+    lines += [INDEX_RATIOS, ""] + table([*place, "call", "without", "with", "at most", "ratio", "", "machine"], indexed) + [""]
+    lines += [INDEX_TREES, ""] + table([*place, "without", "with, built once", "ratio", "machine"], ten_trees(index, machine)) + [""]
+    return lines + [INDEX_GOES, ""] + table([*place, *shares], ten_trees_parts(index, machine))
+
+
+def count_passed(rows):
+    return sum("pass" in row for row in rows)
+
+
+def passed(ratios, growths, typed, tested, indexed):
+    """How many bars are passed, in sentences."""
+    former, plain = [sum(row[at] == "pass" for row in ratios) for at in (4, 6)]
     return (f"Of the {len(ratios)} bars on ratios Silmezga passes {former} against the former program, on which they were set, and {plain} "
-            f"against the best plain C.\nOf the {len(growths)} bars on its own growth it passes {own}, of the {len(typed)} on reading typed trees {read}.")
+            f"against the best plain C.\nOf the {len(growths)} bars on its own growth it passes {count_passed(growths)}, of the {len(typed)} on reading typed "
+            f"trees {count_passed(typed)}, of the {len(indexed)} on calls with an index {count_passed(indexed)},\nof the {len(tested)} on testing an index "
+            f"{count_passed(tested)}.")
 
 
 def section(title, rows):
@@ -224,15 +339,18 @@ def section(title, rows):
 
 
 def main():
-    path, trees, machine, compiler, *page = sys.argv[1:]
+    path, trees, index, machine, compiler, *page = sys.argv[1:]
     figures, wide = read(path)
     typed = tree_bars(read_trees(trees), machine)
+    index = read_index(index)
+    tested, indexed = testing_bars(index, machine), index_bars(index, machine)
     ratios, growths = ratio_bars(figures, machine), growth_bars(figures, machine)
     parts = section("Bars: ratios at 1,024 rows", table(["tape", "call", "at most", "to former", "", "to plain", "", "machine"], ratios))
     parts += section("Bars: greatest growth, 128 to 1,024 rows", table(["tape", "call", "at most", "Silmezga", "", "machine"], growths))
     parts += section("Judging with verdict 1 beside verdict 0", [SAME_TABLE, ""] + verdicts(figures, machine))
     head = ["tape", "width", "names", "bytes of text", "examining and typing", "reading", "at most", "ratio", "", "machine"]
     parts += section("Reading a typed tree over 1,024 rows", [TREES, ""] + table(head, typed))
+    parts += section("With an index", with_index(index, tested, indexed, machine))
     parts += section("At 1,024 rows", beside(figures, machine, [(tape, 1024) for tape in USUAL]))
     parts += section("Wide tables at 1,024 rows", [WIDE, ""] + beside(wide, machine, [(tape, 1024) for tape in TAPES + DEEP], figures))
     parts += section("Widening and narrowing 1,024 rows", [MOVES, ""] + moves(figures, wide, machine))
@@ -243,7 +361,7 @@ def main():
     print(text)
     if page:
         with open(page[0], "w") as out:
-            out.write(ABOUT.format(compiler=compiler, many=MANY_LINES, passed=passed(ratios, growths, typed)) + "\n" + text + GOES)
+            out.write(ABOUT.format(compiler=compiler, many=MANY_LINES, passed=passed(ratios, growths, typed, tested, indexed)) + "\n" + text + GOES)
 
 
 main()

@@ -2,10 +2,10 @@
  * Silmezga: moves a seller's table of lease records into the tree that a buyer wants, says whether the move keeps the links between
  * records, and writes the new table with the source row of every line.
  *
- * Thirteen calls: six for tables and shapes, four that widen and narrow files, one that converts labels, and two for trees as a line of
- * text. Each is a function of its arguments alone: no call keeps anything, allocates, reads or writes a file, or stops the program. Each
- * takes bytes of every kind. It gives its answer, or a refusal with a number and a place, and a refused call changes nothing that it was
- * lent. What each call answers is proved for every input (docs/PROVED.md).
+ * Seventeen calls: six for tables and shapes, four that widen and narrow files, one that converts labels, two for trees as a line of
+ * text, and four for an index beside a table. Each is a function of its arguments alone: no call keeps anything, allocates, reads or
+ * writes a file, or stops the program. Each takes bytes and numbers of every kind. It gives its answer, or a refusal with a number and a
+ * place, and a refused call changes nothing that it was lent. What each call answers is proved for every input (docs/PROVED.md).
  *
  * The archive is target/staticlib/libsilmezga_c.a, made by `rt staticlib silmezga_c`. It is for x86-64 Linux, and all that it takes from other
  * libraries is memcpy and memset. This header is C99 and C++. Calls from several threads do not disturb each other, as long as nothing
@@ -16,9 +16,9 @@
  *   - A pointer and the length behind it tell of memory that is there: `table` has table_len bytes, and so on. No length passes the
  *     object's own.
  *   - No pointer is NULL, also where the length is 0: then pass the address of any object of the pointer's type.
- *   - What a call writes to (`new_table`, `new_shape`, `sources`, `summaries`; `shape` in reading a tree, `text` in printing one)
- *     overlaps nothing else that is lent to the same call.
- *   - `sources`, `summaries` and `pairs` are aligned as their types ask, which they are when declared or allocated as such.
+ *   - What a call writes to (`new_table`, `new_shape`, `sources`, `summaries`; `shape` in reading a tree, `text` in printing one, `last`
+ *     and `next` in building an index) overlaps nothing else that is lent to the same call.
+ *   - `sources`, `summaries`, `pairs`, `last` and `next` are aligned as their types ask, which they are when declared or allocated as such.
  *
  * Widths
  *   A file is narrow, with levels to 6, or wide, with levels to 8. A file does not say which it is: the caller does, and a table and the
@@ -65,15 +65,16 @@ extern "C" {
  * The version of the project; CHANGELOG.md says what each brought. A program is compiled with the header of the archive that it is linked to:
  * silmezga_judged is larger than before version 3.2.
  */
-#define SILMEZGA_VERSION "3.2.0"
+#define SILMEZGA_VERSION "3.3.0"
 
 /* The archive's numbers have 64 bits: this line refuses a target whose size_t has not. */
 typedef char silmezga_size_t_has_64_bits[sizeof(size_t) == 8 ? 1 : -1];
 
 /*
  * ---- Widths
- * The first argument of each of the six calls, of the one that converts labels and of the two for trees as a line of text: the width of the table and of
- * the shape that it is lent, and of what it writes. It is passed as a number of 32 bits. 8 means eight levels, and every other number six.
+ * The first argument of each of the six calls, of the one that converts labels, of the two for trees as a line of text and of the four for an index: the
+ * width of the table and of the shape that it is lent, and of what it writes. It is passed as a number of 32 bits. 8 means eight levels, and every other
+ * number six.
  */
 typedef enum silmezga_width {
     SILMEZGA_SIX = 6,       /* narrow: six levels */
@@ -106,11 +107,12 @@ typedef char silmezga_width_has_32_bits[sizeof(silmezga_width) == 4 ? 1 : -1];
 #define SILMEZGA_MOST_ENTRIES 16       /* entries of a shape, of which there is at least 1 */
 #define SILMEZGA_MOST_LINES 4096       /* lines of a new table */
 #define SILMEZGA_MOST_TEXT_BYTES 1536  /* of a tree as a line of text; a printed line has at most 1,360 */
+#define SILMEZGA_NO_NEXT 65535         /* in an index, for a row that no row of its type follows */
 
 /*
  * ---- Refusals
- * In the order in which they are tested, but for reading a typed tree, whose order stands beside it. Each is given exactly then; 0 means that the call is
- * accepted, and its place is 0.
+ * In the order in which they are tested, but for reading a typed tree and for the calls with an index, whose order stands beside them. Each is given exactly
+ * then; 0 means that the call is accepted, and its place is 0.
  *
  *   examine    1 to 3            widen_table     1 to 3, 29
  *   look_up    1 to 3, 11        narrow_table    1 to 3, 24, 29
@@ -119,6 +121,11 @@ typedef char silmezga_width_has_32_bits[sizeof(silmezga_width) == 4 ? 1 : -1];
  *   reshape    1 to 8            convert_labels  1 to 3, 5 and 6 with labels to 999; 25, 26, 29
  *   summarise  1 to 8            read_tree       1 to 4, then 12, 5, 6, 13, 29
  *                                print_tree      5 and 6, 29
+ *
+ *   build_index            1 to 3, 14
+ *   judge_with_index       1 to 4, then 14, 15, 5 to 7
+ *   reshape_with_index     1 to 4, then 14, 15, 5 to 8
+ *   summarise_with_index   1 to 4, then 14, 15, 5 to 8
  */
 enum {
     SILMEZGA_ACCEPTED = 0,
@@ -135,10 +142,12 @@ enum {
     SILMEZGA_BAD_TEXT = 12,          /* the typed tree is over 1,536 bytes or not in the grammar; place: 1,536 where it is too long, else the
                                         first byte of the first token that no wanted tree has there, or the text's length where it ends early */
     SILMEZGA_BAD_NAME = 13,          /* a typed name matches no type of the table, or several; place: the first such entry */
+    SILMEZGA_FEW_PLACES = 14,        /* a list of an index has fewer lent places than the table has rows; place 0 */
+    SILMEZGA_BAD_INDEX = 15,         /* the lists of an index are not this table's; place: the first row at which either is wrong */
     SILMEZGA_TOO_DEEP = 24,          /* for narrowing, a level or the length of a type over 6; place: the first such row or entry */
     SILMEZGA_BAD_PAIR = 25,          /* for converting, a pair breaks a rule below; place: the first such pair */
     SILMEZGA_UNLISTED_LABEL = 26,    /* for converting, a label above 99 is not in the list; place: the first such row, else entry */
-    SILMEZGA_FEW_BYTES = 29          /* for all calls but the first six, fewer lent bytes than are written; place 0 */
+    SILMEZGA_FEW_BYTES = 29          /* for widening, narrowing, converting, reading and printing, fewer lent bytes than are written; place 0 */
 };
 
 /* Number 9 is unused: no call gives it. The name stays only so that a program that has it still compiles. */
@@ -254,6 +263,12 @@ typedef struct silmezga_tree_printed {
     size_t place;
     size_t bytes;               /* bytes written */
 } silmezga_tree_printed;
+
+typedef struct silmezga_index_built {
+    size_t number;
+    size_t place;
+    size_t rows;                /* rows of the table: so many places of each list are written */
+} silmezga_index_built;
 
 /* ---- The six calls */
 
@@ -381,6 +396,53 @@ silmezga_tree_read silmezga_read_tree(silmezga_width width, const uint8_t *table
  * that has all types of the shape, it gives back the same shape.
  */
 silmezga_tree_printed silmezga_print_tree(silmezga_width width, const uint8_t *shape, size_t shape_len, uint8_t *text, size_t text_len);
+
+/*
+ * ---- An index beside a table
+ * An index of a table is two lists of 16-bit numbers, one place a row:
+ *
+ *   last   the row's last descendant, the row itself where it has none; a row's descendants are the rows whose Dewey numbers begin with its own
+ *   next   the next row of the same type, SILMEZGA_NO_NEXT where there is none
+ *
+ * It is built once, kept by the caller, and lent to as many calls on the same table as there are trees. `last_places` and `next_places` are in numbers,
+ * not in bytes. A list may be longer than the table has rows, also longer than the other: places past the rows are neither read nor written.
+ * SILMEZGA_MOST_ROWS places are always enough.
+ *
+ * A lent index is not trusted: its lists are held to the table, row by row, before the shape is read. So no call answers from a wrong one, and where the
+ * lists pass, the answer, and all that the call leaves, is that of the call without an index.
+ */
+
+/*
+ * Builds the index of a table: refusals 1 to 3, then 14 where either list has fewer places than the table has rows; or the number of rows, and the two
+ * lists at the front of `last` and `next`. Places past the rows stay as they were, and where the call is refused all do. Types are not counted: a table of
+ * more than 64, which the calls below refuse with 4, has an index too. What is written is never refused by them with 15 beside the same table.
+ */
+silmezga_index_built silmezga_build_index(silmezga_width width, const uint8_t *table, size_t table_len, uint16_t *last, size_t last_places,
+                                          uint16_t *next, size_t next_places);
+
+/*
+ * Judges a table and a shape, with an index of the table: refusals 1 to 4 of the table, then 14 where either list has fewer places than the table has rows,
+ * then 15 where the lists are not the table's, with the first row at which either is wrong, then 5 to 7; or what silmezga_judge answers. `last` and `next`
+ * stay as they were, here and in the two calls below.
+ */
+silmezga_judged silmezga_judge_with_index(silmezga_width width, const uint8_t *table, size_t table_len, const uint8_t *shape, size_t shape_len,
+                                          const uint16_t *last, size_t last_places, const uint16_t *next, size_t next_places);
+
+/*
+ * Reshapes a table, with an index of it: refusals 1 to 4, 14 and 15 as in judging with an index, then 5 to 8; or what silmezga_reshape answers, with the same
+ * lines at the front of `new_table` and the same numbers at the front of `sources`. Bytes and places past the last line stay as they were, and where
+ * the call is refused all do. All that stands beside silmezga_reshape, of room and of links, holds of this call too.
+ */
+silmezga_reshaped silmezga_reshape_with_index(silmezga_width width, const uint8_t *table, size_t table_len, const uint8_t *shape, size_t shape_len,
+                                              const uint16_t *last, size_t last_places, const uint16_t *next, size_t next_places,
+                                              uint8_t *new_table, size_t new_len, uint32_t *sources, size_t source_places);
+
+/*
+ * Summarises a reshape with room for 4,096 lines, with an index of the table and with nothing written: refusals 1 to 4, 14 and 15 as in judging with an index,
+ * then 5 to 8; or what silmezga_summarise answers.
+ */
+silmezga_summary silmezga_summarise_with_index(silmezga_width width, const uint8_t *table, size_t table_len, const uint8_t *shape, size_t shape_len,
+                                               const uint16_t *last, size_t last_places, const uint16_t *next, size_t next_places);
 
 #ifdef __cplusplus
 }

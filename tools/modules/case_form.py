@@ -1,14 +1,14 @@
-"""A case of the program cases: what it holds, how it is written, and the line that it must give by paper01.py and typed_trees.py.
+"""A case of the program cases: what it holds, how it is written, and the line that it must give by paper01.py, typed_trees.py and indexed.py.
 
 crates/cases/src/main.rt says what the bytes and the line are.
 """
 import functools, typing
 
-import paper01, typed_trees
+import indexed, paper01, typed_trees
 
 # the program's rooms: some records and places more than a reshape uses, a summary more than there are types, some bytes more than a table, the
-# numbers of a list of pairs, and the bytes of a text
-MOST_RECORDS, MOST_SUMMARIES, MOST_MOVED, MOST_NUMBERS, MOST_HELD = 4100, 65, 30000, 1024, 4096
+# numbers of a list of pairs, the bytes of a text, and some places more than a table has rows
+MOST_RECORDS, MOST_SUMMARIES, MOST_MOVED, MOST_NUMBERS, MOST_HELD, MOST_PLACES = 4100, 65, 30000, 1024, 4096, 1100
 
 # a narrow file is widened, and a wide one narrowed
 OTHER = {6: 8, 8: 6}
@@ -20,7 +20,8 @@ MARK = (7777,) * 6
 class Case(typing.NamedTuple):
     """What a case leaves open, `filled` chooses. The room is of whole records, of bytes past them, and of places. Where there is a shape of
     a second reshape, the case is a chain. `moved` is the bytes lent for the table and for the shape in the other width, and as many for both with
-    their labels converted. The numbers are a list of pairs of labels. `typed` is the bytes lent for the shape of a text and for a printed line."""
+    their labels converted. The numbers are a list of pairs of labels. `typed` is the bytes lent for the shape of a text and for a printed line. Where
+    there is an index, its two lists are lent for reading, and as many places of each for building."""
     table: bytes
     shape: bytes = b""
     row: typing.Optional[int] = None
@@ -32,6 +33,7 @@ class Case(typing.NamedTuple):
     numbers: typing.Tuple[int, ...] = ()
     text: bytes = b""
     typed: typing.Optional[typing.Tuple[int, int]] = None
+    index: typing.Optional[typing.Tuple[typing.Tuple[int, ...], typing.Tuple[int, ...]]] = None
 
     @property
     def row_length(self):
@@ -131,6 +133,11 @@ def changes(held, start, data):
     return out
 
 
+def in_bytes(numbers):
+    """16-bit numbers."""
+    return paper01.written(numbers, len(numbers))
+
+
 def packed(all_cases):
     """The bytes of all cases, each as what differs from those before."""
     held = bytearray(65536)
@@ -138,14 +145,17 @@ def packed(all_cases):
         records, past, places = case.room
         assert case.row_length * records + past <= case.row_length * MOST_RECORDS and places <= MOST_RECORDS, "more lent than there is"
         assert case.summaries <= MOST_SUMMARIES and max(case.moved + case.typed) <= MOST_MOVED, "more lent than there is"
-        assert max(len(case.table), 2 * len(case.shape), 4 * len(case.again)) <= 32768, "more bytes than the program holds"
+        assert max(len(case.table), 4 * len(case.shape), 4 * len(case.again)) <= 32768, "more bytes than the program holds"
         assert len(case.numbers) <= MOST_NUMBERS and len(case.text) <= MOST_HELD, "a longer list or text than there is room for"
-        parts = ((0, case.table), (32768, case.shape), (49152, case.again), (57344, paper01.written(case.numbers, len(case.numbers))),
-                 (61440, case.text))
+        lists = case.index or ((), ())
+        assert max(map(len, lists)) <= MOST_PLACES, "a longer list of an index than there is room for"
+        parts = ((0, case.table), (32768, case.shape), *zip((40960, 45056), map(in_bytes, lists)), (49152, case.again),
+                 (57344, in_bytes(case.numbers)), (61440, case.text))
         made = [change for start, data in parts for change in changes(held, start, data)]
         lengths = ((len(made), 2), (len(case.table), 2), (len(case.shape), 2))
         fields = (*lengths, (case.row, 8), (records, 2), (past, 1), (case.summaries, 1), (places, 2), (len(case.again), 2), (case.levels, 1),
-                  *((lent, 2) for lent in case.moved), (len(case.numbers), 2), (len(case.text), 2), *((lent, 2) for lent in case.typed))
+                  *((lent, 2) for lent in case.moved), (len(case.numbers), 2), (len(case.text), 2), *((lent, 2) for lent in case.typed),
+                  (int(case.index is not None), 1), *((len(numbers), 2) for numbers in lists))
         yield b"".join(x.to_bytes(size, "little") for x, size in fields) + b"".join(made)
 
 
@@ -177,6 +187,10 @@ def byte_before(i):
 
 def place_before(i):
     return 1000003 + i
+
+
+def row_before(i):
+    return 20000 + i
 
 
 def bytes_lent(count):
@@ -220,9 +234,8 @@ def by_entry(lists):
     return [(e, *four) for e, four in enumerate(zip(*lists)) if any(four)]
 
 
-def judged(case):
+def judged(number, place, verdict, none_apart, edges):
     """The answer, and the numbers of each entry that has any."""
-    number, place, verdict, none_apart, edges = judging(case.table, case.shape, case.levels)
     return [(number, place, *(*verdict, 0, 0)[:3], int(none_apart)), *by_entry(edges)]
 
 
@@ -232,8 +245,7 @@ def looked_up(case):
     return [(number, place, part.hex()), (number, place, 0 if number else case.row * case.row_length, len(part))]
 
 
-def summarised(case):
-    number, place, entries = summary(case.table, case.shape, case.levels)
+def summarised(number, place, entries):
     return [(number, place), *by_entry(entries)]
 
 
@@ -262,16 +274,30 @@ def printed(case):
     return {"printing": [reply, ("sum", folded(1, left))], "reading back": typed(case, left[:reply[2]])}
 
 
+def built(case):
+    """What building an index answers, and the sum over all that was lent, the last descendants first."""
+    reply, lasts, nexts = indexed.build_index(case.table, *([row_before(i) for i in range(len(numbers))] for numbers in case.index), case.levels)
+    return [reply, ("sum", folded(1, lasts + nexts))]
+
+
+def with_index(case):
+    """The parts of the calls that have an index; those of the ones that are lent it for reading are as without one."""
+    given = case.table, case.shape, *case.index
+    return {"building": built(case), "judging with": judged(*indexed.judge_with_index(*given, case.levels)),
+            "reshaping with": reshaped(*indexed.reshape_with_index(*given, *lend(case.levels, *case.room), case.levels)),
+            "summarising with": summarised(*indexed.summarise_with_index(*given, case.levels))}
+
+
 def told(case):
     """The parts of a case's line, each a list of pieces."""
     parts = {
         "examining": [paper01.examine(case.table, levels=case.levels)], "reading": [read(case.table, case.levels)],
-        "look-up": looked_up(case), "adorning": adorned(case), "judging": judged(case),
-        "reshaping": reshaped(*reshaping(case)), "summarising": summarised(case),
+        "look-up": looked_up(case), "adorning": adorned(case), "judging": judged(*judging(case.table, case.shape, case.levels)),
+        "reshaping": reshaped(*reshaping(case)), "summarising": summarised(*summary(case.table, case.shape, case.levels)),
         "moving a table": moved(paper01.move_table, case.table, case.moved[0], case.levels),
         "moving a shape": moved(paper01.move_shape, case.shape, case.moved[1], case.levels), "converting": converted(case),
         "reading a text": typed(case, case.text), **printed(case)}
-    return {**parts, "again": chained(case)} if case.again else parts
+    return {**parts, **(with_index(case) if case.index else {}), **({"again": chained(case)} if case.again else {})}
 
 
 def line(parts):

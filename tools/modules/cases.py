@@ -245,3 +245,17 @@ def conversion(rng, most_rows=14, most_entries=6, levels=6, harm=0.2):
     listed.update({rng.randint(100, 999): None for _ in range(rng.choice([0, 0, 1, 2]))})
     numbers = [x for pair in zip(rng.sample(list(listed), len(listed)), free) for x in pair]
     return table, wanted, off(rng, numbers, *sorted(in_table ^ in_shape or used)) if rng.random() < 0.4 else numbers
+
+
+# ---- request 4: the two lists of an index
+def index(rng, lasts, nexts):
+    """The lists of a table as they are, with some places changed, or with one of them too short; some with places past the rows."""
+    both, rows, way = [list(lasts), list(nexts)], len(lasts), rng.random()
+    for _ in range(rng.randint(1, 3) if rows and way < 0.25 else 0):
+        numbers, at = rng.choice(both), rng.randrange(rows)
+        numbers[at] = rng.choice([0, 65535, numbers[at] ^ 1, numbers[at] ^ 256, at, rows, rng.randrange(rows)])
+    both = [numbers + [rng.randrange(65536) for _ in range(rng.choice([0, 0, 1, 4]))] for numbers in both]
+    if rows and way > 0.9:
+        short = rng.randrange(2)
+        both[short] = both[short][:rng.choice([rows - 1, rows - 1, rng.randrange(rows)])]
+    return both

@@ -1,8 +1,8 @@
-"""What is promised of a new table, of a summary, of the numbers of an edge, of a widened file, of a converted one, of a typed tree and of a printed
-line, held to the second reading's own answers: demand 3 of the order, and requests 1, 3, 5, 9, 10 and 12 of document 02."""
-import collections, sys
+"""What is promised of a new table, of a summary, of the numbers of an edge, of a widened file, of a converted one, of a typed tree, of a printed line
+and of an index, held to the second reading's own answers: demand 3 of the order, and requests 1, 3, 4, 5, 9, 10 and 12 of document 02."""
+import collections, itertools, sys
 
-import paper01, typed_trees
+import indexed, paper01, typed_trees
 
 
 def links_kept(work, lines):
@@ -129,6 +129,9 @@ def broken_table(table, wide, levels, to):
     lent = [(9,) * 6] * (paper01.MOST_TYPES + 1)
     if paper01.adorn(table, lent, levels=levels) != paper01.adorn(wide, lent, levels=to):
         yield "a widened table has other types or other children counts"
+    places = [7] * (len(table) // paper01.row_length(levels))
+    if indexed.build_index(table, places, places, levels) != indexed.build_index(wide, places, places, to):
+        yield "a widened table has another index"
     yield from broken_moves(paper01.move_table, table, wide, levels, to)
 
 
@@ -203,6 +206,8 @@ def broken_files(table, shape, new, new_shape, new_of, levels):
     kinds, kinds_after = ([*paper01.types_of_rows(r), *(entry.type for entry in e)] for r, e in ((rows, entries), (rows_after, after)))
     if not same_where(kinds, kinds_after):
         yield "types are equal that were not, or are not that were"
+    if indexed.index_of(rows) != indexed.index_of(rows_after):
+        yield "a converted table has another index"
 
 
 def broken_new_lines(table, shape, new, new_shape, new_of, levels):
@@ -267,6 +272,103 @@ def broken_typed(table, text, shape, **width):
     yield from broken_line(holding, shape, **width)
 
 
+# ---- request 4: an index beside the table
+def broken_lists(rows, lasts, nexts):
+    """What the two lists of some rows do not keep, in words: by their levels alone, and from the first row of a type on to its last."""
+    levels = [len(row.dewey) for row in rows]
+    deeper = (itertools.takewhile(lambda level, own=own: level > own, levels[r + 1:]) for r, own in enumerate(levels))
+    if lasts != [r + len(list(those)) for r, those in enumerate(deeper)]:
+        yield "a last descendant is not the last of the rows right behind a row that are deeper"
+    by_type = collections.defaultdict(list)
+    for r, kind in enumerate(paper01.types_of_rows(rows)):
+        by_type[kind].append(r)
+    if any([nexts[r] for r in several] != [*several[1:], indexed.NO_ROW] for several in by_type.values()):
+        yield "going on to the next row does not come to all rows of a type in turn"
+
+
+def three_calls(table, shape, lent, width):
+    """What judging, summarising and reshaping answer, and leave of what is lent."""
+    return (paper01.judge(table, shape, **width), paper01.summarise(table, shape, **width), paper01.reshape(table, shape, *lent, **width))
+
+
+def three_with_index(table, shape, lists, lent, width):
+    """The same of the calls with an index."""
+    return (indexed.judge_with_index(table, shape, *lists, **width), indexed.summarise_with_index(table, shape, *lists, **width),
+            indexed.reshape_with_index(table, shape, *lists, *lent, **width))
+
+
+def refused_so(answers, number, place, lent):
+    """Is this what the three calls refuse, with zeros elsewhere and nothing lent changed?"""
+    zeros = paper01.in_lists([])
+    return answers == ((number, place, (0,), False, zeros), (number, place, zeros), ((number, place, 0), *lent))
+
+
+def with_other(numbers, at, value):
+    return numbers[:at] + [value] + numbers[at + 1:]
+
+
+def with_changes(lists, few):
+    """The lists with one place changed, at each of the few rows and in each list; and with both changed, at two rows. The least changed row
+    comes with them."""
+    lasts, nexts = lists
+    for r in few:
+        for other in {lasts[r] ^ 1, lasts[r] ^ 256, 0} - {lasts[r]}:
+            yield r, (with_other(lasts, r, other), nexts)
+        for other in {nexts[r] ^ 1, nexts[r] ^ 256, 0} - {nexts[r]}:
+            yield r, (lasts, with_other(nexts, r, other))
+    for r, s in zip(few, few[::-1]):
+        yield min(r, s), (with_other(lasts, r, lasts[r] ^ 1), with_other(nexts, s, nexts[s] ^ 2))
+
+
+def too_short(lists, rows):
+    """The lists cut to the rows, with a place fewer in the one or in the other; nothing where there are no rows."""
+    fitting = [numbers[:rows] for numbers in lists]
+    yield from ((fitting[0][:-1], fitting[1]), (fitting[0], fitting[1][:-1])) if rows else ()
+
+
+def broken_built(table, lists, reply, **width):
+    """What the builder does not keep, in words, where it is lent these lists and answers so."""
+    number, place, rows = paper01.examine(table, **width)
+    if reply[0] != (number, place, rows):
+        yield "an index is not built, or refused, as the table is examined"
+    elif number and reply[1:] != lists:
+        yield "a builder that refuses changes what is lent"
+    elif not number and [made[rows:] for made in reply[1:]] != [lent[rows:] for lent in lists]:
+        yield "the builder writes past the rows"
+    elif not number:
+        yield from broken_lists(paper01.read_rows(table, **width), *(made[:rows] for made in reply[1:]))
+        for short in too_short(reply[1:], rows):
+            if indexed.build_index(table, *short, **width) != ((14, 0, 0), *short):
+                yield "a list one place short is not refused 14 by the builder, or is changed"
+
+
+def broken_use(table, shape, lists, few, **width):
+    """What the calls with an index do not keep, in words: these lists are the table's, with some places more."""
+    row, rows = paper01.row_length(width["levels"]), len(table) // paper01.row_length(width["levels"])
+    lent = bytes(range(256)) * (row * paper01.MOST_LINES // 256), [7] * paper01.MOST_LINES
+    answers = three_calls(table, shape, lent, width)
+    other_rest = [numbers[:rows] + rest for numbers, rest in zip(lists, ([], [0, 9]))]
+    if any(three_with_index(table, shape, each, lent, width) != answers for each in (lists, other_rest)):
+        yield "with the index of its table a call answers something else than without"
+    if answers[0][0] in (1, 2, 3, 4):
+        return
+    if not all(refused_so(three_with_index(table, shape, short, lent, width), 14, 0, lent) for short in too_short(lists, rows)):
+        yield "a list one place short is not refused 14"
+    for at, changed in with_changes(lists, few):
+        if not refused_so(three_with_index(table, shape, changed, lent, width), 15, at, lent):
+            yield f"lists that are wrong at row {at} first are not refused 15 with it"
+
+
+def broken_index(table, shape, most=30, **width):
+    """The promises of request 4 that a table and a shape do not keep, in words. Of more rows than the most, the last is changed alone."""
+    rows = paper01.examine(table, **width)[2]
+    lists = [5] * (rows + 2), [6] * (rows + 1)
+    reply = indexed.build_index(table, *lists, **width)
+    yield from broken_built(table, lists, reply, **width)
+    few = range(rows) if rows <= most else [rows - 1]
+    yield from broken_use(table, shape, reply[1:], few, **width)
+
+
 # ---- all of them
 def stop_at(broken, table, shape):
     for words in broken:
@@ -287,6 +389,11 @@ def hold_typed(table, text, shape, **width):
     """Stops where a promise on typed trees and printed lines is broken."""
     for words in broken_typed(table, text, shape, **width):
         sys.exit(f"table {table.hex()}, text {text}, shape {shape.hex()}: {words}")
+
+
+def hold_index(table, shape, **width):
+    """Stops where a promise on an index is broken."""
+    stop_at(broken_index(table, shape, **width), table, shape)
 
 
 def hold(table, shape, **width):

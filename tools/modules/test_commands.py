@@ -42,11 +42,13 @@ class Bench(InFolder):
         figures = "".join(f"{tape}\t{width}\t{n}\t{call}\t{n}\t{2 * n}\t{n}\tanswer\n" for tape, width, n, call in (*narrow, *wide))
         figures += "book\tnarrow\t1024\twiden\t1\t-\t2\tanswer\nbook\twide\t1024\tnarrow\t1\t-\t4\tanswer\n"
         trees = "book\tnarrow\twhole paths\t500\t1000\t1500\nbook\twide\twhole paths\t500\t1000\t1600\n"
-        for program, printed in ("driver", figures), ("trees", trees):
+        tasks = {"examine": 100, "build": 300, "empty": 150, "empty with": 250, "judge": 1000, "judge with": 1200, "ten trees": 8000, "ten trees with": 6000}
+        index = "".join(f"book\tnarrow\t1024\t{task}\t{ns}\n" for task, ns in tasks.items())
+        for program, printed in ("driver", figures), ("trees", trees), ("index", index):
             self.program(program, f"#!/bin/sh\ncat <<'END'\n{printed}END\n")
         self.program("bin/uname", "#!/bin/sh\necho x86_64\n")
         self.program("bin/rt", "#!/bin/sh\n")
-        self.program("bin/cc", "#!/bin/sh\nif [ \"$*\" = --version ]; then echo cc of a test; else cp driver trees target/bench; fi\n")
+        self.program("bin/cc", "#!/bin/sh\nif [ \"$*\" = --version ]; then echo cc of a test; else cp driver trees index target/bench; fi\n")
         (self.folder / "bin/python3").symlink_to(sys.executable)
 
     def bench(self, *words):
@@ -63,6 +65,9 @@ class Bench(InFolder):
         self.assertIn("| book | narrow | 1 ns | 4 ns | 0.25× |", printed)
         self.assertIn("| book | narrow | whole paths | 500 | 1 µs | 1.5 µs | 1.50× | 1.50× | pass |", printed)
         self.assertIn("| book | wide | whole paths | 500 | 1 µs | 1.6 µs | 1.50× | 1.60× | MISS |", printed)
+        self.assertIn("| book | narrow | 1,024 | 100 ns | 300 ns | 200 ns | 150 ns | 250 ns | 100 ns | 1.00× | 0.50× | pass |", printed)
+        self.assertIn("| book | narrow | 1,024 | judge | 1 µs | 1.2 µs | 1.10× | 1.20× | MISS |", printed)
+        self.assertIn("| book | narrow | 1,024 | 8 µs | 6 µs | 0.75× |", printed)
         self.assertEqual(self.bench("--write"), (0, printed, ""))
         self.assertTrue(self.page.read_text().startswith("# Bench\n\nWritten by `bench/run --write`;"))
         self.assertIn(printed[printed.index("## Bars"):].strip(), self.page.read_text())

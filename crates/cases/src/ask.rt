@@ -7,7 +7,7 @@ ghost use lib.ListN.{length};
 
 // What a case asks for beside its table, its shapes and its text: the width and the number that says it to C, the row to look up, the summaries
 // lent, the bytes and the places lent for a reshape, the bytes lent for the table and for the shape in the other width or with their labels
-// converted, and the bytes lent for the shape of a text and for the line of the shape.
+// converted, the bytes lent for the shape of a text and for the line of the shape, and whether there is an index.
 pub struct Ask {
     pub width: Width,
     pub said: u32,
@@ -19,6 +19,7 @@ pub struct Ask {
     pub for_shape: usize,
     pub for_tree: usize,
     pub for_line: usize,
+    pub indexed: bool,
 }
 
 fn width_of(levels: usize) -> Width {
@@ -36,7 +37,7 @@ fn bytes_lent(width: Width, records: usize, past: usize) -> usize
 }
 
 pub fn asked(head: &[u8]) -> Ask
-    requires { ⌜ length (now head) ≡ 35 ⌝ }
+    requires { ⌜ length (now head) ≡ 40 ⌝ }
 {
     let levels = bytes::wide(head[22]);
     let width = width_of(levels);
@@ -51,5 +52,6 @@ pub fn asked(head: &[u8]) -> Ask
         for_shape: bytes::word(head, 25),
         for_tree: bytes::word(head, 31),
         for_line: bytes::word(head, 33),
+        indexed: head[35] != 0,
     }
 }

@@ -8,10 +8,12 @@ use crate::print::folded_bytes;
 use crate::print::hexadecimal;
 use crate::print::number;
 use libc::STDOUT_FILENO;
+use silmezga::Summary;
 use silmezga::TypeSummary;
 use silmezga::Width;
 use silmezga::reader::handed;
 use silmezga::reader::handed_next;
+use silmezga_c::JudgedNumbers;
 ghost use Prim.Native.Nat.{_+_, _*_, _≤_};
 ghost use lib.ListN.{length};
 
@@ -141,8 +143,7 @@ fn print_entries(first: [usize; 16], second: [usize; 16], third: [usize; 16], fo
     }
 }
 
-pub fn print_judged(said: u32, t: &[u8], s: &[u8]) {
-    let j = silmezga_c::silmezga_judge(said, t, s);
+pub fn print_judgement(j: JudgedNumbers) {
     number(b": ", j.number);
     number(b" ", j.place);
     number(b" ", j.verdict);
@@ -161,8 +162,11 @@ pub fn print_judged(said: u32, t: &[u8], s: &[u8]) {
     );
 }
 
-pub fn print_summarised(said: u32, t: &[u8], s: &[u8]) {
-    let r = silmezga_c::silmezga_summarise(said, t, s);
+pub fn print_judged(said: u32, t: &[u8], s: &[u8]) {
+    print_judgement(silmezga_c::silmezga_judge(said, t, s));
+}
+
+pub fn print_summary(r: Summary) {
     let lines = r.lines;
     let rows = r.rows;
     let copies = r.copies;
@@ -170,4 +174,8 @@ pub fn print_summarised(said: u32, t: &[u8], s: &[u8]) {
     number(b": ", r.number);
     number(b" ", r.place);
     print_entries(lines, rows, copies, different);
+}
+
+pub fn print_summarised(said: u32, t: &[u8], s: &[u8]) {
+    print_summary(silmezga_c::silmezga_summarise(said, t, s));
 }

@@ -7,7 +7,7 @@ use crate::print::number;
 use tables::row::smaller;
 
 // The numbers of a list of pairs, two bytes each, as far as there is room.
-fn read_numbers(list: &[u8], numbers: &mut [u16]) {
+pub fn read_numbers(list: &[u8], numbers: &mut [u16]) {
     let end = smaller(list.len() / 2, numbers.len());
     let mut i = 0;
     while i < end {

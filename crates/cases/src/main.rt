@@ -3,14 +3,15 @@
 //
 // A case is a width, a table, a shape, a row to look up, the room lent for a reshape, the number of summaries lent, the shape of a second
 // reshape, which most cases lack, the bytes lent for the table and for the shape in the other width or with their labels converted, the
-// numbers of a list of pairs, a text, and the bytes lent for its shape and for the line of the shape. It is written as what differs from the case
-// before, since most cases change little. The table's bytes are held from place 0, the shape's from 32,768, the second shape's from 49,152, the
-// list's from 57,344 and the text's from 61,440, and all begin as zeros. A head of 35 bytes, least byte first: the number of changes (2 bytes),
-// the length of the table (2) and of the shape (2), the row (8), the whole records lent (2), the bytes lent past them (1), the summaries lent (1),
-// the places lent for the source list (2), the length of the second shape (2), 0 where there is none, the levels of the width (1), 8 or else 6,
-// the bytes lent for the table (2) and for the shape (2) in the other width, how many numbers the list has (2), the length of the text (2), and
-// the bytes lent for its shape (2) and for the line (2). Then each change: its place (2 bytes), its length (1) and its bytes. Records are counted
-// because the bytes of 4,096 do not fit two bytes.
+// numbers of a list of pairs, a text, the bytes lent for its shape and for the line of the shape, and the two lists of an index, which most cases
+// lack. It is written as what differs from the case before, since most cases change little. The table's bytes are held from place 0, the shape's
+// from 32,768, the last descendants of the index from 40,960 and its next rows from 45,056, the second shape's from 49,152, the list's from 57,344
+// and the text's from 61,440, and all begin as zeros. A head of 40 bytes, least byte first: the number of changes (2 bytes), the length of the
+// table (2) and of the shape (2), the row (8), the whole records lent (2), the bytes lent past them (1), the summaries lent (1), the places lent
+// for the source list (2), the length of the second shape (2), 0 where there is none, the levels of the width (1), 8 or else 6, the bytes lent for
+// the table (2) and for the shape (2) in the other width, how many numbers the list has (2), the length of the text (2), the bytes lent for its
+// shape (2) and for the line (2), whether there is an index (1), and how many last descendants (2) and next rows (2) it has. Then each change: its
+// place (2 bytes), its length (1) and its bytes. Records are counted because the bytes of 4,096 do not fit two bytes.
 //
 // The line has a part for each call, with ": " between them, and pieces of a part have "; " between them:
 // - examining's number, place and rows;
@@ -31,6 +32,8 @@
 // - the number, place and entries of reading the text over the table, and the sum over every lent byte after it;
 // - the number, place and bytes of printing the shape, and the sum over every lent byte after it; then of reading what was printed, an empty text
 //   where nothing was, the same as of the text;
+// - with an index, the number, place and rows of building one in as many places as its lists have, and the sum over every lent place after it, the
+//   last descendants first; then of judging, reshaping and summarising with its lists the parts that they have without;
 // - with a second shape, what reshaping to it the lines that the case's own reshape leaves gives, in the form of reshaping's part, with
 //   4,100 records and places lent; or `none`, where the case's own reshape is refused or leaves more than 1,024 lines.
 // A sum is that of `print::folded`.
@@ -40,6 +43,7 @@ pub mod ask;
 pub mod calls;
 pub mod chain;
 pub mod converted;
+pub mod index;
 pub mod lent;
 pub mod marked;
 pub mod moved;
@@ -67,7 +71,16 @@ fn print_answers(t: &[u8], s: &[u8], ask: Ask) {
 }
 
 // A case's line.
-fn print_case(t: &[u8], s: &[u8], again: &[u8], list: &[u8], text: &[u8], ask: Ask) {
+fn print_case(
+    t: &[u8],
+    s: &[u8],
+    lasts: &[u8],
+    nexts: &[u8],
+    again: &[u8],
+    list: &[u8],
+    text: &[u8],
+    ask: Ask,
+) {
     let width = ask.width;
     print_answers(t, s, ask);
     lent::print_reshaped(t, s, ask);
@@ -77,6 +90,7 @@ fn print_case(t: &[u8], s: &[u8], again: &[u8], list: &[u8], text: &[u8], ask: A
     converted::print_converted(t, s, list, ask);
     trees::print_text(t, text, ask);
     trees::print_line(t, s, ask);
+    index::print_indexed(t, s, lasts, nexts, ask);
     chain::print_chain(width, t, s, again, ask.bytes, ask.places);
     io::write_all(STDOUT_FILENO, b"\n");
 }
@@ -121,20 +135,27 @@ fn read_changes(held: &mut [u8], count: usize) -> bool {
 
 // Prints a case's line, or answers false where it does not fit what is held.
 fn print_held(held: &[u8], head: &[u8]) -> bool
-    requires { ⌜ length (now head) ≡ 35 ⌝ }
+    requires { ⌜ length (now head) ≡ 40 ⌝ }
 {
     let n = bytes::word(head, 2);
     let end = 32768 + bytes::word(head, 4);
+    let lasts = 40960 + 2 * bytes::word(head, 36);
+    let nexts = 45056 + 2 * bytes::word(head, 38);
     let last = 49152 + bytes::word(head, 20);
     let listed = 57344 + 2 * bytes::word(head, 27);
     let read = 61440 + bytes::word(head, 29);
     let most = held.len();
-    if most < n || most < end || most < last || most < listed || most < read {
+    if most < n || most < end || most < lasts || most < nexts {
+        return false;
+    }
+    if most < last || most < listed || most < read {
         return false;
     }
     print_case(
         &held[0..n],
         &held[32768..end],
+        &held[40960..lasts],
+        &held[45056..nexts],
         &held[49152..last],
         &held[57344..listed],
         &held[61440..read],
@@ -145,8 +166,8 @@ fn print_held(held: &[u8], head: &[u8]) -> bool
 
 // Reads a case and prints its line, or answers false where there is no whole one that fits what is held.
 fn run_case(held: &mut [u8]) -> bool {
-    let mut head = [0u8; 35];
-    if io::read_full(STDIN_FILENO, &mut head) < 35 {
+    let mut head = [0u8; 40];
+    if io::read_full(STDIN_FILENO, &mut head) < 40 {
         return false;
     }
     if !read_changes(held, bytes::word(&head, 0)) {

@@ -1,7 +1,8 @@
 //! What the archive exports, as `include/silmezga.h` declares it.
 use crate::{TypeSummary, Width, MOST_ENTRIES};
 
-/// The answer of examining, adorning, reshaping, widening, narrowing, and of reading and printing a tree: a count of rows, types, lines, entries or bytes.
+/// The answer of examining, adorning, reshaping, widening, narrowing, of reading and printing a tree, and of building an index: a count of rows, types,
+/// lines, entries or bytes.
 #[repr(C)]
 pub struct Counted {
     pub number: usize,
@@ -93,4 +94,50 @@ extern "C" {
         shape_len: usize,
     ) -> Counted;
     pub fn silmezga_print_tree(width: Width, shape: *const u8, shape_len: usize, text: *mut u8, text_len: usize) -> Counted;
+    pub fn silmezga_build_index(
+        width: Width,
+        table: *const u8,
+        table_len: usize,
+        last: *mut u16,
+        last_places: usize,
+        next: *mut u16,
+        next_places: usize,
+    ) -> Counted;
+    pub fn silmezga_judge_with_index(
+        width: Width,
+        table: *const u8,
+        table_len: usize,
+        shape: *const u8,
+        shape_len: usize,
+        last: *const u16,
+        last_places: usize,
+        next: *const u16,
+        next_places: usize,
+    ) -> Judged;
+    pub fn silmezga_reshape_with_index(
+        width: Width,
+        table: *const u8,
+        table_len: usize,
+        shape: *const u8,
+        shape_len: usize,
+        last: *const u16,
+        last_places: usize,
+        next: *const u16,
+        next_places: usize,
+        new: *mut u8,
+        new_len: usize,
+        sources: *mut u32,
+        source_places: usize,
+    ) -> Counted;
+    pub fn silmezga_summarise_with_index(
+        width: Width,
+        table: *const u8,
+        table_len: usize,
+        shape: *const u8,
+        shape_len: usize,
+        last: *const u16,
+        last_places: usize,
+        next: *const u16,
+        next_places: usize,
+    ) -> Summarised;
 }

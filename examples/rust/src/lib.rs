@@ -1,5 +1,5 @@
-//! The six calls of Silmezga over its static library, those that widen and narrow files, the one that converts labels and the two for trees as a
-//! line of text, safe: slices in, an answer or a refusal out.
+//! The six calls of Silmezga over its static library, those that widen and narrow files, the one that converts labels, the two for trees as a line of
+//! text and the four for an index beside a table, safe: slices in, an answer or a refusal out.
 //!
 //! The layouts of tables and shapes, the limits, and when each refusal is given stand in `include/silmezga.h`. What the calls answer
 //! is proved of the archive's functions; this file, which passes slices to them, is not covered by a proof.
@@ -57,6 +57,8 @@ pub const MOST_ENTRIES: usize = 16;
 pub const MOST_LINES: usize = 4_096;
 /// The most bytes of a tree as a line of text: so many are always enough for printing.
 pub const MOST_TEXT_BYTES: usize = 1_536;
+/// In an index, for a row that no row of its type follows.
+pub const NO_NEXT: u16 = 65_535;
 
 /// Why a call was refused: the number, 1 to 29, and the place that the refusal names, 0 where it names none.
 #[derive(Clone, Copy, Debug, PartialEq, Eq)]
@@ -146,6 +148,27 @@ fn accepted<T>(number: usize, place: usize, answer: T) -> Result<T, Refusal> {
     }
 }
 
+fn judgement(a: archive::Judged) -> Result<Judgement, Refusal> {
+    let (first, second) = (a.first, a.second);
+    let verdict = match a.verdict {
+        0 => Verdict::Kept,
+        1 => Verdict::Missing { entry: first, row: second },
+        2 => Verdict::Apart { first, second },
+        _ => Verdict::Unsure { first, second },
+    };
+    let edges = Edges {
+        least_children: a.least_children,
+        greatest_children: a.greatest_children,
+        least_parents: a.least_parents,
+        greatest_parents: a.greatest_parents,
+    };
+    accepted(a.number, a.place, Judgement { verdict, none_apart: a.none_apart == 1, edges })
+}
+
+fn summary(a: archive::Summarised) -> Result<Summary, Refusal> {
+    accepted(a.number, a.place, Summary { lines: a.lines, rows: a.rows, copies: a.copies, different: a.different })
+}
+
 /// Examines a table: refusals 1 to 3, or the number of rows.
 pub fn examine(width: Width, table: &[u8]) -> Result<usize, Refusal> {
     let a = unsafe { archive::silmezga_examine(width, table.as_ptr(), table.len()) };
@@ -167,21 +190,7 @@ pub fn adorn(width: Width, table: &[u8], summaries: &mut [TypeSummary]) -> Resul
 
 /// Judges a table and a shape: refusals 1 to 7, or the verdict, the second answer, and four numbers of each edge.
 pub fn judge(width: Width, table: &[u8], shape: &[u8]) -> Result<Judgement, Refusal> {
-    let a = unsafe { archive::silmezga_judge(width, table.as_ptr(), table.len(), shape.as_ptr(), shape.len()) };
-    let (first, second) = (a.first, a.second);
-    let verdict = match a.verdict {
-        0 => Verdict::Kept,
-        1 => Verdict::Missing { entry: first, row: second },
-        2 => Verdict::Apart { first, second },
-        _ => Verdict::Unsure { first, second },
-    };
-    let edges = Edges {
-        least_children: a.least_children,
-        greatest_children: a.greatest_children,
-        least_parents: a.least_parents,
-        greatest_parents: a.greatest_parents,
-    };
-    accepted(a.number, a.place, Judgement { verdict, none_apart: a.none_apart == 1, edges })
+    judgement(unsafe { archive::silmezga_judge(width, table.as_ptr(), table.len(), shape.as_ptr(), shape.len()) })
 }
 
 /// Reshapes a table: refusals 1 to 8, or the number of lines, which then stand at the front of `new`, and entry x 65,536 + source row of
@@ -207,9 +216,7 @@ pub fn reshape(width: Width, table: &[u8], shape: &[u8], new: &mut [u8], sources
 
 /// Summarises a reshape with room for 4,096 lines: refusals 1 to 8, or four figures of each entry.
 pub fn summarise(width: Width, table: &[u8], shape: &[u8]) -> Result<Summary, Refusal> {
-    let a = unsafe { archive::silmezga_summarise(width, table.as_ptr(), table.len(), shape.as_ptr(), shape.len()) };
-    let summary = Summary { lines: a.lines, rows: a.rows, copies: a.copies, different: a.different };
-    accepted(a.number, a.place, summary)
+    summary(unsafe { archive::silmezga_summarise(width, table.as_ptr(), table.len(), shape.as_ptr(), shape.len()) })
 }
 
 /// Widens a narrow table: refusals 1 to 3 of the narrow width and 29, or the number of rows, which then stand at the front of `new`, 28
@@ -296,4 +303,90 @@ pub fn read_tree(width: Width, table: &[u8], text: &[u8], shape: &mut [u8]) -> R
 pub fn print_tree(width: Width, shape: &[u8], text: &mut [u8]) -> Result<usize, Refusal> {
     let a = unsafe { archive::silmezga_print_tree(width, shape.as_ptr(), shape.len(), text.as_mut_ptr(), text.len()) };
     accepted(a.number, a.place, a.count)
+}
+
+/// Builds the index of a table, two lists with one place a row: in `last` the row's last descendant, itself where it has none, and in `next` the next row
+/// of the same type, `NO_NEXT` where there is none. Refusals 1 to 3, and 14 where either list has fewer places than the table has rows; or the number of
+/// rows, and so many places at the front of each list are written. What lies past them stays as it was. More than 64 types are not refused here.
+pub fn build_index(width: Width, table: &[u8], last: &mut [u16], next: &mut [u16]) -> Result<usize, Refusal> {
+    let a = unsafe {
+        archive::silmezga_build_index(
+            width,
+            table.as_ptr(),
+            table.len(),
+            last.as_mut_ptr(),
+            last.len(),
+            next.as_mut_ptr(),
+            next.len(),
+        )
+    };
+    accepted(a.number, a.place, a.count)
+}
+
+/// Judges a table and a shape, with an index of the table: refusals 1 to 4; 14 where either list has fewer places than the table has rows; 15 where the
+/// lists are not the table's, with the first row at which either is wrong; 5 to 7; or what `judge` answers. Places past the rows are not read, here and
+/// in the two calls below.
+pub fn judge_with_index(width: Width, table: &[u8], shape: &[u8], last: &[u16], next: &[u16]) -> Result<Judgement, Refusal> {
+    judgement(unsafe {
+        archive::silmezga_judge_with_index(
+            width,
+            table.as_ptr(),
+            table.len(),
+            shape.as_ptr(),
+            shape.len(),
+            last.as_ptr(),
+            last.len(),
+            next.as_ptr(),
+            next.len(),
+        )
+    })
+}
+
+/// Reshapes a table, with an index of it: refusals 1 to 4, 14 and 15 as in `judge_with_index`, then 5 to 8; or what `reshape` answers, with the same
+/// lines and source rows at the front of what is lent. What lies past the last line stays as it was.
+pub fn reshape_with_index(
+    width: Width,
+    table: &[u8],
+    shape: &[u8],
+    last: &[u16],
+    next: &[u16],
+    new: &mut [u8],
+    sources: &mut [u32],
+) -> Result<usize, Refusal> {
+    let a = unsafe {
+        archive::silmezga_reshape_with_index(
+            width,
+            table.as_ptr(),
+            table.len(),
+            shape.as_ptr(),
+            shape.len(),
+            last.as_ptr(),
+            last.len(),
+            next.as_ptr(),
+            next.len(),
+            new.as_mut_ptr(),
+            new.len(),
+            sources.as_mut_ptr(),
+            sources.len(),
+        )
+    };
+    accepted(a.number, a.place, a.count)
+}
+
+/// Summarises a reshape with room for 4,096 lines, with an index of the table: refusals 1 to 4, 14 and 15 as in `judge_with_index`, then 5 to 8; or what
+/// `summarise` answers.
+pub fn summarise_with_index(width: Width, table: &[u8], shape: &[u8], last: &[u16], next: &[u16]) -> Result<Summary, Refusal> {
+    summary(unsafe {
+        archive::silmezga_summarise_with_index(
+            width,
+            table.as_ptr(),
+            table.len(),
+            shape.as_ptr(),
+            shape.len(),
+            last.as_ptr(),
+            last.len(),
+            next.as_ptr(),
+            next.len(),
+        )
+    })
 }
