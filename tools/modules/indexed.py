@@ -69,28 +69,27 @@ def build_index(table, lasts, nexts, levels=6, labels=paper01.MOST_LABEL):
         return (no.number, no.place, 0), list(lasts), list(nexts)
 
 
-def judge_with_index(table, shape, lasts, nexts, levels=6, labels=paper01.MOST_LABEL):
-    """What paper01.judge gives, with the refusals of the index between 4 and 5."""
+def refusal_of(table, lasts, nexts, levels, labels):
+    """The number and place with which a table and its lists are refused, none where they pass."""
     try:
         fits(table, lasts, nexts, levels, labels)
-        return paper01.judge(table, shape, levels=levels, labels=labels)
     except Refused as no:
-        return no.number, no.place, (0,), False, in_lists([])
+        return no.number, no.place
+
+
+def judge_with_index(table, shape, lasts, nexts, levels=6, labels=paper01.MOST_LABEL):
+    """What paper01.judge gives, with the refusals of the index between 4 and 5."""
+    refusal = refusal_of(table, lasts, nexts, levels, labels)
+    return (*refusal, (0,), False, in_lists([])) if refusal else paper01.judge(table, shape, levels=levels, labels=labels)
 
 
 def reshape_with_index(table, shape, lasts, nexts, new, sources, levels=6, labels=paper01.MOST_LABEL):
     """What paper01.reshape gives, with the refusals of the index between 4 and 5."""
-    try:
-        fits(table, lasts, nexts, levels, labels)
-        return paper01.reshape(table, shape, new, sources, levels, labels)
-    except Refused as no:
-        return (no.number, no.place, 0), bytes(new), list(sources)
+    refusal = refusal_of(table, lasts, nexts, levels, labels)
+    return ((*refusal, 0), bytes(new), list(sources)) if refusal else paper01.reshape(table, shape, new, sources, levels, labels)
 
 
 def summarise_with_index(table, shape, lasts, nexts, levels=6, labels=paper01.MOST_LABEL):
     """What paper01.summarise gives, with the refusals of the index between 4 and 5."""
-    try:
-        fits(table, lasts, nexts, levels, labels)
-        return paper01.summarise(table, shape, levels=levels, labels=labels)
-    except Refused as no:
-        return no.number, no.place, in_lists([])
+    refusal = refusal_of(table, lasts, nexts, levels, labels)
+    return (*refusal, in_lists([])) if refusal else paper01.summarise(table, shape, levels=levels, labels=labels)

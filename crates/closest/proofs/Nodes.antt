@@ -10,9 +10,10 @@ use Rattle.paper.specs.Lists.{Has}
 use Rattle.paper.specs.Format.{Format, rowBytes, byte, word, whole}
 use Rattle.paper.specs.Tables.{rowOf, rows, dewey, badRow, rowTypes, types, typeNumber}
 use Rattle.paper.specs.Closeness.{Node, nodesFrom, nodes}
-use Rattle.paper.proofs.Forest.{Numbered, nodesFrom-length, one-place}
+use Rattle.paper.proofs.Forest.{Numbered, one-place}
 use Rattle.paper.proofs.Tables.{step, length-ways}
 use Rattle.paper.proofs.Calls.{count-rows}
+use Rattle.paper.proofs.Index as Index
 use Rattle.tables.proofs.Rows.{rec, rows-from}
 use Rattle.types.specs.Types.{kinds}
 use Rattle.types.proofs.Listed.{at-drop, drop-has, l-fits, l-pos}
@@ -34,9 +35,7 @@ module _ (f : Format) (t : List ℕ) where
   length-kinds = length-map (rowTypes (rows f t)) (typeNumber (types (rows f t))) ∙ length-ways [] (map step (rows f t)) ∙ length-map (rows f t) step
 
   pub length-nodes : length (nodes (rows f t)) ≤ length (rows f t)
-  unfolding nodes
-  length-nodes =
-      omega (arith, nodesFrom-length 0 (map (typeNumber (types (rows f t))) (rowTypes (rows f t))) (map dewey (rows f t)), length-map (rows f t) dewey)
+  length-nodes = omega (arith, Index.length-nodes (rows f t))
 
   -- the nodes from row i on
   pub nodes-from : (i : ℕ) → i < length (rows f t) → drop i (nodes (rows f t)) ≡ node f t i ∷ drop (suc i) (nodes (rows f t))

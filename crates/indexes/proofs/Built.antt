@@ -16,6 +16,7 @@ use Rattle.paper.specs.Closeness.{Node, nodes}
 use Rattle.paper.specs.Calls.{Answer, refused, given, _>>=_, refuse, reply, after, tests1-3}
 use Rattle.paper.specs.Index.{lastDescendant, nextOfType, Index, indexOf, tooShort, building, Built, buildIndex}
 use Rattle.paper.proofs.Lists.{or-left, or-right}
+use Rattle.paper.proofs.Kept.{length-count}
 use Rattle.paper.proofs.Index.{length-nodes}
 use Rattle.types.specs.Types.{kinds}
 use Rattle.closest.specs.Node.{node, Typed}
@@ -33,10 +34,6 @@ counted-at : {A : Type 0} (h : ℕ → A) (d : A) (i n k : ℕ) → k < n → ge
 counted-at h d i zero k lt = let z : ⊥ = omega arith in absurd z
 counted-at h d i (suc n) zero lt = let q : i ≡ i + 0 = omega arith in ap h q
 counted-at h d i (suc n) (suc k) lt = let q : suc i + k ≡ i + suc k = omega arith in counted-at h d (suc i) n k (omega arith) ∙ ap h q
-
-length-count : (i n : ℕ) → length (count i n) ≡ n
-length-count i zero = refl
-length-count i (suc n) = ap suc (length-count (suc i) n)
 
 front : (h : ℕ → ℕ) (n : ℕ) (old new : List ℕ) → length new ≡ length old → n ≤ length old → ((i : ℕ) → i < n → getD new i 0 ≡ h i)
     → ((i : ℕ) → n ≤ i → getD new i 0 ≡ getD old i 0) → new ≡ map h (count 0 n) ++ drop n old

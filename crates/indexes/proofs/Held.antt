@@ -15,7 +15,7 @@ use Rattle.paper.specs.Tables as Tables
 use Rattle.paper.specs.Closeness.{Node, nodes, level, meet}
 use Rattle.paper.specs.Calls.{Answer, given, _>>=_, refuse, refuseAt, tests1-4}
 use Rattle.paper.specs.Index.{noRow, descends, repeats, places, lastDescendant, nextOfType, tooShort, wrongAt, wrongRow, testsIndex}
-use Rattle.paper.proofs.Index.{length-nodes}
+use Rattle.paper.proofs.Index.{length-nodes, tests-are}
 use Rattle.closest.specs.Node.{node, Typed}
 use Rattle.closest.specs.Runs.{Levelled, NextRow}
 use Rattle.closest.proofs.Meets.{nodes-are, kind-at}
@@ -157,19 +157,18 @@ module _ (f : Format) (t last next : List ℕ) (table : tests1-4 f t ≡ given (
   abbrev tested : Bool → Option ℕ → Answer (Unit {0})
   tested short wrong = refuse 14 short >>= (λ _. refuseAt 15 wrong)
 
-  tests-are : testsIndex f t last next ≡ tested (tooShort (Tables.rows f t) last next) (wrongRow (nodes (Tables.rows f t)) last next)
-  unfolding testsIndex
-  tests-are = ap (λ a. a >>= (λ (rs : List Tables.Row). tested (tooShort rs last next) (wrongRow (nodes rs) last next))) table
+  are : testsIndex f t last next ≡ tested (tooShort (Tables.rows f t) last next) (wrongRow (nodes (Tables.rows f t)) last next)
+  are = tests-are f t last next (Tables.rows f t) table
 
   pub lists-short : tooShort (Tables.rows f t) last next ≡ true → Says (testsIndex f t last next) 14 0
   lists-short e = record {
-    refused-is = λ _. tests-are ∙ ap (λ b. tested b (wrongRow (nodes (Tables.rows f t)) last next)) e;
+    refused-is = λ _. are ∙ ap (λ b. tested b (wrongRow (nodes (Tables.rows f t)) last next)) e;
     given-is = λ z. let w : ⊥ = omega (arith, z) in absurd w;
   }
 
   pub lists-wrong : tooShort (Tables.rows f t) last next ≡ false → (w : ℕ) → wrongRow (nodes (Tables.rows f t)) last next ≡ some w
       → Says (testsIndex f t last next) 15 w
-  lists-wrong e w q = record { refused-is = λ _. tests-are ∙ ap₂ tested e q; given-is = λ z. let w : ⊥ = omega (arith, z) in absurd w }
+  lists-wrong e w q = record { refused-is = λ _. are ∙ ap₂ tested e q; given-is = λ z. let w : ⊥ = omega (arith, z) in absurd w }
 
   pub lists-right : tooShort (Tables.rows f t) last next ≡ false → wrongRow (nodes (Tables.rows f t)) last next ≡ none → Says (testsIndex f t last next) 0 0
-  lists-right e q = record { refused-is = λ ne. absurd (ne refl); given-is = λ _. tests-are ∙ ap₂ tested e q }
+  lists-right e q = record { refused-is = λ ne. absurd (ne refl); given-is = λ _. are ∙ ap₂ tested e q }

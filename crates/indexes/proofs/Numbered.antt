@@ -18,17 +18,13 @@ use Rattle.bytes.specs.Served.{mostLevels}
 use Rattle.tables.proofs.Rows.{rec}
 use Rattle.tables.proofs.Laws.{dewey-length}
 use Rattle.types.specs.Types.{kinds}
+use Rattle.types.proofs.Listed.{map-at}
 use Rattle.closest.specs.Node.{node}
 use Rattle.closest.specs.Runs.{SoundRows, LevelsOf, Levelled}
 use Rattle.closest.proofs.Nodes.{row-level, length-kinds}
 use Rattle.indexes.specs.Last.{Shallow}
 use Rattle.indexes.specs.Labels.{labelOf, LabelLists, LabelRows, Alike, Numbers}
 use Rattle.indexes.proofs.Labelled.{way-long}
-
-map-at : (g : List ℕ → ℕ) (l : List (List ℕ)) (j : ℕ) → j < length l → getD (map g l) j 0 ≡ g (getD l j [])
-map-at g [] j lt = absurd (not-suc-le-zero lt)
-map-at g (x ∷ l) zero lt = refl
-map-at g (x ∷ l) (suc j) lt = map-at g l j (le-of-suc-le-suc lt)
 
 module _ (f : Format) (n : ℕ) (t levels : List ℕ) (sound : SoundRows f n t) (ls : LevelsOf f n t levels) where
   abbrev rs : List Tables.Row

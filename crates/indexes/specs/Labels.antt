@@ -1,6 +1,7 @@
 -- The label lists of rows, 8 places a row, and rows with the same one. Assumes nothing.
 use Prim.Native.Nat.{ℕ, _+_, _*_, _-_, _≤_, _<_}
 use mathlib.Core.Path.{_≡_}
+use mathlib.Core.Bool.{Bool, true, false}
 use mathlib.Core.List.{List, []}
 use lib.ListN.{length, getD}
 use Rattle.paper.specs.Format.{mostRows}
@@ -32,6 +33,10 @@ pub record LabelRows (rows : ℕ) (levels labels : List ℕ) : Type 0 where
 pub record Alike (levels labels : List ℕ) (i j : ℕ) : Type 0 where
   pub level : getD levels j 0 ≡ getD levels i 0
   pub label : (m : ℕ) → m < getD levels i 0 → labelOf labels i m ≡ labelOf labels j m
+
+-- r says whether rows i and j are alike
+abbrev pub SaysAlike : List ℕ → List ℕ → ℕ → ℕ → Bool → Type 0
+SaysAlike levels labels i j r = (r ≡ true → Alike levels labels i j) × (r ≡ false → Alike levels labels i j → ⊥)
 
 -- rows have one number exactly where they are alike
 abbrev pub Numbers : ℕ → List ℕ → List ℕ → List ℕ → Type 0

@@ -120,10 +120,11 @@ pub record Begins (rs : List Row) (last next : List ℕ) : Type 0 where
   pub nexts : take (length rs) next ≡ indexOf (nodes rs) .next
 
 module _ (f : Format) (t last next : List ℕ) (rs : List Row) (table : tests1-4 f t ≡ given rs) where
-  abbrev tested : Bool → Option ℕ → Answer (Unit {0})
+  abbrev pub tested : Bool → Option ℕ → Answer (Unit {0})
   tested short wrong = refuse 14 short >>= (λ _. refuseAt 15 wrong)
 
-  tests-are : testsIndex f t last next ≡ tested (tooShort rs last next) (wrongRow (nodes rs) last next)
+  -- once 1 to 4 have passed, 14 and then 15
+  pub tests-are : testsIndex f t last next ≡ (refuse 14 (tooShort rs last next) >>= (λ _. refuseAt 15 (wrongRow (nodes rs) last next)))
   unfolding testsIndex
   tests-are = ap (λ a. a >>= (λ (rs : List Row). tested (tooShort rs last next) (wrongRow (nodes rs) last next))) table
 

@@ -19,6 +19,7 @@ use Rattle.paper.specs.Further
 use Rattle.paper.specs.WidthSamples
 use Rattle.paper.specs.LabelSamples
 use Rattle.paper.specs.PartnerSamples
+use Rattle.paper.specs.IndexSamples
 
 -- ---- tests
 pub both : (a b : Bool) → a && b ≡ true → (a ≡ true) × (b ≡ true)

@@ -35,6 +35,11 @@ drop-has xs zero x rest e = subst (λ l. Has x l) (sym e) (inl refl)
 drop-has [] (suc i) x rest e = let z : ⊥ = omega (arith, ap length e) in absurd z
 drop-has (y ∷ xs) (suc i) x rest e = inr (drop-has xs i x rest e)
 
+pub map-at : (g : List ℕ → ℕ) (l : List (List ℕ)) (j : ℕ) → j < length l → getD (map g l) j 0 ≡ g (getD l j [])
+map-at g [] j lt = absurd (not-suc-le-zero lt)
+map-at g (x ∷ l) zero lt = refl
+map-at g (x ∷ l) (suc j) lt = map-at g l j (le-of-suc-le-suc lt)
+
 -- ---- the level and label of row i
 module _ (f : Format) (t : List ℕ) (i : ℕ) (lt : i < whole (rowBytes f) t) where
   pub level-at : getD (map (λ (x : ℕ × ℕ). x .0) (map step (rows f t))) i 0 ≡ byte (rec (rowBytes f) i t) 0
@@ -124,11 +129,6 @@ module _ (rs : List Row) (i count : ℕ) (ks first parents labels stack : List �
         parent = λ le k lk. pass .parented k lk ∙ ap (λ ts. numberOr ts (up (getD ts k []))) q ∙ same-number (distinct ws) (up (getD (distinct ws) k []));
       }
     where
-      map-at : (g : List ℕ → ℕ) (l : List (List ℕ)) (j : ℕ) → j < length l → getD (map g l) j 0 ≡ g (getD l j [])
-      map-at g [] j lt = absurd (not-suc-le-zero lt)
-      map-at g (x ∷ l) zero lt = refl
-      map-at g (x ∷ l) (suc j) lt = map-at g l j (le-of-suc-le-suc lt)
-
       same-number : (ts : List (List ℕ)) (u : List ℕ) → numberOr ts u ≡ parentOf ts u
       same-number ts [] = refl
       same-number ts (x ∷ u) = refl

@@ -1,5 +1,5 @@
 -- `last::wrong_last` meets its contract. Assumes nothing.
-use Prim.Native.Nat.{_-_, _≤_}
+use Prim.Native.Nat.{_-_, _≤_, _<_}
 use native.Mathlib.Omega.{arith}
 use mathlib.Core.Path.{_≡_, refl}
 use lib.ListN.{length}
@@ -56,7 +56,7 @@ loop-again c =
     let e = c .before .before .before in
     let w = e .before .before .before .before in
     let l = w .before in
-    let pos = w .loop-test .taken in
+    let pos : 0 < l .loop .i = omega (arith, w .loop-test .taken) in
     let s = e .end-of .ensures in
     let own = e .before .before .wide .ensures .0 in (
       search needs,
@@ -72,7 +72,7 @@ loop-again-2 c =
     let e = c .before .before .before in
     let w = e .before .before .before .before in
     let l = w .before in
-    let pos = w .loop-test .taken in
+    let pos : 0 < l .loop .i = omega (arith, w .loop-test .taken) in
     let s = e .end-of .ensures in
     let own = e .before .before .wide .ensures .0 in (
       search needs,

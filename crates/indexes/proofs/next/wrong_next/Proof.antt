@@ -65,7 +65,7 @@ loop-again : tie.Need-loop-again Inv-loop μ-loop
 loop-again c =
     let n = c .before .before in
     let l = turn n in
-    let pos = n .before .before .loop-test .taken in
+    let pos : 0 < l .loop .i = omega (arith, n .before .before .loop-test .taken) in
     let own = n .wide .ensures .0 in
     let known = l .loop .inv .0 in
     let within = l .loop .inv .1 in
@@ -78,7 +78,7 @@ loop-again-2 : tie.Need-loop-again-2 Inv-loop μ-loop
 loop-again-2 c =
     let n = c .before .before in
     let l = turn n in
-    let pos = n .before .before .loop-test .taken in
+    let pos : 0 < l .loop .i = omega (arith, n .before .before .loop-test .taken) in
     let own = n .wide .ensures .0 in
     let known = l .loop .inv .0 in
     let within = l .loop .inv .1 in
