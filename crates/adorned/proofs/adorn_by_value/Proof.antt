@@ -63,12 +63,6 @@ late : (c : tie.Else2) →
     length (Tables.rows (format u) (lent u)) ≤ l .list-types .result .over
 late c = omega (arith, c .if2 .left, counted (accepted (c .before .before)))
 
-examine-requires : tie.Need-examine-requires
-examine-requires c κs = search needs
-
-refused-requires : tie.Need-refused-requires
-refused-requires c κs = search needs
-
 returns : tie.Need-returns
 returns c =
     let x = c .before .before in
@@ -79,17 +73,11 @@ returns c =
     says record { number = r .number; place = r .place; rest = [] } (adornFigures (a .f) t (a .lent)) (c .refused .result)
     (answer-is (c .refused .result) (r .number) (r .place) (c .refused .ensures)) (figures-refused (a .f) t (a .lent) (r .number) (r .place) refusal)
 
-slice-aggregate-list-types : tie.Need-slice-aggregate-list-types
-slice-aggregate-list-types c = search needs
-
 list-types-requires : tie.Need-list-types-requires
 list-types-requires c κs =
     let u = c .before in
     let p = passed1-3 (format u) (lent u) (Tables.rows (format u) (lent u)) (examined u .0) in
     ((examined u .1, few u, begun (u .before) .pre .shallow), (p .1, refl))
-
-refused-requires-2 : tie.Need-refused-requires-2
-refused-requires-2 c κs = search needs
 
 returns-2 : tie.Need-returns-2
 returns-2 c =
@@ -101,9 +89,6 @@ returns-2 c =
     let q = figures-over f t (places u) (examined u .0) over _ (l .list-types .ensures .over) (omega (arith, c .before .if2 .taken, counted u)) in
     says record { number = 4; place = over; rest = [] } (adornFigures f t (places u)) (c .refused2 .result)
     (answer-is (c .refused2 .result) 4 over (c .refused2 .ensures)) q
-
-refused-requires-3 : tie.Need-refused-requires-3
-refused-requires-3 c κs = search needs
 
 returns-3 : tie.Need-returns-3
 returns-3 c =
@@ -117,9 +102,6 @@ returns-3 c =
     (omega (arith, c .before .if3 .taken, lists .count (late e))) in
     says record { number = 10; place = 0; rest = [] } (adornFigures f t (places u)) (c .refused3 .result)
     (answer-is (c .refused3 .result) 10 0 (c .refused3 .ensures)) q
-
-slice-aggregate-summaries-of : tie.Need-slice-aggregate-summaries-of
-slice-aggregate-summaries-of c = search needs
 
 summaries-of-requires : tie.Need-summaries-of-requires
 summaries-of-requires c κs =
@@ -156,15 +138,15 @@ pub adorn-by-value-spec : {M : Type 1} → statement M
 adorn-by-value-spec =
     tie.close
     (tie.spec
-    examine-requires
-    refused-requires
+    (λ c κs. search needs)
+    (λ c κs. search needs)
     returns
-    slice-aggregate-list-types
+    (λ c. search needs)
     list-types-requires
-    refused-requires-2
+    (λ c κs. search needs)
     returns-2
-    refused-requires-3
+    (λ c κs. search needs)
     returns-3
-    slice-aggregate-summaries-of
+    (λ c. search needs)
     summaries-of-requires
     returns-4)

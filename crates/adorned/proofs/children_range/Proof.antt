@@ -56,25 +56,10 @@ past c = let a = begun (c .before) .args in omega (arith, length-take (a .rows) 
 loop-holds : tie.Need-loop-holds Inv-loop μ-loop
 loop-holds c = let a = c .before .args in (omega arith, walk-start (take (a .rows) (a .types .now)) (a .p) (a .k))
 
-shared-slice-read-wide : tie.Need-shared-slice-read-wide Inv-loop μ-loop
-shared-slice-read-wide c = search needs
-
-wide-requires : tie.Need-wide-requires Inv-loop μ-loop
-wide-requires c κs = search needs
-
-with-count-requires : tie.Need-with-count-requires Inv-loop μ-loop
-with-count-requires c κs = search needs
-
 add-counts : tie.Need-add-counts Inv-loop μ-loop
 add-counts c =
     let x = c .before .before .before in
     omega (arith, turn x .loop .inv .1 .passed, x .before .before .loop-test .taken)
-
-add-i : tie.Need-add-i Inv-loop μ-loop
-add-i c = search needs
-
-loop-less : tie.Need-loop-less Inv-loop μ-loop
-loop-less c = search needs
 
 loop-again : tie.Need-loop-again Inv-loop μ-loop
 loop-again c =
@@ -90,12 +75,6 @@ loop-again c =
           (walk-close (typesOf l) (a .p) (a .k) (v .r .least) (v .r .greatest) (v .counts) (v .c) (v .i) (x .wide .result) (here x) (type-is x)
           (walk l true seen) (c .before .before .if1 .taken) (r .result .least) (r .result .greatest) (r .ensures .0) (r .ensures .1)),
     )
-
-add-i-2 : tie.Need-add-i-2 Inv-loop μ-loop
-add-i-2 c = search needs
-
-loop-less-2 : tie.Need-loop-less-2 Inv-loop μ-loop
-loop-less-2 c = search needs
 
 loop-again-2 : tie.Need-loop-again-2 Inv-loop μ-loop
 loop-again-2 c =
@@ -113,12 +92,6 @@ add-c c =
     let x = c .before .before in
     omega (arith, turn x .loop .inv .1 .counted, x .before .before .loop-test .taken)
 
-add-i-3 : tie.Need-add-i-3 Inv-loop μ-loop
-add-i-3 c = search needs
-
-loop-less-3 : tie.Need-loop-less-3 Inv-loop μ-loop
-loop-less-3 c = search needs
-
 loop-again-3 : tie.Need-loop-again-3 Inv-loop μ-loop
 loop-again-3 c =
     let x = c .before .before in
@@ -130,12 +103,6 @@ loop-again-3 c =
           (c .before .if1 .left) (v .seen) (v .inv .1) (c .if3 .taken),
     )
 
-add-i-4 : tie.Need-add-i-4 Inv-loop μ-loop
-add-i-4 c = search needs
-
-loop-less-4 : tie.Need-loop-less-4 Inv-loop μ-loop
-loop-less-4 c = search needs
-
 loop-again-4 : tie.Need-loop-again-4 Inv-loop μ-loop
 loop-again-4 c =
     let x = c .before .before in
@@ -146,9 +113,6 @@ loop-again-4 c =
       walk-other (typesOf l) (a .p) (a .k) (v .r .least) (v .r .greatest) (v .counts) (v .c) (v .i) (x .wide .result) (here x) (type-is x)
           (c .before .if1 .left) (v .seen) (v .inv .1) (c .if3 .left),
     )
-
-with-count-requires-2 : tie.Need-with-count-requires-2 Inv-loop μ-loop
-with-count-requires-2 c κs = search needs
 
 returns : tie.Need-returns Inv-loop μ-loop
 returns c =
@@ -175,23 +139,23 @@ children-range-spec =
     Inv-loop
     μ-loop
     loop-holds
-    shared-slice-read-wide
-    wide-requires
-    with-count-requires
+    (λ c. search needs)
+    (λ c κs. search needs)
+    (λ c κs. search needs)
     add-counts
-    add-i
-    loop-less
+    (λ c. search needs)
+    (λ c. search needs)
     loop-again
-    add-i-2
-    loop-less-2
+    (λ c. search needs)
+    (λ c. search needs)
     loop-again-2
     add-c
-    add-i-3
-    loop-less-3
+    (λ c. search needs)
+    (λ c. search needs)
     loop-again-3
-    add-i-4
-    loop-less-4
+    (λ c. search needs)
+    (λ c. search needs)
     loop-again-4
-    with-count-requires-2
+    (λ c κs. search needs)
     returns
     returns-2)

@@ -7,11 +7,8 @@ use borrow.Author.Needs.{needs}
 use Rattle.adorned.proofs.no_summaries.Statement.{statement}
 use Rattle.adorned.proofs.no_summaries.Tie as tie
 
-no-summary-requires : tie.Need-no-summary-requires
-no-summary-requires c κs = search needs
-
 returns : tie.Need-returns
 returns c = map-replicate told 64 (c .no-summary .result) ∙ ap (replicate 64) (c .no-summary .ensures)
 
 pub no-summaries-spec : {M : Type 1} → statement M
-no-summaries-spec = tie.close (tie.spec no-summary-requires returns)
+no-summaries-spec = tie.close (tie.spec (λ c κs. search needs) returns)

@@ -40,17 +40,11 @@ few-places c =
     let all = count-is (a .f) (a .rows) (a .table .now) (a .types .now) (a .t5) (s .pre) in
     omega (arith, most, all, c .loop-test .taken)
 
-no-summaries-requires : tie.Need-no-summaries-requires Inv-loop μ-loop
-no-summaries-requires c κs = search needs
-
 loop-holds : tie.Need-loop-holds Inv-loop μ-loop
 loop-holds c = (omega arith, start-length (c .no-summaries .result) (c .no-summaries .ensures), refl, c .no-summaries .ensures)
 
 element-copy-out-wide : tie.Need-element-copy-out-wide Inv-loop μ-loop
 element-copy-out-wide c = omega (arith, few-places c)
-
-wide-requires : tie.Need-wide-requires Inv-loop μ-loop
-wide-requires c κs = search needs
 
 mul-wide16 : tie.Need-mul-wide16 Inv-loop μ-loop
 mul-wide16 c = omega (arith, few-places (turn c))
@@ -58,17 +52,11 @@ mul-wide16 c = omega (arith, few-places (turn c))
 element-copy-out-wide16 : tie.Need-element-copy-out-wide16 Inv-loop μ-loop
 element-copy-out-wide16 c = omega (arith, few-places (turn c))
 
-wide16-requires : tie.Need-wide16-requires Inv-loop μ-loop
-wide16-requires c κs = search needs
-
 mul-wide16-2 : tie.Need-mul-wide16-2 Inv-loop μ-loop
 mul-wide16-2 c = omega (arith, few-places (turn (parented c)))
 
 element-copy-out-wide16-2 : tie.Need-element-copy-out-wide16-2 Inv-loop μ-loop
 element-copy-out-wide16-2 c = omega (arith, few-places (turn (parented c)))
-
-wide16-requires-2 : tie.Need-wide16-requires-2 Inv-loop μ-loop
-wide16-requires-2 c κs = search needs
 
 summary-of-requires : tie.Need-summary-of-requires Inv-loop μ-loop
 summary-of-requires c κs =
@@ -88,12 +76,6 @@ mul-all c = omega (arith, few-places (turn (parented (labelled (c .before)))))
 
 array-set-from-all : tie.Need-array-set-from-all Inv-loop μ-loop
 array-set-from-all c = omega (arith, few-places (turn (parented (labelled (c .before)))))
-
-add-k : tie.Need-add-k Inv-loop μ-loop
-add-k c = search needs
-
-loop-less : tie.Need-loop-less Inv-loop μ-loop
-loop-less c = search needs
 
 loop-again : tie.Need-loop-again Inv-loop μ-loop
 loop-again c =
@@ -124,20 +106,20 @@ summaries-of-spec =
     (tie.spec
     Inv-loop
     μ-loop
-    no-summaries-requires
+    (λ c κs. search needs)
     loop-holds
     element-copy-out-wide
-    wide-requires
+    (λ c κs. search needs)
     mul-wide16
     element-copy-out-wide16
-    wide16-requires
+    (λ c κs. search needs)
     mul-wide16-2
     element-copy-out-wide16-2
-    wide16-requires-2
+    (λ c κs. search needs)
     summary-of-requires
     mul-all
     array-set-from-all
-    add-k
-    loop-less
+    (λ c. search needs)
+    (λ c. search needs)
     loop-again
     returns)

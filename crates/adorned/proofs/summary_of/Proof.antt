@@ -38,12 +38,6 @@ record-requires c κs =
     let within = first-in (a .f) (a .rows) t (a .types .now) (s .pre .0) (a .k) (a .parent) (a .label) (a .first) (s .pre .1) in
     subst (λ w. w * a .first + w ≤ length t) (sym (c .row-bytes .ensures)) (row-in (rowBytes (a .f)) (a .first) t within)
 
-shared-slice-read-wide : tie.Need-shared-slice-read-wide
-shared-slice-read-wide c = search needs
-
-wide-requires : tie.Need-wide-requires
-wide-requires c κs = search needs
-
 count-rows-requires : tie.Need-count-rows-requires
 count-rows-requires c κs =
     let s = begun (width-known c) in
@@ -77,8 +71,8 @@ summary-of-spec =
     (tie.spec
     row-bytes-requires
     record-requires
-    shared-slice-read-wide
-    wide-requires
+    (λ c. search needs)
+    (λ c κs. search needs)
     count-rows-requires
     returns
     children-range-requires

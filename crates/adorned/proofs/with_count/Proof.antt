@@ -5,15 +5,6 @@ use borrow.Author.Needs.{needs}
 use Rattle.adorned.proofs.with_count.Statement.{statement}
 use Rattle.adorned.proofs.with_count.Tie as tie
 
-returns : tie.Need-returns
-returns c = search needs
-
-smaller-requires : tie.Need-smaller-requires
-smaller-requires c κs = search needs
-
-larger-requires : tie.Need-larger-requires
-larger-requires c κs = search needs
-
 returns-2 : tie.Need-returns-2
 returns-2 c =
     let s = c .before .before .before in
@@ -23,4 +14,4 @@ returns-2 c =
     )
 
 pub with-count-spec : {M : Type 1} → statement M
-with-count-spec = tie.close (tie.spec returns smaller-requires larger-requires returns-2)
+with-count-spec = tie.close (tie.spec (λ c. search needs) (λ c κs. search needs) (λ c κs. search needs) returns-2)

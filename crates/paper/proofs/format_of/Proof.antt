@@ -6,12 +6,6 @@ use borrow.Author.Needs.{needs}
 use Rattle.paper.proofs.format_of.Statement.{statement}
 use Rattle.paper.proofs.format_of.Tie as tie
 
-enum-told : tie.Need-enum-told
-enum-told c = search needs
-
-enum-told-2 : tie.Need-enum-told-2
-enum-told-2 c = search needs
-
 returns : tie.Need-returns
 unfolding base
 returns c = sym (ap formatOf (c .enum-told .given .1))
@@ -21,4 +15,4 @@ unfolding eight
 returns-2 c = sym (ap formatOf (c .enum-told2 .given .1))
 
 pub format-of-spec : {M : Type 1} → statement M
-format-of-spec = tie.close (tie.spec enum-told enum-told-2 returns returns-2)
+format-of-spec = tie.close (tie.spec (λ c. search needs) (λ c. search needs) returns returns-2)

@@ -6,9 +6,6 @@ use borrow.Author.Needs.{needs}
 use Rattle.silmezga.proofs.adorned_at.Statement.{statement}
 use Rattle.silmezga.proofs.adorned_at.Tie as tie
 
-format-of-requires : tie.Need-format-of-requires
-format-of-requires c κs = search needs
-
 adorn-by-value-requires : tie.Need-adorn-by-value-requires
 adorn-by-value-requires c κs = format-served _ (c .before .before .args .width) (c .format-of .ensures)
 
@@ -18,4 +15,4 @@ returns c =
     subst (λ f. Says (adornFigures f (a .table .now) (a .lent)) (c .adorn-by-value .result)) (c .before .format-of .ensures) (c .adorn-by-value .ensures)
 
 pub adorned-at-spec : {M : Type 1} → statement M
-adorned-at-spec = tie.close (tie.spec format-of-requires adorn-by-value-requires returns)
+adorned-at-spec = tie.close (tie.spec (λ c κs. search needs) adorn-by-value-requires returns)

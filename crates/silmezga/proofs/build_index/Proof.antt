@@ -9,17 +9,8 @@ use Rattle.silmezga.proofs.build_index.Tie as tie
 abbrev begun : tie.After-format-of → tie.Start
 begun k = k .before .before .before .before
 
-format-of-requires : tie.Need-format-of-requires
-format-of-requires c κs = search needs
-
 build-index-requires : tie.Need-build-index-requires
 build-index-requires c κs = let k = c .before .before in format-served _ (begun k .args .width) (k .format-of .ensures)
-
-same-length : tie.Need-same-length
-same-length c = search needs
-
-same-length-2 : tie.Need-same-length-2
-same-length-2 c = search needs
 
 returns : tie.Need-returns
 returns c =
@@ -31,4 +22,4 @@ returns c =
     (r .build-index .ensures)
 
 pub build-index-spec : {M : Type 1} → statement M
-build-index-spec = tie.close (tie.spec format-of-requires build-index-requires same-length same-length-2 returns)
+build-index-spec = tie.close (tie.spec (λ c κs. search needs) build-index-requires (λ c. search needs) (λ c. search needs) returns)

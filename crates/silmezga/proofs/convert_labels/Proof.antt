@@ -11,17 +11,8 @@ use Rattle.silmezga.proofs.convert_labels.Tie as tie
 abbrev begun : tie.After-format-of → tie.Start
 begun k = k .before .before .before .before .before .before
 
-format-of-requires : tie.Need-format-of-requires
-format-of-requires c κs = search needs
-
 convert-requires : tie.Need-convert-requires
 convert-requires c κs = let k = c .before .before in format-served _ (begun k .args .width) (k .format-of .ensures)
-
-same-length : tie.Need-same-length
-same-length c = search needs
-
-same-length-2 : tie.Need-same-length-2
-same-length-2 c = search needs
 
 returns : tie.Need-returns
 returns c =
@@ -34,4 +25,4 @@ returns c =
 
 pub convert-labels-spec : {M : Type 1} → statement M
 convert-labels-spec =
-    tie.close (tie.spec format-of-requires convert-requires same-length same-length-2 returns)
+    tie.close (tie.spec (λ c κs. search needs) convert-requires (λ c. search needs) (λ c. search needs) returns)

@@ -7,9 +7,6 @@ use borrow.Author.Needs.{needs}
 use Rattle.silmezga.proofs.examine.Statement.{statement}
 use Rattle.silmezga.proofs.examine.Tie as tie
 
-format-of-requires : tie.Need-format-of-requires
-format-of-requires c κs = search needs
-
 examine-requires : tie.Need-examine-requires
 examine-requires c κs = format-served _ (c .before .before .args .width) (c .format-of .ensures)
 
@@ -19,4 +16,4 @@ returns c =
     subst (λ f. examined (c .examine .result) ≡ Calls.examine f t) (c .before .format-of .ensures) (c .examine .ensures)
 
 pub examine-spec : {M : Type 1} → statement M
-examine-spec = tie.close (tie.spec format-of-requires examine-requires returns)
+examine-spec = tie.close (tie.spec (λ c κs. search needs) examine-requires returns)

@@ -7,9 +7,6 @@ use borrow.Author.Needs.{needs}
 use Rattle.silmezga.proofs.judge.Statement.{statement}
 use Rattle.silmezga.proofs.judge.Tie as tie
 
-format-of-requires : tie.Need-format-of-requires
-format-of-requires c κs = search needs
-
 judge-requires : tie.Need-judge-requires
 judge-requires c κs = format-served _ (c .before .before .before .args .width) (c .format-of .ensures)
 
@@ -19,4 +16,4 @@ returns c =
     subst (λ f. judged (c .judge .result) ≡ inNumbers (Calls.judge f (a .table .now) (a .shape .now))) (c .before .format-of .ensures) (c .judge .ensures)
 
 pub judge-spec : {M : Type 1} → statement M
-judge-spec = tie.close (tie.spec format-of-requires judge-requires returns)
+judge-spec = tie.close (tie.spec (λ c κs. search needs) judge-requires returns)

@@ -10,9 +10,6 @@ use Rattle.silmezga.proofs.judge_with_index.Tie as tie
 abbrev begun : tie.After-format-of → tie.Start
 begun k = k .before .before .before .before .before
 
-format-of-requires : tie.Need-format-of-requires
-format-of-requires c κs = search needs
-
 judge-with-index-requires : tie.Need-judge-with-index-requires
 judge-with-index-requires c κs = format-served _ (begun c .args .width) (c .format-of .ensures)
 
@@ -23,4 +20,4 @@ returns c =
     (c .before .format-of .ensures) (c .judge-with-index .ensures)
 
 pub judge-with-index-spec : {M : Type 1} → statement M
-judge-with-index-spec = tie.close (tie.spec format-of-requires judge-with-index-requires returns)
+judge-with-index-spec = tie.close (tie.spec (λ c κs. search needs) judge-with-index-requires returns)

@@ -6,9 +6,6 @@ use borrow.Author.Needs.{needs}
 use Rattle.silmezga.proofs.look_up.Statement.{statement}
 use Rattle.silmezga.proofs.look_up.Tie as tie
 
-format-of-requires : tie.Need-format-of-requires
-format-of-requires c κs = search needs
-
 look-up-requires : tie.Need-look-up-requires
 look-up-requires c κs = format-served _ (c .before .before .args .width) (c .format-of .ensures)
 
@@ -18,4 +15,4 @@ returns c =
     subst (λ f. HandsBack f (a .table) (a .row) (c .look-up .result)) (c .before .format-of .ensures) (c .look-up .ensures)
 
 pub look-up-spec : {M : Type 1} → statement M
-look-up-spec = tie.close (tie.spec format-of-requires look-up-requires returns)
+look-up-spec = tie.close (tie.spec (λ c κs. search needs) look-up-requires returns)

@@ -6,9 +6,6 @@ use borrow.Author.Needs.{needs}
 use Rattle.silmezga.proofs.look_up_refusal.Statement.{statement}
 use Rattle.silmezga.proofs.look_up_refusal.Tie as tie
 
-format-of-requires : tie.Need-format-of-requires
-format-of-requires c κs = search needs
-
 look-up-refusal-requires : tie.Need-look-up-refusal-requires
 look-up-refusal-requires c κs = format-served _ (c .before .before .args .width) (c .format-of .ensures)
 
@@ -20,4 +17,4 @@ returns c =
     (c .before .format-of .ensures) (r .ensures)
 
 pub look-up-refusal-spec : {M : Type 1} → statement M
-look-up-refusal-spec = tie.close (tie.spec format-of-requires look-up-refusal-requires returns)
+look-up-refusal-spec = tie.close (tie.spec (λ c κs. search needs) look-up-refusal-requires returns)

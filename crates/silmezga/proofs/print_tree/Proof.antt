@@ -11,14 +11,8 @@ use Rattle.silmezga.proofs.print_tree.Tie as tie
 abbrev begun : tie.After-format-of → tie.Start
 begun k = k .before .before .before
 
-format-of-requires : tie.Need-format-of-requires
-format-of-requires c κs = search needs
-
 print-tree-requires : tie.Need-print-tree-requires
 print-tree-requires c κs = let k = c .before in format-served _ (begun k .args .width) (k .format-of .ensures)
-
-same-length : tie.Need-same-length
-same-length c = search needs
 
 returns : tie.Need-returns
 returns c =
@@ -29,4 +23,4 @@ returns c =
     (k .format-of .ensures) (v .print-tree .ensures)
 
 pub print-tree-spec : {M : Type 1} → statement M
-print-tree-spec = tie.close (tie.spec format-of-requires print-tree-requires same-length returns)
+print-tree-spec = tie.close (tie.spec (λ c κs. search needs) print-tree-requires (λ c. search needs) returns)

@@ -11,16 +11,10 @@ use Rattle.silmezga.proofs.read_tree.Tie as tie
 abbrev begun : tie.After-format-of → tie.Start
 begun k = k .before .before .before .before
 
-format-of-requires : tie.Need-format-of-requires
-format-of-requires c κs = search needs
-
 read-tree-requires : tie.Need-read-tree-requires
 read-tree-requires c κs =
     let k = c .before in
     (format-served _ (begun k .args .width) (k .format-of .ensures), format-labelled _ (begun k .args .width) (k .format-of .ensures))
-
-same-length : tie.Need-same-length
-same-length c = search needs
 
 returns : tie.Need-returns
 returns c =
@@ -31,4 +25,4 @@ returns c =
     (k .format-of .ensures) (v .read-tree .ensures)
 
 pub read-tree-spec : {M : Type 1} → statement M
-read-tree-spec = tie.close (tie.spec format-of-requires read-tree-requires same-length returns)
+read-tree-spec = tie.close (tie.spec (λ c κs. search needs) read-tree-requires (λ c. search needs) returns)

@@ -6,19 +6,10 @@ use borrow.Author.Needs.{needs}
 use Rattle.silmezga.proofs.reshape.Statement.{statement}
 use Rattle.silmezga.proofs.reshape.Tie as tie
 
-format-of-requires : tie.Need-format-of-requires
-format-of-requires c κs = search needs
-
 reshape-requires : tie.Need-reshape-requires
 reshape-requires c κs =
     let k = c .before .before in
     format-served _ (k .before .before .before .before .before .args .width) (k .format-of .ensures)
-
-same-length : tie.Need-same-length
-same-length c = search needs
-
-same-length-2 : tie.Need-same-length-2
-same-length-2 c = search needs
 
 returns : tie.Need-returns
 returns c =
@@ -30,4 +21,4 @@ returns c =
     (k .format-of .ensures) (r .reshape .ensures)
 
 pub reshape-spec : {M : Type 1} → statement M
-reshape-spec = tie.close (tie.spec format-of-requires reshape-requires same-length same-length-2 returns)
+reshape-spec = tie.close (tie.spec (λ c κs. search needs) reshape-requires (λ c. search needs) (λ c. search needs) returns)

@@ -9,17 +9,8 @@ use Rattle.silmezga.proofs.reshape_with_index.Tie as tie
 abbrev begun : tie.After-format-of → tie.Start
 begun k = k .before .before .before .before .before .before .before
 
-format-of-requires : tie.Need-format-of-requires
-format-of-requires c κs = search needs
-
 reshape-with-index-requires : tie.Need-reshape-with-index-requires
 reshape-with-index-requires c κs = let k = c .before .before in format-served _ (begun k .args .width) (k .format-of .ensures)
-
-same-length : tie.Need-same-length
-same-length c = search needs
-
-same-length-2 : tie.Need-same-length-2
-same-length-2 c = search needs
 
 returns : tie.Need-returns
 returns c =
@@ -32,4 +23,4 @@ returns c =
     (left .0) (left .1 .0)) (k .format-of .ensures) (r .reshape-with-index .ensures)
 
 pub reshape-with-index-spec : {M : Type 1} → statement M
-reshape-with-index-spec = tie.close (tie.spec format-of-requires reshape-with-index-requires same-length same-length-2 returns)
+reshape-with-index-spec = tie.close (tie.spec (λ c κs. search needs) reshape-with-index-requires (λ c. search needs) (λ c. search needs) returns)

@@ -7,9 +7,6 @@ use borrow.Author.Needs.{needs}
 use Rattle.silmezga.proofs.summarise.Statement.{statement}
 use Rattle.silmezga.proofs.summarise.Tie as tie
 
-format-of-requires : tie.Need-format-of-requires
-format-of-requires c κs = search needs
-
 summarise-requires : tie.Need-summarise-requires
 summarise-requires c κs = format-served _ (c .before .before .before .args .width) (c .format-of .ensures)
 
@@ -19,4 +16,4 @@ returns c =
     subst (λ f. summarised (c .summarise .result) ≡ Calls.summarise f (a .table .now) (a .shape .now)) (c .before .format-of .ensures) (c .summarise .ensures)
 
 pub summarise-spec : {M : Type 1} → statement M
-summarise-spec = tie.close (tie.spec format-of-requires summarise-requires returns)
+summarise-spec = tie.close (tie.spec (λ c κs. search needs) summarise-requires returns)

@@ -10,9 +10,6 @@ use Rattle.silmezga.proofs.summarise_with_index.Tie as tie
 abbrev begun : tie.After-format-of → tie.Start
 begun k = k .before .before .before .before .before
 
-format-of-requires : tie.Need-format-of-requires
-format-of-requires c κs = search needs
-
 summarise-with-index-requires : tie.Need-summarise-with-index-requires
 summarise-with-index-requires c κs = format-served _ (begun c .args .width) (c .format-of .ensures)
 
@@ -23,4 +20,4 @@ returns c =
     (c .before .format-of .ensures) (c .summarise-with-index .ensures)
 
 pub summarise-with-index-spec : {M : Type 1} → statement M
-summarise-with-index-spec = tie.close (tie.spec format-of-requires summarise-with-index-requires returns)
+summarise-with-index-spec = tie.close (tie.spec (λ c κs. search needs) summarise-with-index-requires returns)

@@ -21,33 +21,6 @@ numbers c v = toldOf (begun c .args .j) (padded 3 (numbersOf v) ++ (c .as-number
 told : (c : tie.After-as-number) {v : Verdict} → begun c .args .j .verdict ≡ v → numbers c v ≡ judgedNumbers (begun c .args .j)
 told c e = ap₂ (λ v n. toldOf (begun c .args .j) (padded 3 (numbersOf v) ++ (n ∷ []))) (sym e) (c .as-number .ensures)
 
-as-number-requires : tie.Need-as-number-requires
-as-number-requires c κs = search needs
-
-enum-told : tie.Need-enum-told
-enum-told c = search needs
-
-in-numbers-requires : tie.Need-in-numbers-requires
-in-numbers-requires c κs = search needs
-
-enum-known-verdict : tie.Need-enum-known-verdict
-enum-known-verdict c = search needs
-
-in-numbers-requires-2 : tie.Need-in-numbers-requires-2
-in-numbers-requires-2 c κs = search needs
-
-enum-known-verdict-2 : tie.Need-enum-known-verdict-2
-enum-known-verdict-2 c = search needs
-
-in-numbers-requires-3 : tie.Need-in-numbers-requires-3
-in-numbers-requires-3 c κs = search needs
-
-enum-known-verdict-3 : tie.Need-enum-known-verdict-3
-enum-known-verdict-3 c = search needs
-
-in-numbers-requires-4 : tie.Need-in-numbers-requires-4
-in-numbers-requires-4 c κs = search needs
-
 returns : tie.Need-returns
 returns c = c .in-numbers .ensures ∙ told (c .before .before .before) (c .before .enum-told .given .1)
 
@@ -64,15 +37,15 @@ pub judged-numbers-spec : {M : Type 1} → statement M
 judged-numbers-spec =
     tie.close
     (tie.spec
-    as-number-requires
-    enum-told
-    in-numbers-requires
-    enum-known-verdict
-    in-numbers-requires-2
-    enum-known-verdict-2
-    in-numbers-requires-3
-    enum-known-verdict-3
-    in-numbers-requires-4
+    (λ c κs. search needs)
+    (λ c. search needs)
+    (λ c κs. search needs)
+    (λ c. search needs)
+    (λ c κs. search needs)
+    (λ c. search needs)
+    (λ c κs. search needs)
+    (λ c. search needs)
+    (λ c κs. search needs)
     returns
     returns-2
     returns-3

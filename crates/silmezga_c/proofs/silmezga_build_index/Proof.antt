@@ -6,18 +6,6 @@ use borrow.Author.Needs.{needs}
 use Rattle.silmezga_c.proofs.silmezga_build_index.Statement.{statement}
 use Rattle.silmezga_c.proofs.silmezga_build_index.Tie as tie
 
-width-of-requires : tie.Need-width-of-requires
-width-of-requires c κs = search needs
-
-build-index-requires : tie.Need-build-index-requires
-build-index-requires c κs = search needs
-
-same-length : tie.Need-same-length
-same-length c = search needs
-
-same-length-2 : tie.Need-same-length-2
-same-length-2 c = search needs
-
 returns : tie.Need-returns
 returns c =
     let r = c .before .before .before .before in
@@ -28,4 +16,4 @@ returns c =
     (r .build-index .ensures)
 
 pub silmezga-build-index-spec : {M : Type 1} → statement M
-silmezga-build-index-spec = tie.close (tie.spec width-of-requires build-index-requires same-length same-length-2 returns)
+silmezga-build-index-spec = tie.close (tie.spec (λ c κs. search needs) (λ c κs. search needs) (λ c. search needs) (λ c. search needs) returns)

@@ -8,18 +8,6 @@ use borrow.Author.Needs.{needs}
 use Rattle.silmezga_c.proofs.silmezga_convert_labels.Statement.{statement}
 use Rattle.silmezga_c.proofs.silmezga_convert_labels.Tie as tie
 
-width-of-requires : tie.Need-width-of-requires
-width-of-requires c κs = search needs
-
-convert-labels-requires : tie.Need-convert-labels-requires
-convert-labels-requires c κs = search needs
-
-same-length : tie.Need-same-length
-same-length c = search needs
-
-same-length-2 : tie.Need-same-length-2
-same-length-2 c = search needs
-
 returns : tie.Need-returns
 returns c =
     let v = c .before .before .before .before in
@@ -30,4 +18,4 @@ returns c =
     (v .convert-labels .result) (left .0) (left .1 .0)) (k .width-of .ensures) (v .convert-labels .ensures)
 
 pub silmezga-convert-labels-spec : {M : Type 1} → statement M
-silmezga-convert-labels-spec = tie.close (tie.spec width-of-requires convert-labels-requires same-length same-length-2 returns)
+silmezga-convert-labels-spec = tie.close (tie.spec (λ c κs. search needs) (λ c κs. search needs) (λ c. search needs) (λ c. search needs) returns)

@@ -7,16 +7,10 @@ use borrow.Author.Needs.{needs}
 use Rattle.silmezga_c.proofs.silmezga_examine.Statement.{statement}
 use Rattle.silmezga_c.proofs.silmezga_examine.Tie as tie
 
-width-of-requires : tie.Need-width-of-requires
-width-of-requires c κs = search needs
-
-examine-requires : tie.Need-examine-requires
-examine-requires c κs = search needs
-
 returns : tie.Need-returns
 returns c =
     let t = c .before .before .before .args .table .now in
     subst (λ w. examined (c .examine .result) ≡ Calls.examine (formatOf w) t) (c .before .width-of .ensures) (c .examine .ensures)
 
 pub silmezga-examine-spec : {M : Type 1} → statement M
-silmezga-examine-spec = tie.close (tie.spec width-of-requires examine-requires returns)
+silmezga-examine-spec = tie.close (tie.spec (λ c κs. search needs) (λ c κs. search needs) returns)

@@ -9,15 +9,6 @@ use borrow.Author.Needs.{needs}
 use Rattle.silmezga_c.proofs.silmezga_judge.Statement.{statement}
 use Rattle.silmezga_c.proofs.silmezga_judge.Tie as tie
 
-width-of-requires : tie.Need-width-of-requires
-width-of-requires c κs = search needs
-
-judge-requires : tie.Need-judge-requires
-judge-requires c κs = search needs
-
-judged-numbers-requires : tie.Need-judged-numbers-requires
-judged-numbers-requires c κs = search needs
-
 returns : tie.Need-returns
 returns c =
     let j = c .before in
@@ -28,4 +19,4 @@ returns c =
     c .judged-numbers .ensures ∙ in-four r (judge (formatNumbered (a .width)) (a .table .now) (a .shape .now)) e
 
 pub silmezga-judge-spec : {M : Type 1} → statement M
-silmezga-judge-spec = tie.close (tie.spec width-of-requires judge-requires judged-numbers-requires returns)
+silmezga-judge-spec = tie.close (tie.spec (λ c κs. search needs) (λ c κs. search needs) (λ c κs. search needs) returns)

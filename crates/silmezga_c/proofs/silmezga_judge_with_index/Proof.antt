@@ -9,15 +9,6 @@ use borrow.Author.Needs.{needs}
 use Rattle.silmezga_c.proofs.silmezga_judge_with_index.Statement.{statement}
 use Rattle.silmezga_c.proofs.silmezga_judge_with_index.Tie as tie
 
-width-of-requires : tie.Need-width-of-requires
-width-of-requires c κs = search needs
-
-judge-with-index-requires : tie.Need-judge-with-index-requires
-judge-with-index-requires c κs = search needs
-
-judged-numbers-requires : tie.Need-judged-numbers-requires
-judged-numbers-requires c κs = search needs
-
 returns : tie.Need-returns
 returns c =
     let j = c .before in
@@ -29,4 +20,4 @@ returns c =
     c .judged-numbers .ensures ∙ in-four r (judgeWith (formatNumbered (a .width)) (a .table .now) (a .shape .now) (a .last .now) (a .next .now)) e
 
 pub silmezga-judge-with-index-spec : {M : Type 1} → statement M
-silmezga-judge-with-index-spec = tie.close (tie.spec width-of-requires judge-with-index-requires judged-numbers-requires returns)
+silmezga-judge-with-index-spec = tie.close (tie.spec (λ c κs. search needs) (λ c κs. search needs) (λ c κs. search needs) returns)

@@ -45,15 +45,6 @@ width c =
     let x = k .before .before .before in
     c .row-bytes .ensures ∙ ap (λ (f : Format). rowBytes f) (k .format-of .ensures ∙ ap formatOf (x .before .width-of .ensures))
 
-width-of-requires : tie.Need-width-of-requires
-width-of-requires c κs = search needs
-
-examine-requires : tie.Need-examine-requires
-examine-requires c κs = search needs
-
-no-row-requires : tie.Need-no-row-requires
-no-row-requires c κs = search needs
-
 returns : tie.Need-returns
 returns c =
     let x = c .before .before in
@@ -62,9 +53,6 @@ returns c =
     told-refused (format x) (lent x) (wanted x) (r .number) (r .place) (c .no-row .result) (c .before .if1 .taken)
     (lookUp-refused (format x) (lent x) (wanted x) (r .number) (r .place) refusal) (c .no-row .ensures)
 
-no-row-requires-2 : tie.Need-no-row-requires-2
-no-row-requires-2 c κs = search needs
-
 returns-2 : tie.Need-returns-2
 returns-2 c =
     let e = c .before .before in
@@ -72,9 +60,6 @@ returns-2 c =
     let (g, n) = accepted e in
     told-refused (format x) (lent x) (wanted x) 11 (wanted x) (c .no-row2 .result) (λ e. omega (arith, e))
     (lookUp-past (format x) (lent x) (wanted x) g (omega (arith, n, c .before .if2 .taken))) (c .no-row2 .ensures)
-
-format-of-requires : tie.Need-format-of-requires
-format-of-requires c κs = search needs
 
 row-bytes-requires : tie.Need-row-bytes-requires
 row-bytes-requires c κs =
@@ -105,13 +90,13 @@ pub silmezga-look-up-spec : {M : Type 1} → statement M
 silmezga-look-up-spec =
     tie.close
     (tie.spec
-    width-of-requires
-    examine-requires
-    no-row-requires
+    (λ c κs. search needs)
+    (λ c κs. search needs)
+    (λ c κs. search needs)
     returns
-    no-row-requires-2
+    (λ c κs. search needs)
     returns-2
-    format-of-requires
+    (λ c κs. search needs)
     row-bytes-requires
     mul-t12
     returns-3)

@@ -8,15 +8,6 @@ use borrow.Author.Needs.{needs}
 use Rattle.silmezga_c.proofs.silmezga_print_tree.Statement.{statement}
 use Rattle.silmezga_c.proofs.silmezga_print_tree.Tie as tie
 
-width-of-requires : tie.Need-width-of-requires
-width-of-requires c κs = search needs
-
-print-tree-requires : tie.Need-print-tree-requires
-print-tree-requires c κs = search needs
-
-same-length : tie.Need-same-length
-same-length c = search needs
-
 returns : tie.Need-returns
 returns c =
     let v = c .before .before in
@@ -26,4 +17,4 @@ returns c =
     (k .width-of .ensures) (v .print-tree .ensures)
 
 pub silmezga-print-tree-spec : {M : Type 1} → statement M
-silmezga-print-tree-spec = tie.close (tie.spec width-of-requires print-tree-requires same-length returns)
+silmezga-print-tree-spec = tie.close (tie.spec (λ c κs. search needs) (λ c κs. search needs) (λ c. search needs) returns)

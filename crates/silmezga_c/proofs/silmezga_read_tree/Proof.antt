@@ -7,15 +7,6 @@ use borrow.Author.Needs.{needs}
 use Rattle.silmezga_c.proofs.silmezga_read_tree.Statement.{statement}
 use Rattle.silmezga_c.proofs.silmezga_read_tree.Tie as tie
 
-width-of-requires : tie.Need-width-of-requires
-width-of-requires c κs = search needs
-
-read-tree-requires : tie.Need-read-tree-requires
-read-tree-requires c κs = search needs
-
-same-length : tie.Need-same-length
-same-length c = search needs
-
 returns : tie.Need-returns
 returns c =
     let v = c .before .before in
@@ -25,4 +16,4 @@ returns c =
     (k .width-of .ensures) (v .read-tree .ensures)
 
 pub silmezga-read-tree-spec : {M : Type 1} → statement M
-silmezga-read-tree-spec = tie.close (tie.spec width-of-requires read-tree-requires same-length returns)
+silmezga-read-tree-spec = tie.close (tie.spec (λ c κs. search needs) (λ c κs. search needs) (λ c. search needs) returns)

@@ -6,18 +6,6 @@ use borrow.Author.Needs.{needs}
 use Rattle.silmezga_c.proofs.silmezga_reshape.Statement.{statement}
 use Rattle.silmezga_c.proofs.silmezga_reshape.Tie as tie
 
-width-of-requires : tie.Need-width-of-requires
-width-of-requires c κs = search needs
-
-reshape-requires : tie.Need-reshape-requires
-reshape-requires c κs = search needs
-
-same-length : tie.Need-same-length
-same-length c = search needs
-
-same-length-2 : tie.Need-same-length-2
-same-length-2 c = search needs
-
 returns : tie.Need-returns
 returns c =
     let r = c .before .before .before .before in
@@ -28,4 +16,4 @@ returns c =
     (k .width-of .ensures) (r .reshape .ensures)
 
 pub silmezga-reshape-spec : {M : Type 1} → statement M
-silmezga-reshape-spec = tie.close (tie.spec width-of-requires reshape-requires same-length same-length-2 returns)
+silmezga-reshape-spec = tie.close (tie.spec (λ c κs. search needs) (λ c κs. search needs) (λ c. search needs) (λ c. search needs) returns)

@@ -6,18 +6,6 @@ use borrow.Author.Needs.{needs}
 use Rattle.silmezga_c.proofs.silmezga_reshape_with_index.Statement.{statement}
 use Rattle.silmezga_c.proofs.silmezga_reshape_with_index.Tie as tie
 
-width-of-requires : tie.Need-width-of-requires
-width-of-requires c κs = search needs
-
-reshape-with-index-requires : tie.Need-reshape-with-index-requires
-reshape-with-index-requires c κs = search needs
-
-same-length : tie.Need-same-length
-same-length c = search needs
-
-same-length-2 : tie.Need-same-length-2
-same-length-2 c = search needs
-
 returns : tie.Need-returns
 returns c =
     let r = c .before .before .before .before in
@@ -29,4 +17,4 @@ returns c =
     (r .reshape-with-index .result) (left .0) (left .1 .0)) (k .width-of .ensures) (r .reshape-with-index .ensures)
 
 pub silmezga-reshape-with-index-spec : {M : Type 1} → statement M
-silmezga-reshape-with-index-spec = tie.close (tie.spec width-of-requires reshape-with-index-requires same-length same-length-2 returns)
+silmezga-reshape-with-index-spec = tie.close (tie.spec (λ c κs. search needs) (λ c κs. search needs) (λ c. search needs) (λ c. search needs) returns)

@@ -7,12 +7,6 @@ use borrow.Author.Needs.{needs}
 use Rattle.silmezga_c.proofs.silmezga_summarise.Statement.{statement}
 use Rattle.silmezga_c.proofs.silmezga_summarise.Tie as tie
 
-width-of-requires : tie.Need-width-of-requires
-width-of-requires c κs = search needs
-
-summarise-requires : tie.Need-summarise-requires
-summarise-requires c κs = search needs
-
 returns : tie.Need-returns
 returns c =
     let a = c .before .before .before .before .args in
@@ -20,4 +14,4 @@ returns c =
     (c .before .width-of .ensures) (c .summarise .ensures)
 
 pub silmezga-summarise-spec : {M : Type 1} → statement M
-silmezga-summarise-spec = tie.close (tie.spec width-of-requires summarise-requires returns)
+silmezga-summarise-spec = tie.close (tie.spec (λ c κs. search needs) (λ c κs. search needs) returns)

@@ -7,12 +7,6 @@ use borrow.Author.Needs.{needs}
 use Rattle.silmezga_c.proofs.silmezga_summarise_with_index.Statement.{statement}
 use Rattle.silmezga_c.proofs.silmezga_summarise_with_index.Tie as tie
 
-width-of-requires : tie.Need-width-of-requires
-width-of-requires c κs = search needs
-
-summarise-with-index-requires : tie.Need-summarise-with-index-requires
-summarise-with-index-requires c κs = search needs
-
 returns : tie.Need-returns
 returns c =
     let a = c .before .before .before .before .before .before .args in
@@ -20,4 +14,4 @@ returns c =
     (c .before .width-of .ensures) (c .summarise-with-index .ensures)
 
 pub silmezga-summarise-with-index-spec : {M : Type 1} → statement M
-silmezga-summarise-with-index-spec = tie.close (tie.spec width-of-requires summarise-with-index-requires returns)
+silmezga-summarise-with-index-spec = tie.close (tie.spec (λ c κs. search needs) (λ c κs. search needs) returns)

@@ -8,17 +8,11 @@ use Rattle.cases.proofs.ask.bytes_lent.Tie as tie
 few : (c : tie.After-record-bytes) → c .record-bytes .result * c .before .args .records ≤ 1835008
 few c = records-few (c .record-bytes .result) (c .before .args .records) (c .record-bytes .ensures .2) (c .before .pre .0)
 
-record-bytes-requires : tie.Need-record-bytes-requires
-record-bytes-requires c κs = search needs
-
 mul-result : tie.Need-mul-result
 mul-result c = let n = few c in search needs
 
 add-result : tie.Need-add-result
 add-result c = let n = few c in search needs
 
-returns : tie.Need-returns
-returns c = search needs
-
 pub bytes-lent-spec : {M : Type 1} → statement M
-bytes-lent-spec = tie.close (tie.spec record-bytes-requires mul-result add-result returns)
+bytes-lent-spec = tie.close (tie.spec (λ c κs. search needs) mul-result add-result (λ c. search needs))

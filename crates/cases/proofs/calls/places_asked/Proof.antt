@@ -10,12 +10,6 @@ use Rattle.cases.proofs.calls.places_asked.Tie as tie
 half : (c : tie.After-record-bytes) → 2 * (length (c .before .before .args .t .now) / c .record-bytes .result) ≤ length (c .before .before .args .t .now)
 half c = records-half (c .record-bytes .result) (length (c .before .before .args .t .now)) (c .record-bytes .ensures .1)
 
-record-bytes-requires : tie.Need-record-bytes-requires
-record-bytes-requires c κs = search needs
-
-div-result : tie.Need-div-result
-div-result c = search needs
-
 add-result : tie.Need-add-result
 add-result c = let few = half c in search needs
 
@@ -23,4 +17,4 @@ returns : tie.Need-returns
 returns c = omega (arith, half c)
 
 pub places-asked-spec : {M : Type 1} → statement M
-places-asked-spec = tie.close (tie.spec record-bytes-requires div-result add-result returns)
+places-asked-spec = tie.close (tie.spec (λ c κs. search needs) (λ c. search needs) add-result returns)

@@ -18,23 +18,11 @@ begun c = c .before .before .before .before .before
 within : (c : tie.After-record-bytes) → c .record-bytes .result * begun c .args .lines ≤ length (begun c .args .new .now)
 within c = subst (λ (w : ℕ). w * begun c .args .lines ≤ length (begun c .args .new .now)) (sym (c .record-bytes .ensures .0)) (begun c .pre .0)
 
-record-bytes-requires : tie.Need-record-bytes-requires
-record-bytes-requires c κs = search needs
-
 mul-end : tie.Need-mul-end
 mul-end c = let fits = within c in search needs
 
 slice-aggregate-reshape : tie.Need-slice-aggregate-reshape
 slice-aggregate-reshape c = sym (length-take-le _ _ (within (c .before)))
-
-reshape-requires : tie.Need-reshape-requires
-reshape-requires c κs = search needs
-
-same-length : tie.Need-same-length
-same-length c = search needs
-
-same-length-2 : tie.Need-same-length-2
-same-length-2 c = search needs
 
 returns : tie.Need-returns
 returns c =
@@ -49,10 +37,10 @@ pub reshape-again-spec : {M : Type 1} → statement M
 reshape-again-spec =
     tie.close
     (tie.spec
-    record-bytes-requires
+    (λ c κs. search needs)
     mul-end
     slice-aggregate-reshape
-    reshape-requires
-    same-length
-    same-length-2
+    (λ c κs. search needs)
+    (λ c. search needs)
+    (λ c. search needs)
     returns)

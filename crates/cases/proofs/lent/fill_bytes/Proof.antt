@@ -12,29 +12,8 @@ Inv-loop b₀ i₀ b i = (i ≤ length b₀) × (length b ≡ length b₀)
 abbrev μ-loop : tie.MeasureT-loop
 μ-loop b₀ i₀ b i = length b₀ - i
 
-loop-holds : tie.Need-loop-holds Inv-loop μ-loop
-loop-holds c = search needs
-
-byte-before-requires : tie.Need-byte-before-requires Inv-loop μ-loop
-byte-before-requires c κs = search needs
-
-slice-write-b : tie.Need-slice-write-b Inv-loop μ-loop
-slice-write-b c = search needs
-
-add-i : tie.Need-add-i Inv-loop μ-loop
-add-i c = search needs
-
-loop-less : tie.Need-loop-less Inv-loop μ-loop
-loop-less c = search needs
-
 loop-again : tie.Need-loop-again Inv-loop μ-loop
 loop-again c = simp length-set (search needs)
-
-same-length : tie.Need-same-length Inv-loop μ-loop
-same-length c = search needs
-
-returns : tie.Need-returns Inv-loop μ-loop
-returns c = search needs
 
 pub fill-bytes-spec : {M : Type 1} → statement M
 fill-bytes-spec =
@@ -42,11 +21,11 @@ fill-bytes-spec =
     (tie.spec
     Inv-loop
     μ-loop
-    loop-holds
-    byte-before-requires
-    slice-write-b
-    add-i
-    loop-less
+    (λ c. search needs)
+    (λ c κs. search needs)
+    (λ c. search needs)
+    (λ c. search needs)
+    (λ c. search needs)
     loop-again
-    same-length
-    returns)
+    (λ c. search needs)
+    (λ c. search needs))

@@ -12,32 +12,8 @@ Inv-loop p₀ i₀ p i = (i ≤ length p₀) × (length p ≡ length p₀)
 abbrev μ-loop : tie.MeasureT-loop
 μ-loop p₀ i₀ p i = length p₀ - i
 
-loop-holds : tie.Need-loop-holds Inv-loop μ-loop
-loop-holds c = search needs
-
-place-before-requires : tie.Need-place-before-requires Inv-loop μ-loop
-place-before-requires c κs = search needs
-
-mul-p : tie.Need-mul-p Inv-loop μ-loop
-mul-p c = search needs
-
-slice-write-p : tie.Need-slice-write-p Inv-loop μ-loop
-slice-write-p c = search needs
-
-add-i : tie.Need-add-i Inv-loop μ-loop
-add-i c = search needs
-
-loop-less : tie.Need-loop-less Inv-loop μ-loop
-loop-less c = search needs
-
 loop-again : tie.Need-loop-again Inv-loop μ-loop
 loop-again c = simp length-set (search needs)
-
-same-length : tie.Need-same-length Inv-loop μ-loop
-same-length c = search needs
-
-returns : tie.Need-returns Inv-loop μ-loop
-returns c = search needs
 
 pub fill-places-spec : {M : Type 1} → statement M
 fill-places-spec =
@@ -45,12 +21,12 @@ fill-places-spec =
     (tie.spec
     Inv-loop
     μ-loop
-    loop-holds
-    place-before-requires
-    mul-p
-    slice-write-p
-    add-i
-    loop-less
+    (λ c. search needs)
+    (λ c κs. search needs)
+    (λ c. search needs)
+    (λ c. search needs)
+    (λ c. search needs)
+    (λ c. search needs)
     loop-again
-    same-length
-    returns)
+    (λ c. search needs)
+    (λ c. search needs))

@@ -11,9 +11,6 @@ use Rattle.cases.proofs.lent.record_bytes.Tie as tie
 served : (c : tie.After-format-of) → Served (c .format-of .result)
 served c = format-served (c .format-of .result) (c .before .args .width) (c .format-of .ensures)
 
-format-of-requires : tie.Need-format-of-requires
-format-of-requires c κs = search needs
-
 row-bytes-requires : tie.Need-row-bytes-requires
 row-bytes-requires c κs = omega (arith, served c .shallow)
 
@@ -23,4 +20,4 @@ returns c =
     (r ∙ ap rowBytes (c .before .format-of .ensures), omega (arith, r), omega (arith, r, served (c .before) .shallow))
 
 pub record-bytes-spec : {M : Type 1} → statement M
-record-bytes-spec = tie.close (tie.spec format-of-requires row-bytes-requires returns)
+record-bytes-spec = tie.close (tie.spec (λ c κs. search needs) row-bytes-requires returns)

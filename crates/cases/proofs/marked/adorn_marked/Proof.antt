@@ -11,16 +11,10 @@ use Rattle.cases.proofs.marked.adorn_marked.Lts as lts
 use Rattle.cases.proofs.marked.lend.Reads as lend-reads
 use Rattle.tables.proofs.row.smaller.Reads as smaller-reads
 
-smaller-requires : tie.Need-smaller-requires
-smaller-requires c κs = search needs
-
-lend-requires : tie.Need-lend-requires
-lend-requires c κs = search needs
-
 returns : tie.Need-returns
 returns c =
     let args = c .before .before .before .args in
     subst (λ (k : ℕ). LeftOf (formatNumbered (args .said)) (args .table .now) k (c .lend .result)) (c .before .smaller .ensures) (c .lend .ensures)
 
 pub adorn-marked-spec : {M : Type 1} → statement M
-adorn-marked-spec = tie.close (tie.spec smaller-requires lend-requires returns)
+adorn-marked-spec = tie.close (tie.spec (λ c κs. search needs) (λ c κs. search needs) returns)

@@ -6,31 +6,16 @@ use borrow.Author.Needs.{needs}
 use Rattle.cases.proofs.moved.print_moved.Statement.{statement}
 use Rattle.cases.proofs.moved.print_moved.Tie as tie
 
-file-room-requires : tie.Need-file-room-requires
-file-room-requires c κs = search needs
-
-smaller-requires : tie.Need-smaller-requires
-smaller-requires c κs = search needs
-
-array-borrow-prefix-new : tie.Need-array-borrow-prefix-new
-array-borrow-prefix-new c = search needs
-
 slice-aggregate-print-answered : tie.Need-slice-aggregate-print-answered
 slice-aggregate-print-answered c = sym (length-take-le _ _ (omega arith))
-
-print-answered-requires : tie.Need-print-answered-requires
-print-answered-requires c κs = search needs
-
-returns : tie.Need-returns
-returns c = search needs
 
 pub print-moved-spec : {M : Type 1} → statement M
 print-moved-spec =
     tie.close
     (tie.spec
-    file-room-requires
-    smaller-requires
-    array-borrow-prefix-new
+    (λ c κs. search needs)
+    (λ c κs. search needs)
+    (λ c. search needs)
     slice-aggregate-print-answered
-    print-answered-requires
-    returns)
+    (λ c κs. search needs)
+    (λ c. search needs))

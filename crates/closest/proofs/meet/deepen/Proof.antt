@@ -20,30 +20,6 @@ abbrev μ-loop : tie.MeasureT-loop
 loop-holds : tie.Need-loop-holds Inv-loop μ-loop
 loop-holds c = let a = c .args in (omega arith, refl, deepened-none (a .at) (a .t3) (a .deepest .now))
 
-add-d : tie.Need-add-d Inv-loop μ-loop
-add-d c = search needs
-
-slice-read-d : tie.Need-slice-read-d Inv-loop μ-loop
-slice-read-d c = search needs
-
-array-read-if1 : tie.Need-array-read-if1 Inv-loop μ-loop
-array-read-if1 c = search needs
-
-array-read-deepest : tie.Need-array-read-deepest Inv-loop μ-loop
-array-read-deepest c = search needs
-
-add-deepest : tie.Need-add-deepest Inv-loop μ-loop
-add-deepest c = search needs
-
-slice-write-deepest : tie.Need-slice-write-deepest Inv-loop μ-loop
-slice-write-deepest c = search needs
-
-add-e : tie.Need-add-e Inv-loop μ-loop
-add-e c = search needs
-
-loop-less : tie.Need-loop-less Inv-loop μ-loop
-loop-less c = search needs
-
 -- what is put is the deeper of the two
 deeper : (c : tie.Joined1 Inv-loop μ-loop) →
     let l = c .before .before .before in
@@ -60,9 +36,6 @@ loop-again c =
       deepened-more (c .if1 .deepest) (l .loop .inv .2) (omega arith) (deeper c),
     )
 
-same-length : tie.Need-same-length Inv-loop μ-loop
-same-length c = search needs
-
 returns : tie.Need-returns Inv-loop μ-loop
 returns c =
     let l = c .before in
@@ -77,14 +50,14 @@ deepen-spec =
     Inv-loop
     μ-loop
     loop-holds
-    add-d
-    slice-read-d
-    array-read-if1
-    array-read-deepest
-    add-deepest
-    slice-write-deepest
-    add-e
-    loop-less
+    (λ c. search needs)
+    (λ c. search needs)
+    (λ c. search needs)
+    (λ c. search needs)
+    (λ c. search needs)
+    (λ c. search needs)
+    (λ c. search needs)
+    (λ c. search needs)
     loop-again
-    same-length
+    (λ c. search needs)
     returns)

@@ -32,31 +32,13 @@ loop-holds c =
           (λ j. ap (λ l. getD l j 0) none ∙ zeros-at 1024 j),
     )
 
-shared-slice-read-k : tie.Need-shared-slice-read-k Inv-loop μ-loop
-shared-slice-read-k c = search needs
-
-shared-slice-read-onward : tie.Need-shared-slice-read-onward Inv-loop μ-loop
-shared-slice-read-onward c = search needs
-
 onward-requires : tie.Need-onward-requires Inv-loop μ-loop
 onward-requires c κs = let l = turn c in begun l .pre .0 .level-some (l .loop .i) (omega arith)
-
-wide-requires : tie.Need-wide-requires Inv-loop μ-loop
-wide-requires c κs = search needs
-
-mul-deepen : tie.Need-mul-deepen Inv-loop μ-loop
-mul-deepen c = search needs
 
 deepen-requires : tie.Need-deepen-requires Inv-loop μ-loop
 deepen-requires c κs =
     let l = turn (c .before .before .before) in
     omega (arith, begun l .pre .0 .type-few (l .loop .i) (omega arith), c .wide .ensures .0, l .loop .inv .1 .long)
-
-add-i : tie.Need-add-i Inv-loop μ-loop
-add-i c = search needs
-
-loop-less : tie.Need-loop-less Inv-loop μ-loop
-loop-less c = search needs
 
 loop-again : tie.Need-loop-again Inv-loop μ-loop
 loop-again c =
@@ -65,9 +47,6 @@ loop-again c =
     let o = w .before .before in
     let l = turn (o .before) in
     (omega arith, walked-more (l .loop .inv .1) (o .onward .result) (o .onward .ensures) _ _ (w .wide .ensures .0) (d .deepen .ensures) (omega arith))
-
-same-length : tie.Need-same-length Inv-loop μ-loop
-same-length c = search needs
 
 returns : tie.Need-returns Inv-loop μ-loop
 returns c =
@@ -83,14 +62,14 @@ meetings-spec =
     Inv-loop
     μ-loop
     loop-holds
-    shared-slice-read-k
-    shared-slice-read-onward
+    (λ c. search needs)
+    (λ c. search needs)
     onward-requires
-    wide-requires
-    mul-deepen
+    (λ c κs. search needs)
+    (λ c. search needs)
     deepen-requires
-    add-i
-    loop-less
+    (λ c. search needs)
+    (λ c. search needs)
     loop-again
-    same-length
+    (λ c. search needs)
     returns)

@@ -18,29 +18,8 @@ Inv-loop k l near wanted up on₀ e₀ on e = (e ≤ mostEntries) × Filled (λ 
 abbrev μ-loop : tie.MeasureT-loop
 μ-loop k l near wanted up on₀ e₀ on e = mostEntries - e
 
-sub-up : tie.Need-sub-up Inv-loop μ-loop
-sub-up c = search needs
-
 loop-holds : tie.Need-loop-holds Inv-loop μ-loop
 loop-holds c = (omega arith, filled-none _ 0 mostEntries (c .args .t1) (omega (arith, c .good)))
-
-array-read-if1 : tie.Need-array-read-if1 Inv-loop μ-loop
-array-read-if1 c = search needs
-
-array-read-on-the-way : tie.Need-array-read-on-the-way Inv-loop μ-loop
-array-read-on-the-way c = search needs
-
-array-read-if2 : tie.Need-array-read-if2 Inv-loop μ-loop
-array-read-if2 c = search needs
-
-array-write-on : tie.Need-array-write-on Inv-loop μ-loop
-array-write-on c = search needs
-
-add-e : tie.Need-add-e Inv-loop μ-loop
-add-e c = search needs
-
-loop-less : tie.Need-loop-less Inv-loop μ-loop
-loop-less c = search needs
 
 -- what is put at a place is how deep the row meets that wanted type
 lane : (c : tie.Joined2 Inv-loop μ-loop) →
@@ -71,13 +50,13 @@ onward-spec =
     (tie.spec
     Inv-loop
     μ-loop
-    sub-up
+    (λ c. search needs)
     loop-holds
-    array-read-if1
-    array-read-on-the-way
-    array-read-if2
-    array-write-on
-    add-e
-    loop-less
+    (λ c. search needs)
+    (λ c. search needs)
+    (λ c. search needs)
+    (λ c. search needs)
+    (λ c. search needs)
+    (λ c. search needs)
     loop-again
     returns)

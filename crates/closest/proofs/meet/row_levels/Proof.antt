@@ -18,9 +18,6 @@ abbrev μ-loop : tie.MeasureT-loop
 abbrev begun : tie.At-loop Inv-loop μ-loop → tie.Start Inv-loop μ-loop
 begun l = l .before .before .before .before
 
-row-bytes-requires : tie.Need-row-bytes-requires Inv-loop μ-loop
-row-bytes-requires c κs = search needs
-
 loop-holds : tie.Need-loop-holds Inv-loop μ-loop
 loop-holds c = (omega arith, filled-none _ 0 mostRows _ (c .before .before .before .pre .1))
 
@@ -30,26 +27,11 @@ record-requires c κs =
     let a = begun l .args in
     row-inside (a .f) (a .rows) (a .table .now) (begun l .pre .0) _ (l .before .row-bytes .ensures) (l .loop .i) (c .loop-test .taken)
 
-shared-slice-read-levels : tie.Need-shared-slice-read-levels Inv-loop μ-loop
-shared-slice-read-levels c = search needs
-
-slice-write-levels : tie.Need-slice-write-levels Inv-loop μ-loop
-slice-write-levels c = search needs
-
-add-i : tie.Need-add-i Inv-loop μ-loop
-add-i c = search needs
-
-loop-less : tie.Need-loop-less Inv-loop μ-loop
-loop-less c = search needs
-
 loop-again : tie.Need-loop-again Inv-loop μ-loop
 loop-again c =
     let l = c .before .before .before in
     let first = ap (λ b. byte b 0) (c .before .«record» .ensures .0) in
     (omega arith, filled-more _ 0 mostRows (l .loop .i) (l .loop .levels) _ (omega arith) (l .loop .inv .1) first)
-
-same-length : tie.Need-same-length Inv-loop μ-loop
-same-length c = search needs
 
 returns : tie.Need-returns Inv-loop μ-loop
 returns c =
@@ -64,13 +46,13 @@ row-levels-spec =
     (tie.spec
     Inv-loop
     μ-loop
-    row-bytes-requires
+    (λ c κs. search needs)
     loop-holds
     record-requires
-    shared-slice-read-levels
-    slice-write-levels
-    add-i
-    loop-less
+    (λ c. search needs)
+    (λ c. search needs)
+    (λ c. search needs)
+    (λ c. search needs)
     loop-again
-    same-length
+    (λ c. search needs)
     returns)

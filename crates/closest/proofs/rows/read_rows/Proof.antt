@@ -46,12 +46,6 @@ listed : (c : tie.Else2) →
     Listed (format x) (table x) (x .examine .result .rows) (numbers l) (l .list-types .result)
 listed c = let l = listedAt c in types-listed (tabled (l .before .before)) (l .list-types .ensures) (omega (arith, c .if2 .left))
 
-examine-requires : tie.Need-examine-requires
-examine-requires c κs = search needs
-
-unread-requires : tie.Need-unread-requires
-unread-requires c κs = search needs
-
 returns : tie.Need-returns
 returns c =
     let x = c .before .before in
@@ -66,12 +60,6 @@ list-types-requires c κs =
     let (asked, kept) = list-asked (served x) (tabled u) in
     (asked, (kept, begun x .pre .2))
 
-unread-requires-2 : tie.Need-unread-requires-2
-unread-requires-2 c κs = search needs
-
-same-length : tie.Need-same-length
-same-length c = search needs
-
 returns-2 : tie.Need-returns-2
 returns-2 c =
     let l = c .before .before .before .before in
@@ -85,12 +73,6 @@ row-levels-requires c κs =
     let x = examinedAt (listedAt e) in
     (sound-rows (served x) (listed e), begun x .pre .1)
 
-same-length-2 : tie.Need-same-length-2
-same-length-2 c = search needs
-
-same-length-3 : tie.Need-same-length-3
-same-length-3 c = search needs
-
 returns-3 : tie.Need-returns-3
 returns-3 c =
     let k = c .before .before .before in
@@ -103,14 +85,14 @@ pub read-rows-spec : {M : Type 1} → statement M
 read-rows-spec =
     tie.close
     (tie.spec
-    examine-requires
-    unread-requires
+    (λ c κs. search needs)
+    (λ c κs. search needs)
     returns
     list-types-requires
-    unread-requires-2
-    same-length
+    (λ c κs. search needs)
+    (λ c. search needs)
     returns-2
     row-levels-requires
-    same-length-2
-    same-length-3
+    (λ c. search needs)
+    (λ c. search needs)
     returns-3)

@@ -7,21 +7,6 @@ use borrow.Author.Needs.{needs}
 use Rattle.facts.proofs.entry.put_entry.Statement.{statement}
 use Rattle.facts.proofs.entry.put_entry.Tie as tie
 
-slice-aggregate-put-named : tie.Need-slice-aggregate-put-named
-slice-aggregate-put-named c = search needs
-
-put-named-requires : tie.Need-put-named-requires
-put-named-requires c κs = search needs
-
-put-byte-requires : tie.Need-put-byte-requires
-put-byte-requires c κs = search needs
-
-put-labels-requires : tie.Need-put-labels-requires
-put-labels-requires c κs = search needs
-
-put-byte-requires-2 : tie.Need-put-byte-requires-2
-put-byte-requires-2 c κs = search needs
-
 returns : tie.Need-returns
 unfolding joinedLine entryText
 returns c =
@@ -36,9 +21,9 @@ pub put-entry-spec : {M : Type 1} → statement M
 put-entry-spec =
     tie.close
     (tie.spec
-    slice-aggregate-put-named
-    put-named-requires
-    put-byte-requires
-    put-labels-requires
-    put-byte-requires-2
+    (λ c. search needs)
+    (λ c κs. search needs)
+    (λ c κs. search needs)
+    (λ c κs. search needs)
+    (λ c κs. search needs)
     returns)

@@ -8,18 +8,6 @@ use borrow.Author.Needs.{needs}
 use Rattle.facts.proofs.entry.put_entry_fields.Statement.{statement}
 use Rattle.facts.proofs.entry.put_entry_fields.Tie as tie
 
-put-entry-head-requires : tie.Need-put-entry-head-requires
-put-entry-head-requires c κs = search needs
-
-slice-aggregate-put-bytes : tie.Need-slice-aggregate-put-bytes
-slice-aggregate-put-bytes c = search needs
-
-put-bytes-requires : tie.Need-put-bytes-requires
-put-bytes-requires c κs = search needs
-
-put-list-requires : tie.Need-put-list-requires
-put-list-requires c κs = search needs
-
 put-byte-requires : tie.Need-put-byte-requires
 put-byte-requires c κs = search needs
 
@@ -37,9 +25,9 @@ pub put-entry-fields-spec : {M : Type 1} → statement M
 put-entry-fields-spec =
     tie.close
     (tie.spec
-    put-entry-head-requires
-    slice-aggregate-put-bytes
-    put-bytes-requires
-    put-list-requires
+    (λ c κs. search needs)
+    (λ c. search needs)
+    (λ c κs. search needs)
+    (λ c κs. search needs)
     put-byte-requires
     returns)

@@ -10,21 +10,6 @@ use borrow.Author.Needs.{needs}
 use Rattle.facts.proofs.entry.put_labels.Statement.{statement}
 use Rattle.facts.proofs.entry.put_labels.Tie as tie
 
-shared-slice-read-wide : tie.Need-shared-slice-read-wide
-shared-slice-read-wide c = search needs
-
-wide-requires : tie.Need-wide-requires
-wide-requires c κs = search needs
-
-smaller-requires : tie.Need-smaller-requires
-smaller-requires c κs = search needs
-
-put-names-requires : tie.Need-put-names-requires
-put-names-requires c κs = search needs
-
-same-length : tie.Need-same-length
-same-length c = search needs
-
 returns : tie.Need-returns
 unfolding entryOf labelsText
 returns c =
@@ -41,9 +26,9 @@ pub put-labels-spec : {M : Type 1} → statement M
 put-labels-spec =
     tie.close
     (tie.spec
-    shared-slice-read-wide
-    wide-requires
-    smaller-requires
-    put-names-requires
-    same-length
+    (λ c. search needs)
+    (λ c κs. search needs)
+    (λ c κs. search needs)
+    (λ c κs. search needs)
+    (λ c. search needs)
     returns)

@@ -30,27 +30,6 @@ loop-holds : tie.Need-loop-holds Inv-loop μ-loop
 unfolding followed
 loop-holds c = (omega arith, omega arith, refl, put-none (c .before .before .args .out .now) (c .before .before .args .at))
 
-put-byte-requires : tie.Need-put-byte-requires Inv-loop μ-loop
-put-byte-requires c κs = search needs
-
-mul-word : tie.Need-mul-word Inv-loop μ-loop
-mul-word c = search needs
-
-add-word : tie.Need-add-word Inv-loop μ-loop
-add-word c = search needs
-
-word-requires : tie.Need-word-requires Inv-loop μ-loop
-word-requires c κs = search needs
-
-put-name-requires : tie.Need-put-name-requires Inv-loop μ-loop
-put-name-requires c κs = search needs
-
-add-k : tie.Need-add-k Inv-loop μ-loop
-add-k c = search needs
-
-loop-less : tie.Need-loop-less Inv-loop μ-loop
-loop-less c = search needs
-
 loop-again : tie.Need-loop-again Inv-loop μ-loop
 loop-again c =
     let n = c .before .before in
@@ -61,9 +40,6 @@ loop-again c =
     let said = leading-put nameText space entry 4 (l .loop .k) (w .word .result) (w .word .ensures .0) in
     let put = said (l .loop .inv .3) (put-then (b .put-byte .ensures) (n .put-name .ensures .0)) in
     (omega arith, omega (arith, n .put-name .ensures .1, b .put-byte .ensures .ends), as-long put, put)
-
-same-length : tie.Need-same-length Inv-loop μ-loop
-same-length c = search needs
 
 returns : tie.Need-returns Inv-loop μ-loop
 unfolding namesText
@@ -79,13 +55,13 @@ put-names-spec =
     Inv-loop
     μ-loop
     loop-holds
-    put-byte-requires
-    mul-word
-    add-word
-    word-requires
-    put-name-requires
-    add-k
-    loop-less
+    (λ c κs. search needs)
+    (λ c. search needs)
+    (λ c. search needs)
+    (λ c κs. search needs)
+    (λ c κs. search needs)
+    (λ c. search needs)
+    (λ c. search needs)
     loop-again
-    same-length
+    (λ c. search needs)
     returns)

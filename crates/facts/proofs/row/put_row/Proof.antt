@@ -9,33 +9,6 @@ use borrow.Author.Needs.{needs}
 use Rattle.facts.proofs.row.put_row.Statement.{statement}
 use Rattle.facts.proofs.row.put_row.Tie as tie
 
-slice-aggregate-put-named : tie.Need-slice-aggregate-put-named
-slice-aggregate-put-named c = search needs
-
-put-named-requires : tie.Need-put-named-requires
-put-named-requires c κs = search needs
-
-slice-aggregate-put-bytes : tie.Need-slice-aggregate-put-bytes
-slice-aggregate-put-bytes c = search needs
-
-put-bytes-requires : tie.Need-put-bytes-requires
-put-bytes-requires c κs = search needs
-
-put-dewey-requires : tie.Need-put-dewey-requires
-put-dewey-requires c κs = search needs
-
-put-byte-requires : tie.Need-put-byte-requires
-put-byte-requires c κs = search needs
-
-put-labels-requires : tie.Need-put-labels-requires
-put-labels-requires c κs = search needs
-
-slice-aggregate-put-bytes-2 : tie.Need-slice-aggregate-put-bytes-2
-slice-aggregate-put-bytes-2 c = search needs
-
-put-bytes-requires-2 : tie.Need-put-bytes-requires-2
-put-bytes-requires-2 c κs = search needs
-
 put-value-requires : tie.Need-put-value-requires
 put-value-requires c κs =
     let w = c .before in
@@ -71,15 +44,15 @@ pub put-row-spec : {M : Type 1} → statement M
 put-row-spec =
     tie.close
     (tie.spec
-    slice-aggregate-put-named
-    put-named-requires
-    slice-aggregate-put-bytes
-    put-bytes-requires
-    put-dewey-requires
-    put-byte-requires
-    put-labels-requires
-    slice-aggregate-put-bytes-2
-    put-bytes-requires-2
+    (λ c. search needs)
+    (λ c κs. search needs)
+    (λ c. search needs)
+    (λ c κs. search needs)
+    (λ c κs. search needs)
+    (λ c κs. search needs)
+    (λ c κs. search needs)
+    (λ c. search needs)
+    (λ c κs. search needs)
     put-value-requires
     put-byte-requires-2
     returns)

@@ -8,27 +8,6 @@ use borrow.Author.Needs.{needs}
 use Rattle.facts.proofs.row.put_row_fields.Statement.{statement}
 use Rattle.facts.proofs.row.put_row_fields.Tie as tie
 
-put-row-head-requires : tie.Need-put-row-head-requires
-put-row-head-requires c κs = search needs
-
-slice-aggregate-put-bytes : tie.Need-slice-aggregate-put-bytes
-slice-aggregate-put-bytes c = search needs
-
-put-bytes-requires : tie.Need-put-bytes-requires
-put-bytes-requires c κs = search needs
-
-put-list-requires : tie.Need-put-list-requires
-put-list-requires c κs = search needs
-
-slice-aggregate-put-bytes-2 : tie.Need-slice-aggregate-put-bytes-2
-slice-aggregate-put-bytes-2 c = search needs
-
-put-bytes-requires-2 : tie.Need-put-bytes-requires-2
-put-bytes-requires-2 c κs = search needs
-
-put-value-requires : tie.Need-put-value-requires
-put-value-requires c κs = search needs
-
 put-byte-requires : tie.Need-put-byte-requires
 put-byte-requires c κs = search needs
 
@@ -49,12 +28,12 @@ pub put-row-fields-spec : {M : Type 1} → statement M
 put-row-fields-spec =
     tie.close
     (tie.spec
-    put-row-head-requires
-    slice-aggregate-put-bytes
-    put-bytes-requires
-    put-list-requires
-    slice-aggregate-put-bytes-2
-    put-bytes-requires-2
-    put-value-requires
+    (λ c κs. search needs)
+    (λ c. search needs)
+    (λ c κs. search needs)
+    (λ c κs. search needs)
+    (λ c. search needs)
+    (λ c κs. search needs)
+    (λ c κs. search needs)
     put-byte-requires
     returns)

@@ -9,45 +9,6 @@ use borrow.Author.Needs.{needs}
 use Rattle.facts.proofs.row.put_row_head.Statement.{statement}
 use Rattle.facts.proofs.row.put_row_head.Tie as tie
 
-slice-aggregate-put-named : tie.Need-slice-aggregate-put-named
-slice-aggregate-put-named c = search needs
-
-put-named-requires : tie.Need-put-named-requires
-put-named-requires c κs = search needs
-
-slice-aggregate-put-named-2 : tie.Need-slice-aggregate-put-named-2
-slice-aggregate-put-named-2 c = search needs
-
-shared-slice-read-wide : tie.Need-shared-slice-read-wide
-shared-slice-read-wide c = search needs
-
-wide-requires : tie.Need-wide-requires
-wide-requires c κs = search needs
-
-put-named-requires-2 : tie.Need-put-named-requires-2
-put-named-requires-2 c κs = search needs
-
-slice-aggregate-put-named-3 : tie.Need-slice-aggregate-put-named-3
-slice-aggregate-put-named-3 c = search needs
-
-shared-slice-read-wide-2 : tie.Need-shared-slice-read-wide-2
-shared-slice-read-wide-2 c = search needs
-
-wide-requires-2 : tie.Need-wide-requires-2
-wide-requires-2 c κs = search needs
-
-put-named-requires-3 : tie.Need-put-named-requires-3
-put-named-requires-3 c κs = search needs
-
-slice-aggregate-put-named-4 : tie.Need-slice-aggregate-put-named-4
-slice-aggregate-put-named-4 c = search needs
-
-word-requires : tie.Need-word-requires
-word-requires c κs = search needs
-
-put-named-requires-4 : tie.Need-put-named-requires-4
-put-named-requires-4 c κs = search needs
-
 returns : tie.Need-returns
 unfolding rowHead
 returns c =
@@ -67,17 +28,17 @@ pub put-row-head-spec : {M : Type 1} → statement M
 put-row-head-spec =
     tie.close
     (tie.spec
-    slice-aggregate-put-named
-    put-named-requires
-    slice-aggregate-put-named-2
-    shared-slice-read-wide
-    wide-requires
-    put-named-requires-2
-    slice-aggregate-put-named-3
-    shared-slice-read-wide-2
-    wide-requires-2
-    put-named-requires-3
-    slice-aggregate-put-named-4
-    word-requires
-    put-named-requires-4
+    (λ c. search needs)
+    (λ c κs. search needs)
+    (λ c. search needs)
+    (λ c. search needs)
+    (λ c κs. search needs)
+    (λ c κs. search needs)
+    (λ c. search needs)
+    (λ c. search needs)
+    (λ c κs. search needs)
+    (λ c κs. search needs)
+    (λ c. search needs)
+    (λ c κs. search needs)
+    (λ c κs. search needs)
     returns)

@@ -7,27 +7,6 @@ use borrow.Author.Needs.{needs}
 use Rattle.facts.proofs.tree.put_marked.Statement.{statement}
 use Rattle.facts.proofs.tree.put_marked.Tie as tie
 
-slice-aggregate-put-bytes : tie.Need-slice-aggregate-put-bytes
-slice-aggregate-put-bytes c = search needs
-
-put-bytes-requires : tie.Need-put-bytes-requires
-put-bytes-requires c κs = search needs
-
-put-shown-requires : tie.Need-put-shown-requires
-put-shown-requires c κs = search needs
-
-put-byte-requires : tie.Need-put-byte-requires
-put-byte-requires c κs = search needs
-
-add-put-spaces : tie.Need-add-put-spaces
-add-put-spaces c = search needs
-
-put-spaces-requires : tie.Need-put-spaces-requires
-put-spaces-requires c κs = search needs
-
-slice-aggregate-put-bytes-2 : tie.Need-slice-aggregate-put-bytes-2
-slice-aggregate-put-bytes-2 c = search needs
-
 put-bytes-requires-2 : tie.Need-put-bytes-requires-2
 put-bytes-requires-2 c κs = search needs
 
@@ -47,12 +26,12 @@ pub put-marked-spec : {M : Type 1} → statement M
 put-marked-spec =
     tie.close
     (tie.spec
-    slice-aggregate-put-bytes
-    put-bytes-requires
-    put-shown-requires
-    put-byte-requires
-    add-put-spaces
-    put-spaces-requires
-    slice-aggregate-put-bytes-2
+    (λ c. search needs)
+    (λ c κs. search needs)
+    (λ c κs. search needs)
+    (λ c κs. search needs)
+    (λ c. search needs)
+    (λ c κs. search needs)
+    (λ c. search needs)
     put-bytes-requires-2
     returns)

@@ -11,12 +11,6 @@ use Rattle.indexes.proofs.build.build_index.Tie as tie
 abbrev begun : tie.After-examine → tie.Start
 begun x = x .before .before .before .before
 
-examine-requires : tie.Need-examine-requires
-examine-requires c κs = search needs
-
-refused-requires : tie.Need-refused-requires
-refused-requires c κs = search needs
-
 returns : tie.Need-returns
 returns c =
     let x = c .before .before in
@@ -24,17 +18,11 @@ returns c =
     builds-refused _ _ _ _ _ _ _ (c .refused .ensures)
     (refused-table _ _ _ _ (r .number) (r .place) (examined-refused _ _ (r .number) (r .place) (r .rows) (x .examine .ensures) (c .before .if1 .taken)))
 
-refused-requires-2 : tie.Need-refused-requires-2
-refused-requires-2 c κs = search needs
-
 returns-2 : tie.Need-returns-2
 returns-2 c =
     let e = c .before .before in
     let (table, sound) = passed (begun (e .before) .pre) (e .before .examine .result) (e .before .examine .ensures) (e .if1 .left) in
     builds-short _ _ _ _ _ sound table _ (c .refused2 .ensures) (inl (c .before .if2 .taken))
-
-refused-requires-3 : tie.Need-refused-requires-3
-refused-requires-3 c κs = search needs
 
 returns-3 : tie.Need-returns-3
 returns-3 c =
@@ -50,12 +38,6 @@ put-index-requires c κs =
     let (table, sound) = passed served (e .before .examine .result) (e .before .examine .ensures) (e .if1 .left) in
     (sound, served .shallow, w .before .if2 .left, w .if3 .left)
 
-same-length : tie.Need-same-length
-same-length c = search needs
-
-same-length-2 : tie.Need-same-length-2
-same-length-2 c = search needs
-
 returns-4 : tie.Need-returns-4
 returns-4 c =
     let i = c .before .before .before .before in
@@ -68,14 +50,14 @@ pub build-index-spec : {M : Type 1} → statement M
 build-index-spec =
     tie.close
     (tie.spec
-    examine-requires
-    refused-requires
+    (λ c κs. search needs)
+    (λ c κs. search needs)
     returns
-    refused-requires-2
+    (λ c κs. search needs)
     returns-2
-    refused-requires-3
+    (λ c κs. search needs)
     returns-3
     put-index-requires
-    same-length
-    same-length-2
+    (λ c. search needs)
+    (λ c. search needs)
     returns-4)

@@ -13,32 +13,11 @@ levelled l = l .before .before .before .before
 abbrev begun : tie.After-row-levels → tie.Start
 begun r = r .before .before .before .before .before
 
-slice-aggregate-row-levels : tie.Need-slice-aggregate-row-levels
-slice-aggregate-row-levels c = search needs
-
-row-levels-requires : tie.Need-row-levels-requires
-row-levels-requires c κs = search needs
-
-slice-aggregate-put-last : tie.Need-slice-aggregate-put-last
-slice-aggregate-put-last c = search needs
-
 put-last-requires : tie.Need-put-last-requires
 put-last-requires c κs =
     let r = c .before .before .before in
     let p = begun r .pre in
     (search needs, shallow _ _ _ _ (p .0) (r .row-levels .ensures) (p .1) (search needs))
-
-slice-aggregate-row-labels : tie.Need-slice-aggregate-row-labels
-slice-aggregate-row-labels c = search needs
-
-row-labels-requires : tie.Need-row-labels-requires
-row-labels-requires c κs = search needs
-
-slice-aggregate-put-next : tie.Need-slice-aggregate-put-next
-slice-aggregate-put-next c = search needs
-
-slice-aggregate-put-next-2 : tie.Need-slice-aggregate-put-next-2
-slice-aggregate-put-next-2 c = search needs
 
 put-next-requires : tie.Need-put-next-requires
 put-next-requires c κs =
@@ -46,12 +25,6 @@ put-next-requires c κs =
     let r = levelled (w .before .before .before .before) in
     let p = begun r .pre in
     (label-rows _ _ _ _ (p .0) (r .row-levels .ensures) (p .1) (search needs) _ (search needs), search needs)
-
-same-length : tie.Need-same-length
-same-length c = search needs
-
-same-length-2 : tie.Need-same-length-2
-same-length-2 c = search needs
 
 returns : tie.Need-returns
 returns c =
@@ -66,15 +39,15 @@ pub put-index-spec : {M : Type 1} → statement M
 put-index-spec =
     tie.close
     (tie.spec
-    slice-aggregate-row-levels
-    row-levels-requires
-    slice-aggregate-put-last
+    (λ c. search needs)
+    (λ c κs. search needs)
+    (λ c. search needs)
     put-last-requires
-    slice-aggregate-row-labels
-    row-labels-requires
-    slice-aggregate-put-next
-    slice-aggregate-put-next-2
+    (λ c. search needs)
+    (λ c κs. search needs)
+    (λ c. search needs)
+    (λ c. search needs)
     put-next-requires
-    same-length
-    same-length-2
+    (λ c. search needs)
+    (λ c. search needs)
     returns)

@@ -20,9 +20,6 @@ abbrev μ-loop : tie.MeasureT-loop
 abbrev begun : tie.At-loop Inv-loop μ-loop → tie.Start Inv-loop μ-loop
 begun w = w .before .before .before
 
-add-j : tie.Need-add-j Inv-loop μ-loop
-add-j c = search needs
-
 loop-holds : tie.Need-loop-holds Inv-loop μ-loop
 loop-holds c = (omega arith, omega (arith, c .before .before .pre .1), λ x a b. let z : ⊥ = omega arith in absurd z)
 
@@ -43,12 +40,6 @@ returns c =
       typed = λ lt. same (s .args .i) (l .loop .j) (s .pre .1) lt .0 (c .before .same-labels .ensures .0 (c .if1 .taken));
       passed = λ x a b lt e. l .loop .inv .2 x a lt (same (s .args .i) x (s .pre .1) b .1 e);
     }
-
-add-j-2 : tie.Need-add-j-2 Inv-loop μ-loop
-add-j-2 c = search needs
-
-loop-less : tie.Need-loop-less Inv-loop μ-loop
-loop-less c = search needs
 
 loop-again : tie.Need-loop-again Inv-loop μ-loop
 loop-again c =
@@ -76,12 +67,12 @@ next-alike-spec =
     (tie.spec
     Inv-loop
     μ-loop
-    add-j
+    (λ c. search needs)
     loop-holds
     same-labels-requires
     cast-result
     returns
-    add-j-2
-    loop-less
+    (λ c. search needs)
+    (λ c. search needs)
     loop-again
     returns-2)

@@ -21,41 +21,20 @@ later c =
     let s = c .before .before in
     not-first (s .args .i) (s .args .l) (s .pre .3) (omega (arith, c .loop-test .taken, c .before .loop .inv .1 .some))
 
-mul-at : tie.Need-mul-at Inv-loop μ-loop
-mul-at c = search needs
-
 loop-holds : tie.Need-loop-holds Inv-loop μ-loop
 loop-holds c = (c .pre .0, copying-start _ _)
-
-add-labels : tie.Need-add-labels Inv-loop μ-loop
-add-labels c = search needs
 
 sub-labels : tie.Need-sub-labels Inv-loop μ-loop
 sub-labels c = omega (arith, later c, c .before .loop .inv .1 .some)
 
-mul-labels : tie.Need-mul-labels Inv-loop μ-loop
-mul-labels c = search needs
-
 slice-read-labels : tie.Need-slice-read-labels Inv-loop μ-loop
 slice-read-labels c = let w = c .before .before in omega (arith, w .loop .inv .1 .long, w .before .pre .2, w .before .pre .1, c .before .loop-test .taken)
-
-add-labels-2 : tie.Need-add-labels-2 Inv-loop μ-loop
-add-labels-2 c = search needs
 
 sub-labels-2 : tie.Need-sub-labels-2 Inv-loop μ-loop
 sub-labels-2 c = omega (arith, c .before .before .loop .inv .1 .some)
 
-mul-labels-2 : tie.Need-mul-labels-2 Inv-loop μ-loop
-mul-labels-2 c = search needs
-
 slice-write-labels : tie.Need-slice-write-labels Inv-loop μ-loop
 slice-write-labels c = let w = c .before .before in omega (arith, w .loop .inv .1 .long, w .before .pre .2, w .before .pre .1, c .before .loop-test .taken)
-
-add-m : tie.Need-add-m Inv-loop μ-loop
-add-m c = search needs
-
-loop-less : tie.Need-loop-less Inv-loop μ-loop
-loop-less c = search needs
 
 loop-again : tie.Need-loop-again Inv-loop μ-loop
 loop-again c =
@@ -63,20 +42,11 @@ loop-again c =
     let lt = c .before .loop-test .taken in
     (omega (arith, lt), copying-step (w .loop .inv .1) (omega (arith, w .before .pre .1)) (w .before .pre .2) (later (c .before)))
 
-add-labels-3 : tie.Need-add-labels-3 Inv-loop μ-loop
-add-labels-3 c = search needs
-
 sub-labels-3 : tie.Need-sub-labels-3 Inv-loop μ-loop
 sub-labels-3 c = omega (arith, c .before .before .pre .0)
 
-mul-labels-3 : tie.Need-mul-labels-3 Inv-loop μ-loop
-mul-labels-3 c = search needs
-
 slice-write-labels-2 : tie.Need-slice-write-labels-2 Inv-loop μ-loop
 slice-write-labels-2 c = let w = c .before in omega (arith, w .loop .inv .1 .long, w .before .pre .2, w .before .pre .1)
-
-same-length : tie.Need-same-length Inv-loop μ-loop
-same-length c = search needs
 
 returns : tie.Need-returns Inv-loop μ-loop
 returns c =
@@ -92,22 +62,22 @@ put-labels-spec =
     (tie.spec
     Inv-loop
     μ-loop
-    mul-at
+    (λ c. search needs)
     loop-holds
-    add-labels
+    (λ c. search needs)
     sub-labels
-    mul-labels
+    (λ c. search needs)
     slice-read-labels
-    add-labels-2
+    (λ c. search needs)
     sub-labels-2
-    mul-labels-2
+    (λ c. search needs)
     slice-write-labels
-    add-m
-    loop-less
+    (λ c. search needs)
+    (λ c. search needs)
     loop-again
-    add-labels-3
+    (λ c. search needs)
     sub-labels-3
-    mul-labels-3
+    (λ c. search needs)
     slice-write-labels-2
-    same-length
+    (λ c. search needs)
     returns)

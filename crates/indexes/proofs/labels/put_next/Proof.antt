@@ -23,17 +23,8 @@ loop-holds c = placing-start _ _ _
 next-alike-requires : tie.Need-next-alike-requires Inv-loop μ-loop
 next-alike-requires c κs = (begun (c .before) .pre .0, c .loop-test .taken)
 
-mul-next : tie.Need-mul-next Inv-loop μ-loop
-mul-next c = search needs
-
 slice-write-next : tie.Need-slice-write-next Inv-loop μ-loop
 slice-write-next c = let l = c .before .before in omega (arith, l .loop .inv .long, begun l .pre .1, c .before .loop-test .taken)
-
-add-i : tie.Need-add-i Inv-loop μ-loop
-add-i c = search needs
-
-loop-less : tie.Need-loop-less Inv-loop μ-loop
-loop-less c = search needs
 
 loop-again : tie.Need-loop-again Inv-loop μ-loop
 loop-again c =
@@ -54,10 +45,10 @@ put-next-spec =
     μ-loop
     loop-holds
     next-alike-requires
-    mul-next
+    (λ c. search needs)
     slice-write-next
-    add-i
-    loop-less
+    (λ c. search needs)
+    (λ c. search needs)
     loop-again
     same-length
     returns)

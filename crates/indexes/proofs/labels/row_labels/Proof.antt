@@ -52,25 +52,10 @@ label-is c = cc
 loop-holds : tie.Need-loop-holds Inv-loop μ-loop
 loop-holds c = (omega arith, refl, labels-none _ _ (c .before .before .pre .0 .sound .kept) (c .before .before .args .labels .now))
 
-row-bytes-requires : tie.Need-row-bytes-requires Inv-loop μ-loop
-row-bytes-requires c κs = search needs
-
 record-requires : tie.Need-record-requires Inv-loop μ-loop
 record-requires c κs =
     let l = c .before .before in
     row-in (c .row-bytes .result) (l .loop .i) (begun l .args .table .now) (rw (c .row-bytes .ensures) (here l (c .before .loop-test .taken)))
-
-shared-slice-read-wide : tie.Need-shared-slice-read-wide Inv-loop μ-loop
-shared-slice-read-wide c = search needs
-
-wide-requires : tie.Need-wide-requires Inv-loop μ-loop
-wide-requires c κs = search needs
-
-word-requires : tie.Need-word-requires Inv-loop μ-loop
-word-requires c κs = search needs
-
-cast-a : tie.Need-cast-a Inv-loop μ-loop
-cast-a c = search needs
 
 put-labels-requires : tie.Need-put-labels-requires Inv-loop μ-loop
 put-labels-requires c κs =
@@ -83,12 +68,6 @@ put-labels-requires c κs =
       omega (arith, s .pre .2, l .loop .inv .1, r .before .before .before .before .before .loop-test .taken),
       λ e. omega (arith, level-is r, first-level _ _ kept (l .loop .i) (in-table r) e),
     )
-
-add-i : tie.Need-add-i Inv-loop μ-loop
-add-i c = search needs
-
-loop-less : tie.Need-loop-less Inv-loop μ-loop
-loop-less c = search needs
 
 loop-again : tie.Need-loop-again Inv-loop μ-loop
 loop-again c =
@@ -116,15 +95,15 @@ row-labels-spec =
     Inv-loop
     μ-loop
     loop-holds
-    row-bytes-requires
+    (λ c κs. search needs)
     record-requires
-    shared-slice-read-wide
-    wide-requires
-    word-requires
-    cast-a
+    (λ c. search needs)
+    (λ c κs. search needs)
+    (λ c κs. search needs)
+    (λ c. search needs)
     put-labels-requires
-    add-i
-    loop-less
+    (λ c. search needs)
+    (λ c. search needs)
     loop-again
     same-length
     returns)

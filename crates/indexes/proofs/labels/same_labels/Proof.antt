@@ -32,47 +32,14 @@ inside w =
     let p = s .pre in
     (omega (arith, w .loop .inv .0, p .0 .shallow (s .args .i) (p .1)), omega (arith, p .0 .labels-long, p .1), omega (arith, p .0 .labels-long, p .2))
 
-shared-slice-read-if1 : tie.Need-shared-slice-read-if1 Inv-loop μ-loop
-shared-slice-read-if1 c = search needs
-
-shared-slice-read-if1-2 : tie.Need-shared-slice-read-if1-2 Inv-loop μ-loop
-shared-slice-read-if1-2 c = search needs
-
 returns : tie.Need-returns Inv-loop μ-loop
 returns c = (λ e. absurd (true≢false (sym e)), λ _ alike. c .if1 .taken (alike .level))
-
-shared-slice-read-wide : tie.Need-shared-slice-read-wide Inv-loop μ-loop
-shared-slice-read-wide c = search needs
-
-wide-requires : tie.Need-wide-requires Inv-loop μ-loop
-wide-requires c κs = search needs
 
 loop-holds : tie.Need-loop-holds Inv-loop μ-loop
 loop-holds c = (omega (arith, c .wide .ensures .0), λ k a b. let z : ⊥ = omega (arith, c .wide .ensures .0) in absurd z)
 
-sub-m : tie.Need-sub-m Inv-loop μ-loop
-sub-m c = search needs
-
-mul-if2 : tie.Need-mul-if2 Inv-loop μ-loop
-mul-if2 c = search needs
-
-add-if2 : tie.Need-add-if2 Inv-loop μ-loop
-add-if2 c = search needs
-
-mul-if2-2 : tie.Need-mul-if2-2 Inv-loop μ-loop
-mul-if2-2 c = search needs
-
 shared-slice-read-if2 : tie.Need-shared-slice-read-if2 Inv-loop μ-loop
 shared-slice-read-if2 c = omega (arith, inside (c .before .before) .0, inside (c .before .before) .1, c .before .loop-test .taken)
-
-mul-if2-3 : tie.Need-mul-if2-3 Inv-loop μ-loop
-mul-if2-3 c = search needs
-
-add-if2-2 : tie.Need-add-if2-2 Inv-loop μ-loop
-add-if2-2 c = search needs
-
-mul-if2-4 : tie.Need-mul-if2-4 Inv-loop μ-loop
-mul-if2-4 c = search needs
 
 shared-slice-read-if2-2 : tie.Need-shared-slice-read-if2-2 Inv-loop μ-loop
 shared-slice-read-if2-2 c = omega (arith, inside (c .before .before .before) .0, inside (c .before .before .before) .2, c .before .before .loop-test .taken)
@@ -82,9 +49,6 @@ returns-2 c =
     let w = c .before .before .before .before in
     let pos = c .before .before .before .loop-test .taken in
     (λ e. absurd (true≢false (sym e)), λ _ alike. c .if2 .taken (alike .label (w .loop .m - 1) (omega (arith, w .loop .inv .0))))
-
-loop-less : tie.Need-loop-less Inv-loop μ-loop
-loop-less c = search needs
 
 loop-again : tie.Need-loop-again Inv-loop μ-loop
 loop-again c =
@@ -109,22 +73,22 @@ same-labels-spec =
     (tie.spec
     Inv-loop
     μ-loop
-    shared-slice-read-if1
-    shared-slice-read-if1-2
+    (λ c. search needs)
+    (λ c. search needs)
     returns
-    shared-slice-read-wide
-    wide-requires
+    (λ c. search needs)
+    (λ c κs. search needs)
     loop-holds
-    sub-m
-    mul-if2
-    add-if2
-    mul-if2-2
+    (λ c. search needs)
+    (λ c. search needs)
+    (λ c. search needs)
+    (λ c. search needs)
     shared-slice-read-if2
-    mul-if2-3
-    add-if2-2
-    mul-if2-4
+    (λ c. search needs)
+    (λ c. search needs)
+    (λ c. search needs)
     shared-slice-read-if2-2
     returns-2
-    loop-less
+    (λ c. search needs)
     loop-again
     returns-3)

@@ -13,12 +13,6 @@ Inv-loop ends₀ behind l i m₀ ends m = (m ≤ l) × Filling behind i ends₀ 
 abbrev μ-loop : tie.MeasureT-loop
 μ-loop ends₀ behind l i m₀ ends m = l - m
 
-mul-result : tie.Need-mul-result Inv-loop μ-loop
-mul-result c = search needs
-
-slice-read-result : tie.Need-slice-read-result Inv-loop μ-loop
-slice-read-result c = search needs
-
 returns : tie.Need-returns Inv-loop μ-loop
 returns c = record {
   deeper = λ _. refl;
@@ -30,17 +24,8 @@ returns c = record {
 loop-holds : tie.Need-loop-holds Inv-loop μ-loop
 loop-holds c = (c .if1 .left, filling-start _ _ _)
 
-mul-ends : tie.Need-mul-ends Inv-loop μ-loop
-mul-ends c = search needs
-
 slice-write-ends : tie.Need-slice-write-ends Inv-loop μ-loop
 slice-write-ends c = let w = c .before in omega (arith, c .loop-test .taken, w .loop .inv .1 .long, w .before .before .pre .0, w .before .before .pre .1)
-
-add-m : tie.Need-add-m Inv-loop μ-loop
-add-m c = search needs
-
-loop-less : tie.Need-loop-less Inv-loop μ-loop
-loop-less c = search needs
 
 loop-again : tie.Need-loop-again Inv-loop μ-loop
 loop-again c = (
@@ -68,14 +53,14 @@ end-of-spec =
     (tie.spec
     Inv-loop
     μ-loop
-    mul-result
-    slice-read-result
+    (λ c. search needs)
+    (λ c. search needs)
     returns
     loop-holds
-    mul-ends
+    (λ c. search needs)
     slice-write-ends
-    add-m
-    loop-less
+    (λ c. search needs)
+    (λ c. search needs)
     loop-again
     same-length
     returns-2)

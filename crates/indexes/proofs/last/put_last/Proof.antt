@@ -19,35 +19,11 @@ abbrev μ-loop : tie.MeasureT-loop
 loop-holds : tie.Need-loop-holds Inv-loop μ-loop
 loop-holds c = (refl, ends-start _ _ _, putting-start _ _ _)
 
-sub-i : tie.Need-sub-i Inv-loop μ-loop
-sub-i c = search needs
-
-shared-slice-read-wide : tie.Need-shared-slice-read-wide Inv-loop μ-loop
-shared-slice-read-wide c = search needs
-
-wide-requires : tie.Need-wide-requires Inv-loop μ-loop
-wide-requires c κs = search needs
-
-slice-aggregate-end-of : tie.Need-slice-aggregate-end-of Inv-loop μ-loop
-slice-aggregate-end-of c = search needs
-
-cast-end-of : tie.Need-cast-end-of Inv-loop μ-loop
-cast-end-of c = search needs
-
 end-of-requires : tie.Need-end-of-requires Inv-loop μ-loop
 end-of-requires c κs =
     let l = c .before .before .before .before in
     let i = l .loop .i in
     (omega (arith, c .before .wide .ensures .0, l .before .before .before .pre .1 .shallow (i - 1) (omega (arith, l .loop .inv .1 .within, c .before .before .before .loop-test .taken))), search needs)
-
-mul-last : tie.Need-mul-last Inv-loop μ-loop
-mul-last c = search needs
-
-slice-write-last : tie.Need-slice-write-last Inv-loop μ-loop
-slice-write-last c = search needs
-
-loop-less : tie.Need-loop-less Inv-loop μ-loop
-loop-less c = search needs
 
 loop-again : tie.Need-loop-again Inv-loop μ-loop
 loop-again c =
@@ -79,15 +55,15 @@ put-last-spec =
     Inv-loop
     μ-loop
     loop-holds
-    sub-i
-    shared-slice-read-wide
-    wide-requires
-    slice-aggregate-end-of
-    cast-end-of
+    (λ c. search needs)
+    (λ c. search needs)
+    (λ c κs. search needs)
+    (λ c. search needs)
+    (λ c. search needs)
     end-of-requires
-    mul-last
-    slice-write-last
-    loop-less
+    (λ c. search needs)
+    (λ c. search needs)
+    (λ c. search needs)
     loop-again
     same-length
     returns)

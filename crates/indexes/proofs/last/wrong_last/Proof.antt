@@ -21,35 +21,11 @@ abbrev μ-loop : tie.MeasureT-loop
 loop-holds : tie.Need-loop-holds Inv-loop μ-loop
 loop-holds c = (refl, ends-start _ _ _, wrong-start _ _ _)
 
-sub-i : tie.Need-sub-i Inv-loop μ-loop
-sub-i c = search needs
-
-shared-slice-read-wide : tie.Need-shared-slice-read-wide Inv-loop μ-loop
-shared-slice-read-wide c = search needs
-
-wide-requires : tie.Need-wide-requires Inv-loop μ-loop
-wide-requires c κs = search needs
-
-slice-aggregate-end-of : tie.Need-slice-aggregate-end-of Inv-loop μ-loop
-slice-aggregate-end-of c = search needs
-
-cast-end-of : tie.Need-cast-end-of Inv-loop μ-loop
-cast-end-of c = search needs
-
 end-of-requires : tie.Need-end-of-requires Inv-loop μ-loop
 end-of-requires c κs =
     let l = c .before .before .before .before in
     let i = l .loop .i in
     (omega (arith, c .before .wide .ensures .0, l .before .before .before .pre .1 .shallow (i - 1) (omega (arith, l .loop .inv .1 .within, c .before .before .before .loop-test .taken))), search needs)
-
-mul-if1 : tie.Need-mul-if1 Inv-loop μ-loop
-mul-if1 c = search needs
-
-shared-slice-read-if1 : tie.Need-shared-slice-read-if1 Inv-loop μ-loop
-shared-slice-read-if1 c = search needs
-
-loop-less : tie.Need-loop-less Inv-loop μ-loop
-loop-less c = search needs
 
 loop-again : tie.Need-loop-again Inv-loop μ-loop
 loop-again c =
@@ -63,9 +39,6 @@ loop-again c =
       ends-step (l .loop .inv .1) pos own s,
       wrong-not _ _ _ _ _ _ (l .loop .inv .2) pos (last-here (l .loop .inv .1) pos own s) (c .if1 .taken),
     )
-
-loop-less-2 : tie.Need-loop-less-2 Inv-loop μ-loop
-loop-less-2 c = search needs
 
 loop-again-2 : tie.Need-loop-again-2 Inv-loop μ-loop
 loop-again-2 c =
@@ -90,16 +63,16 @@ wrong-last-spec =
     Inv-loop
     μ-loop
     loop-holds
-    sub-i
-    shared-slice-read-wide
-    wide-requires
-    slice-aggregate-end-of
-    cast-end-of
+    (λ c. search needs)
+    (λ c. search needs)
+    (λ c κs. search needs)
+    (λ c. search needs)
+    (λ c. search needs)
     end-of-requires
-    mul-if1
-    shared-slice-read-if1
-    loop-less
+    (λ c. search needs)
+    (λ c. search needs)
+    (λ c. search needs)
     loop-again
-    loop-less-2
+    (λ c. search needs)
     loop-again-2
     returns)

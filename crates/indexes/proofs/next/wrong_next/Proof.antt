@@ -28,38 +28,11 @@ type-few n =
 loop-holds : tie.Need-loop-holds Inv-loop μ-loop
 loop-holds c = (firsts-start _ _ (c .before .before .pre .0 .0), omega arith, wrong-start _ _ _)
 
-sub-i : tie.Need-sub-i Inv-loop μ-loop
-sub-i c = search needs
-
-shared-slice-read-wide : tie.Need-shared-slice-read-wide Inv-loop μ-loop
-shared-slice-read-wide c = search needs
-
-wide-requires : tie.Need-wide-requires Inv-loop μ-loop
-wide-requires c κs = search needs
-
-mul-after : tie.Need-mul-after Inv-loop μ-loop
-mul-after c = search needs
-
 array-read-after : tie.Need-array-read-after Inv-loop μ-loop
 array-read-after c = type-few c
 
-cast-seen : tie.Need-cast-seen Inv-loop μ-loop
-cast-seen c = search needs
-
-mul-seen : tie.Need-mul-seen Inv-loop μ-loop
-mul-seen c = search needs
-
 array-write-seen : tie.Need-array-write-seen Inv-loop μ-loop
 array-write-seen c = type-few c
-
-mul-if1 : tie.Need-mul-if1 Inv-loop μ-loop
-mul-if1 c = search needs
-
-shared-slice-read-if1 : tie.Need-shared-slice-read-if1 Inv-loop μ-loop
-shared-slice-read-if1 c = search needs
-
-loop-less : tie.Need-loop-less Inv-loop μ-loop
-loop-less c = search needs
 
 loop-again : tie.Need-loop-again Inv-loop μ-loop
 loop-again c =
@@ -70,9 +43,6 @@ loop-again c =
     let known = l .loop .inv .0 in
     let within = l .loop .inv .1 in
     (firsts-step known pos within own (type-few n), omega (arith, within), wrong-not _ _ _ _ _ _ (l .loop .inv .2) pos (next-own known pos within own (type-few n)) (c .if1 .taken))
-
-loop-less-2 : tie.Need-loop-less-2 Inv-loop μ-loop
-loop-less-2 c = search needs
 
 loop-again-2 : tie.Need-loop-again-2 Inv-loop μ-loop
 loop-again-2 c =
@@ -94,18 +64,18 @@ wrong-next-spec =
     Inv-loop
     μ-loop
     loop-holds
-    sub-i
-    shared-slice-read-wide
-    wide-requires
-    mul-after
+    (λ c. search needs)
+    (λ c. search needs)
+    (λ c κs. search needs)
+    (λ c. search needs)
     array-read-after
-    cast-seen
-    mul-seen
+    (λ c. search needs)
+    (λ c. search needs)
     array-write-seen
-    mul-if1
-    shared-slice-read-if1
-    loop-less
+    (λ c. search needs)
+    (λ c. search needs)
+    (λ c. search needs)
     loop-again
-    loop-less-2
+    (λ c. search needs)
     loop-again-2
     returns)

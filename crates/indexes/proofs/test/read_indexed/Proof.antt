@@ -11,15 +11,6 @@ read s = s .before .before .before .before
 abbrev begun : tie.After-read-rows → tie.Start
 begun r = r .before .before .before .before .before .before .before .before
 
-read-rows-requires : tie.Need-read-rows-requires
-read-rows-requires c κs = search needs
-
-same-length : tie.Need-same-length
-same-length c = search needs
-
-same-length-2 : tie.Need-same-length-2
-same-length-2 c = search needs
-
 returns : tie.Need-returns
 returns c = let r = read (c .before) in unread _ _ _ _ _ _ _ (r .read-rows .ensures) (c .if1 .taken)
 
@@ -29,12 +20,6 @@ test-lists-requires c κs =
     let r = read (e .before) in
     let in-rows = r .read-rows .ensures .read (e .if1 .left) in
     (in-rows .rows-are, shallow-rows (begun r .pre .0) in-rows)
-
-same-length-3 : tie.Need-same-length-3
-same-length-3 c = search needs
-
-same-length-4 : tie.Need-same-length-4
-same-length-4 c = search needs
 
 returns-2 : tie.Need-returns-2
 returns-2 c =
@@ -46,11 +31,11 @@ pub read-indexed-spec : {M : Type 1} → statement M
 read-indexed-spec =
     tie.close
     (tie.spec
-    read-rows-requires
-    same-length
-    same-length-2
+    (λ c κs. search needs)
+    (λ c. search needs)
+    (λ c. search needs)
     returns
     test-lists-requires
-    same-length-3
-    same-length-4
+    (λ c. search needs)
+    (λ c. search needs)
     returns-2)

@@ -11,15 +11,6 @@ returns c = holds-short-last _ _ _ _ _ (c .if1 .taken)
 returns-2 : tie.Need-returns-2
 returns-2 c = holds-short _ _ _ _ _ (c .if2 .taken)
 
-wrong-last-requires : tie.Need-wrong-last-requires
-wrong-last-requires c κs = search needs
-
-wrong-next-requires : tie.Need-wrong-next-requires
-wrong-next-requires c κs = search needs
-
-smaller-requires : tie.Need-smaller-requires
-smaller-requires c κs = search needs
-
 returns-3 : tie.Need-returns-3
 returns-3 c =
     let n = c .before .before in
@@ -40,8 +31,8 @@ test-lists-spec =
     (tie.spec
     returns
     returns-2
-    wrong-last-requires
-    wrong-next-requires
-    smaller-requires
+    (λ c κs. search needs)
+    (λ c κs. search needs)
+    (λ c κs. search needs)
     returns-3
     returns-4)

@@ -36,21 +36,6 @@ abbrev μ-loop : tie.MeasureT-loop
 loop-holds : tie.Need-loop-holds Inv-loop μ-loop
 loop-holds c = (omega arith, omega arith, first-full (c .args .t1) _ refl refl)
 
-mul-full : tie.Need-mul-full Inv-loop μ-loop
-mul-full c = search needs
-
-array-read-full : tie.Need-array-read-full Inv-loop μ-loop
-array-read-full c = search needs
-
-array-write-full : tie.Need-array-write-full Inv-loop μ-loop
-array-write-full c = search needs
-
-add-c : tie.Need-add-c Inv-loop μ-loop
-add-c c = search needs
-
-loop-less : tie.Need-loop-less Inv-loop μ-loop
-loop-less c = search needs
-
 loop-again : tie.Need-loop-again Inv-loop μ-loop
 loop-again c =
     let l = c .before .loop in (
@@ -74,10 +59,10 @@ full-edges-spec =
     Inv-loop
     μ-loop
     loop-holds
-    mul-full
-    array-read-full
-    array-write-full
-    add-c
-    loop-less
+    (λ c. search needs)
+    (λ c. search needs)
+    (λ c. search needs)
+    (λ c. search needs)
+    (λ c. search needs)
     loop-again
     returns)

@@ -67,18 +67,6 @@ long c =
       greatest-parents = search needs;
     }
 
-slice-aggregate-prepare : tie.Need-slice-aggregate-prepare
-slice-aggregate-prepare c = search needs
-
-slice-aggregate-prepare-2 : tie.Need-slice-aggregate-prepare-2
-slice-aggregate-prepare-2 c = search needs
-
-prepare-requires : tie.Need-prepare-requires
-prepare-requires c κs = search needs
-
-refused-requires : tie.Need-refused-requires
-refused-requires c κs = search needs
-
 returns : tie.Need-returns
 returns c t rows =
     let u = c .before in
@@ -92,12 +80,6 @@ walk-edges-requires c κs = let r = some-ready (c .before) in (r .rows-are, r .s
 
 first-lone-requires : tie.Need-first-lone-requires
 first-lone-requires c κs = let r = some-ready (tested c) in (r .rows-are, r .shaped .sized, c .walk-edges .ensures .all-met)
-
-enum-told : tie.Need-enum-told
-enum-told c = search needs
-
-full-edges-requires : tie.Need-full-edges-requires
-full-edges-requires c κs = search needs
 
 slice-aggregate-first-fault : tie.Need-slice-aggregate-first-fault
 slice-aggregate-first-fault c = search needs
@@ -126,9 +108,6 @@ none-apart-beside-requires c κs =
       (g .full-edges .result, v .first-fault .ensures),
     )
 
-given-requires : tie.Need-given-requires
-given-requires c κs = search needs
-
 slice-aggregate-none-apart : tie.Need-slice-aggregate-none-apart
 slice-aggregate-none-apart c = search needs
 
@@ -139,9 +118,6 @@ none-apart-requires : tie.Need-none-apart-requires
 none-apart-requires c κs =
     let u = tested (c .before .before .before .before) in
     (room (some-ready u) (sym (slice-aggregate-none-apart (c .before))), sym (slice-aggregate-none-apart-2 c))
-
-given-requires-2 : tie.Need-given-requires-2
-given-requires-2 c κs = search needs
 
 returns-2 : tie.Need-returns-2
 returns-2 c t rows =
@@ -176,25 +152,25 @@ pub judge-rows-spec : {M : Type 1} → statement M
 judge-rows-spec =
     tie.close
     (tie.spec
-    slice-aggregate-prepare
-    slice-aggregate-prepare-2
-    prepare-requires
-    refused-requires
+    (λ c. search needs)
+    (λ c. search needs)
+    (λ c κs. search needs)
+    (λ c κs. search needs)
     returns
     walk-edges-requires
     first-lone-requires
-    enum-told
-    full-edges-requires
+    (λ c. search needs)
+    (λ c κs. search needs)
     slice-aggregate-first-fault
     slice-aggregate-first-fault-2
     first-fault-requires
     slice-aggregate-none-apart-beside
     slice-aggregate-none-apart-beside-2
     none-apart-beside-requires
-    given-requires
+    (λ c κs. search needs)
     slice-aggregate-none-apart
     slice-aggregate-none-apart-2
     none-apart-requires
-    given-requires-2
+    (λ c κs. search needs)
     returns-2
     returns-3)

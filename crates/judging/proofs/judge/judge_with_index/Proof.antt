@@ -26,18 +26,6 @@ types x = x .read-indexed .last .1 .1 .1 .1 .1 .0
 rows : (u : tie.Else1) → let x = readAt u in let a = begun x .args in RowsIn (a .f) (a .table .now) (x .read-indexed .result) (levels x) (types x)
 rows u = readAt u .read-indexed .ensures .read (u .if1 .left)
 
-slice-aggregate-read-indexed : tie.Need-slice-aggregate-read-indexed
-slice-aggregate-read-indexed c = search needs
-
-slice-aggregate-read-indexed-2 : tie.Need-slice-aggregate-read-indexed-2
-slice-aggregate-read-indexed-2 c = search needs
-
-read-indexed-requires : tie.Need-read-indexed-requires
-read-indexed-requires c κs = search needs
-
-refused-requires : tie.Need-refused-requires
-refused-requires c κs = search needs
-
 returns : tie.Need-returns
 returns c =
     let x = c .before .before .before .before in
@@ -45,12 +33,6 @@ returns c =
     c .refused .ensures
     ∙ ap inNumbers (with-refused (a .f) (a .table .now) (a .shape .now) (a .last .now) (a .next .now) _ _
     (x .read-indexed .ensures .says .refused-is (c .before .if1 .taken)))
-
-slice-aggregate-judge-rows : tie.Need-slice-aggregate-judge-rows
-slice-aggregate-judge-rows c = search needs
-
-slice-aggregate-judge-rows-2 : tie.Need-slice-aggregate-judge-rows-2
-slice-aggregate-judge-rows-2 c = search needs
 
 judge-rows-requires : tie.Need-judge-rows-requires
 judge-rows-requires c κs = let u = c .before .before in let s = begun (readAt u) in (s .pre, (s .args .table .now, rows u))
@@ -66,12 +48,12 @@ pub judge-with-index-spec : {M : Type 1} → statement M
 judge-with-index-spec =
     tie.close
     (tie.spec
-    slice-aggregate-read-indexed
-    slice-aggregate-read-indexed-2
-    read-indexed-requires
-    refused-requires
+    (λ c. search needs)
+    (λ c. search needs)
+    (λ c κs. search needs)
+    (λ c κs. search needs)
     returns
-    slice-aggregate-judge-rows
-    slice-aggregate-judge-rows-2
+    (λ c. search needs)
+    (λ c. search needs)
     judge-rows-requires
     returns-2)

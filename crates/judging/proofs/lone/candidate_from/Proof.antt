@@ -5,9 +5,6 @@ use Rattle.judging.proofs.Search.{candidate-new, candidate-on}
 use Rattle.judging.proofs.lone.candidate_from.Statement.{statement}
 use Rattle.judging.proofs.lone.candidate_from.Tie as tie
 
-shared-slice-read-if1 : tie.Need-shared-slice-read-if1
-shared-slice-read-if1 c = search needs
-
 returns : tie.Need-returns
 returns c = let a = c .before .before .args in sym (candidate-new (a .levels .now) (a .bound) (a .r) (a .j) (c .if1 .taken))
 
@@ -15,4 +12,4 @@ returns-2 : tie.Need-returns-2
 returns-2 c = let a = c .before .before .args in sym (candidate-on (a .levels .now) (a .bound) (a .r) (a .j) (c .if1 .left))
 
 pub candidate-from-spec : {M : Type 1} → statement M
-candidate-from-spec = tie.close (tie.spec shared-slice-read-if1 returns returns-2)
+candidate-from-spec = tie.close (tie.spec (λ c. search needs) returns returns-2)

@@ -98,9 +98,6 @@ element-copy-out-wide :
     tie.Need-element-copy-out-wide Inv-loop μ-loop Inv-rows μ-rows Inv-entries μ-entries
 element-copy-out-wide c = search needs
 
-wide-requires : tie.Need-wide-requires Inv-loop μ-loop Inv-rows μ-rows Inv-entries μ-entries
-wide-requires c κs = search needs
-
 element-copy-out-other :
     tie.Need-element-copy-out-other Inv-loop μ-loop Inv-rows μ-rows Inv-entries μ-entries
 element-copy-out-other c =
@@ -140,12 +137,6 @@ shared-slice-read-if2 :
     tie.Need-shared-slice-read-if2 Inv-loop μ-loop Inv-rows μ-rows Inv-entries μ-entries
 shared-slice-read-if2 c = search needs
 
-add-r : tie.Need-add-r Inv-loop μ-loop Inv-rows μ-rows Inv-entries μ-entries
-add-r c = search needs
-
-rows-less : tie.Need-rows-less Inv-loop μ-loop Inv-rows μ-rows Inv-entries μ-entries
-rows-less c = search needs
-
 rows-again : tie.Need-rows-again Inv-loop μ-loop Inv-rows μ-rows Inv-entries μ-entries
 rows-again c =
     let l = c .before .before .before in
@@ -177,12 +168,6 @@ loop-again c =
           (i .loop-test .taken) (o .if2 .left) (c .next-in-run .ensures),
     )
 
-add-r-2 : tie.Need-add-r-2 Inv-loop μ-loop Inv-rows μ-rows Inv-entries μ-entries
-add-r-2 c = search needs
-
-rows-less-2 : tie.Need-rows-less-2 Inv-loop μ-loop Inv-rows μ-rows Inv-entries μ-entries
-rows-less-2 c = search needs
-
 rows-again-2 : tie.Need-rows-again-2 Inv-loop μ-loop Inv-rows μ-rows Inv-entries μ-entries
 rows-again-2 c =
     let k = c .before .before in
@@ -192,12 +177,6 @@ rows-again-2 c =
       done-other (asked (w .before)) (wanted (w .before)) (w .rows .j) (w .rows .r) (w .rows .inv .1) (d .rows-test .taken) (k .candidate-from .result)
           (stood k) (c .if1 .left),
     )
-
-add-c : tie.Need-add-c Inv-loop μ-loop Inv-rows μ-rows Inv-entries μ-entries
-add-c c = search needs
-
-entries-less : tie.Need-entries-less Inv-loop μ-loop Inv-rows μ-rows Inv-entries μ-entries
-entries-less c = search needs
 
 entries-again : tie.Need-entries-again Inv-loop μ-loop Inv-rows μ-rows Inv-entries μ-entries
 entries-again c =
@@ -239,7 +218,7 @@ first-lone-spec =
     entries-holds
     element-copy-out-own
     element-copy-out-wide
-    wide-requires
+    (λ c κs. search needs)
     element-copy-out-other
     element-copy-out-run-bound
     run-bound-requires
@@ -248,17 +227,17 @@ first-lone-spec =
     shared-slice-read-if1
     loop-holds
     shared-slice-read-if2
-    add-r
-    rows-less
+    (λ c. search needs)
+    (λ c. search needs)
     rows-again
     next-in-run-requires
     loop-less
     loop-again
-    add-r-2
-    rows-less-2
+    (λ c. search needs)
+    (λ c. search needs)
     rows-again-2
-    add-c
-    entries-less
+    (λ c. search needs)
+    (λ c. search needs)
     entries-again
     returns
     returns-2)

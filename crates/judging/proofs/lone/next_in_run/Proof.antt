@@ -6,14 +6,8 @@ use borrow.Author.Needs.{needs}
 use Rattle.judging.proofs.lone.next_in_run.Statement.{statement}
 use Rattle.judging.proofs.lone.next_in_run.Tie as tie
 
-add-k : tie.Need-add-k
-add-k c = search needs
-
 returns : tie.Need-returns
 returns c = inr (refl, λ lt. let z : ⊥ = omega arith in absurd z)
-
-shared-slice-read-if2 : tie.Need-shared-slice-read-if2
-shared-slice-read-if2 c = search needs
 
 returns-2 : tie.Need-returns-2
 returns-2 c = inr (refl, λ lt. c .if2 .taken)
@@ -22,4 +16,4 @@ returns-3 : tie.Need-returns-3
 returns-3 c = inl (refl, omega arith, c .if2 .left)
 
 pub next-in-run-spec : {M : Type 1} → statement M
-next-in-run-spec = tie.close (tie.spec add-k returns shared-slice-read-if2 returns-2 returns-3)
+next-in-run-spec = tie.close (tie.spec (λ c. search needs) returns (λ c. search needs) returns-2 returns-3)

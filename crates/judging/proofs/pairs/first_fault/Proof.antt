@@ -41,9 +41,6 @@ loop-holds c =
     let a = c .before .before .before .before .before .args in
     outer-start (firstOr kept) (faultsOf (a .shape) (a .ways .now) (a .full) (a .meetings .now)) (a .shape .entries)
 
-add-f : tie.Need-add-f Inv-loop2 μ-loop2 Inv-loop μ-loop
-add-f c = search needs
-
 loop2-holds : tie.Need-loop2-holds Inv-loop2 μ-loop2 Inv-loop μ-loop
 loop2-holds c =
     let w = c .before .before in
@@ -64,15 +61,6 @@ pair-verdict-requires c κs =
     let w = d .before .before .before in
     let room = begun w .pre .0 in
     (way-fits room (w .loop .e) (d .before .if1 .taken), way-fits room (d .loop2 .f) (c .before .if2 .taken))
-
-enum-told : tie.Need-enum-told Inv-loop2 μ-loop2 Inv-loop μ-loop
-enum-told c = search needs
-
-add-f-2 : tie.Need-add-f-2 Inv-loop2 μ-loop2 Inv-loop μ-loop
-add-f-2 c = search needs
-
-loop2-less : tie.Need-loop2-less Inv-loop2 μ-loop2 Inv-loop μ-loop
-loop2-less c = search needs
 
 loop2-again : tie.Need-loop2-again Inv-loop2 μ-loop2 Inv-loop μ-loop
 loop2-again c =
@@ -96,12 +84,6 @@ returns c =
     (faults-one (a .shape) (a .ways .now) (a .full) (a .meetings .now) (w .loop .e) (d .loop2 .f) (v .before .meeting .result)
     (v .before .meeting .ensures .0) (v .pair-verdict .result) (v .pair-verdict .ensures) (c .match .keys2))
 
-add-e : tie.Need-add-e Inv-loop2 μ-loop2 Inv-loop μ-loop
-add-e c = search needs
-
-loop-less : tie.Need-loop-less Inv-loop2 μ-loop2 Inv-loop μ-loop
-loop-less c = search needs
-
 loop-again : tie.Need-loop-again Inv-loop2 μ-loop2 Inv-loop μ-loop
 loop-again c =
     let d = c .before .before in
@@ -123,16 +105,16 @@ first-fault-spec =
     Inv-loop
     μ-loop
     loop-holds
-    add-f
+    (λ c. search needs)
     loop2-holds
     meeting-requires
     pair-verdict-requires
-    enum-told
-    add-f-2
-    loop2-less
+    (λ c. search needs)
+    (λ c. search needs)
+    (λ c. search needs)
     loop2-again
     returns
-    add-e
-    loop-less
+    (λ c. search needs)
+    (λ c. search needs)
     loop-again
     returns-2)

@@ -8,17 +8,11 @@ use Rattle.judging.proofs.pairs.pair_verdict.Tie as tie
 abbrev begun : tie.After-walk-path → tie.Start
 begun w = w .before .before
 
-walk-path-requires : tie.Need-walk-path-requires
-walk-path-requires c κs = search needs
-
 returns : tie.Need-returns
 returns c =
     let w = c .before .before in
     let a = begun w .args in
     earned-apart (w .walk-path .ensures) (a .full) (a .l) (c .if1 .taken)
-
-sure-down-requires : tie.Need-sure-down-requires
-sure-down-requires c κs = search needs
 
 returns-2 : tie.Need-returns-2
 returns-2 c =
@@ -26,9 +20,6 @@ returns-2 c =
     let w = x .before .before .before in
     let a = begun w .args in
     earned-down (w .walk-path .ensures) (a .full) (a .l) (x .before .if1 .left) (x .sure-down .result) (x .sure-down .ensures) (c .if2 .taken)
-
-sure-down-requires-2 : tie.Need-sure-down-requires-2
-sure-down-requires-2 c κs = search needs
 
 returns-3 : tie.Need-returns-3
 returns-3 c =
@@ -52,10 +43,10 @@ pub pair-verdict-spec : {M : Type 1} → statement M
 pair-verdict-spec =
     tie.close
     (tie.spec
-    walk-path-requires
+    (λ c κs. search needs)
     returns
-    sure-down-requires
+    (λ c κs. search needs)
     returns-2
-    sure-down-requires-2
+    (λ c κs. search needs)
     returns-3
     returns-4)

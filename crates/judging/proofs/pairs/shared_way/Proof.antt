@@ -25,41 +25,14 @@ least : (p : tie.After-smaller Inv-loop μ-loop)
     → let a = begun p .args in p .smaller .result ≡ min (getD (a .t1) (a .e) 0) (getD (a .t1) (a .f) 0)
 least p = p .smaller .ensures ∙ ap₂ min (p .before .before .wide .ensures .0) (p .before .wide2 .ensures .0)
 
-array-read-wide : tie.Need-array-read-wide Inv-loop μ-loop
-array-read-wide c = search needs
-
-wide-requires : tie.Need-wide-requires Inv-loop μ-loop
-wide-requires c κs = search needs
-
-array-read-wide-2 : tie.Need-array-read-wide-2 Inv-loop μ-loop
-array-read-wide-2 c = search needs
-
-wide-requires-2 : tie.Need-wide-requires-2 Inv-loop μ-loop
-wide-requires-2 c κs = search needs
-
-smaller-requires : tie.Need-smaller-requires Inv-loop μ-loop
-smaller-requires c κs = search needs
-
 loop-holds : tie.Need-loop-holds Inv-loop μ-loop
 loop-holds c = (omega arith, λ j lt. absurd (not-suc-le-zero lt))
-
-mul-if1 : tie.Need-mul-if1 Inv-loop μ-loop
-mul-if1 c = search needs
-
-add-if1 : tie.Need-add-if1 Inv-loop μ-loop
-add-if1 c = search needs
 
 shared-slice-read-if1 : tie.Need-shared-slice-read-if1 Inv-loop μ-loop
 shared-slice-read-if1 c =
     let w = c .before .before in
     let s = begun (w .before) in
     omega (arith, least (w .before), way-within (s .pre .0))
-
-mul-if1-2 : tie.Need-mul-if1-2 Inv-loop μ-loop
-mul-if1-2 c = search needs
-
-add-if1-2 : tie.Need-add-if1-2 Inv-loop μ-loop
-add-if1-2 c = search needs
 
 shared-slice-read-if1-2 : tie.Need-shared-slice-read-if1-2 Inv-loop μ-loop
 shared-slice-read-if1-2 c =
@@ -73,12 +46,6 @@ returns c =
     let s = begun (w .before) in
     shared-apart (s .pre .0) (s .pre .1) (w .before .smaller .result) (w .loop .k) (least (w .before)) (w .loop .inv .1)
     (c .before .before .before .loop-test .taken) (c .if1 .taken)
-
-add-k : tie.Need-add-k Inv-loop μ-loop
-add-k c = search needs
-
-loop-less : tie.Need-loop-less Inv-loop μ-loop
-loop-less c = search needs
 
 loop-again : tie.Need-loop-again Inv-loop μ-loop
 loop-again c =
@@ -98,20 +65,20 @@ shared-way-spec =
     (tie.spec
     Inv-loop
     μ-loop
-    array-read-wide
-    wide-requires
-    array-read-wide-2
-    wide-requires-2
-    smaller-requires
+    (λ c. search needs)
+    (λ c κs. search needs)
+    (λ c. search needs)
+    (λ c κs. search needs)
+    (λ c κs. search needs)
     loop-holds
-    mul-if1
-    add-if1
+    (λ c. search needs)
+    (λ c. search needs)
     shared-slice-read-if1
-    mul-if1-2
-    add-if1-2
+    (λ c. search needs)
+    (λ c. search needs)
     shared-slice-read-if1-2
     returns
-    add-k
-    loop-less
+    (λ c. search needs)
+    (λ c. search needs)
     loop-again
     returns-2)

@@ -41,32 +41,14 @@ entry-few c =
     let test = c .before .before in
     way-entry (fits (test .before)) (test .before .loop .i) (c .wide2 .result) (test .loop-test .taken) (c .wide2 .ensures .0)
 
-array-read-wide : tie.Need-array-read-wide Inv-loop μ-loop
-array-read-wide c = search needs
-
-wide-requires : tie.Need-wide-requires Inv-loop μ-loop
-wide-requires c κs = search needs
-
 loop-holds : tie.Need-loop-holds Inv-loop μ-loop
 loop-holds c = refl
-
-mul-wide : tie.Need-mul-wide Inv-loop μ-loop
-mul-wide c = search needs
-
-add-wide : tie.Need-add-wide Inv-loop μ-loop
-add-wide c = search needs
 
 shared-slice-read-wide : tie.Need-shared-slice-read-wide Inv-loop μ-loop
 shared-slice-read-wide c = omega (arith, way-within (fits (c .before .before)))
 
-wide-requires-2 : tie.Need-wide-requires-2 Inv-loop μ-loop
-wide-requires-2 c κs = search needs
-
 array-read-wide-2 : tie.Need-array-read-wide-2 Inv-loop μ-loop
 array-read-wide-2 c = entry-few c
-
-wide-requires-3 : tie.Need-wide-requires-3 Inv-loop μ-loop
-wide-requires-3 c κs = search needs
 
 returns : tie.Need-returns Inv-loop μ-loop
 returns c =
@@ -92,12 +74,6 @@ returns-2 c =
     (d .wide2 .result) (v .wide3 .result) (a .l) (d .wide2 .ensures .0) (v .wide3 .ensures .0) (c .before .if1 .left)
     (not-true _ (c .if2 .taken))) ∙ answer w
 
-add-i : tie.Need-add-i Inv-loop μ-loop
-add-i c = search needs
-
-loop-less : tie.Need-loop-less Inv-loop μ-loop
-loop-less c = search needs
-
 loop-again : tie.Need-loop-again Inv-loop μ-loop
 loop-again c =
     let v = c .before .before in
@@ -121,19 +97,19 @@ sure-down-spec =
     (tie.spec
     Inv-loop
     μ-loop
-    array-read-wide
-    wide-requires
+    (λ c. search needs)
+    (λ c κs. search needs)
     loop-holds
-    mul-wide
-    add-wide
+    (λ c. search needs)
+    (λ c. search needs)
     shared-slice-read-wide
-    wide-requires-2
+    (λ c κs. search needs)
     array-read-wide-2
-    wide-requires-3
+    (λ c κs. search needs)
     returns
     array-read-if2
     returns-2
-    add-i
-    loop-less
+    (λ c. search needs)
+    (λ c. search needs)
     loop-again
     returns-3)

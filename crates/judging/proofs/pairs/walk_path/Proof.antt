@@ -3,15 +3,6 @@ use borrow.Author.Needs.{needs}
 use Rattle.judging.proofs.pairs.walk_path.Statement.{statement}
 use Rattle.judging.proofs.pairs.walk_path.Tie as tie
 
-shared-way-requires : tie.Need-shared-way-requires
-shared-way-requires c κs = search needs
-
-least-level-requires : tie.Need-least-level-requires
-least-level-requires c κs = search needs
-
-least-level-requires-2 : tie.Need-least-level-requires-2
-least-level-requires-2 c κs = search needs
-
 returns : tie.Need-returns
 returns c =
     let down = c .before in
@@ -23,4 +14,4 @@ returns c =
 
 pub walk-path-spec : {M : Type 1} → statement M
 walk-path-spec =
-    tie.close (tie.spec shared-way-requires least-level-requires least-level-requires-2 returns)
+    tie.close (tie.spec (λ c κs. search needs) (λ c κs. search needs) (λ c κs. search needs) returns)

@@ -46,9 +46,6 @@ loop-holds c =
     let a = c .before .before .before .before .before .args in
     outer-start isEmpty (apartPair (a .shape) (a .ways .now) (a .meetings .now)) (a .shape .entries)
 
-add-f : tie.Need-add-f Inv-loop2 μ-loop2 Inv-loop μ-loop
-add-f c = search needs
-
 loop2-holds : tie.Need-loop2-holds Inv-loop2 μ-loop2 Inv-loop μ-loop
 loop2-holds c =
     let w = c .before .before in
@@ -81,12 +78,6 @@ returns c =
     (apart-one (a .shape) (a .ways .now) (a .meetings .now) (w .loop .e) (d .loop2 .f) (v .before .meeting .result) (v .before .meeting .ensures .0)
     (v .walk-path .ensures) (c .if3 .taken))
 
-add-f-2 : tie.Need-add-f-2 Inv-loop2 μ-loop2 Inv-loop μ-loop
-add-f-2 c = search needs
-
-loop2-less : tie.Need-loop2-less Inv-loop2 μ-loop2 Inv-loop μ-loop
-loop2-less c = search needs
-
 loop2-again : tie.Need-loop2-again Inv-loop2 μ-loop2 Inv-loop μ-loop
 loop2-again c =
     let v = c .before .before in
@@ -96,12 +87,6 @@ loop2-again c =
     inner-step isEmpty (pairs w) (entries w) (w .loop .e) (d .loop2 .f) (d .loop2 .inv) (v .before .before .if2 .taken)
     (apart-none (a .shape) (a .ways .now) (a .meetings .now) (w .loop .e) (d .loop2 .f) (v .before .meeting .result) (v .before .meeting .ensures .0)
     (v .walk-path .ensures) (c .if3 .left))
-
-add-e : tie.Need-add-e Inv-loop2 μ-loop2 Inv-loop μ-loop
-add-e c = search needs
-
-loop-less : tie.Need-loop-less Inv-loop2 μ-loop2 Inv-loop μ-loop
-loop-less c = search needs
 
 loop-again : tie.Need-loop-again Inv-loop2 μ-loop2 Inv-loop μ-loop
 loop-again c =
@@ -124,15 +109,15 @@ none-apart-spec =
     Inv-loop
     μ-loop
     loop-holds
-    add-f
+    (λ c. search needs)
     loop2-holds
     meeting-requires
     walk-path-requires
     returns
-    add-f-2
-    loop2-less
+    (λ c. search needs)
+    (λ c. search needs)
     loop2-again
-    add-e
-    loop-less
+    (λ c. search needs)
+    (λ c. search needs)
     loop-again
     returns-2)

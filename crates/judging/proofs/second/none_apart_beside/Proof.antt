@@ -6,15 +6,6 @@ use Rattle.judging.proofs.Beside.{beside-none, beside-apart}
 use Rattle.judging.proofs.second.none_apart_beside.Statement.{statement}
 use Rattle.judging.proofs.second.none_apart_beside.Tie as tie
 
-enum-told : tie.Need-enum-told
-enum-told c = search needs
-
-enum-known-fault : tie.Need-enum-known-fault
-enum-known-fault c = search needs
-
-none-apart-requires : tie.Need-none-apart-requires
-none-apart-requires c κs = search needs
-
 returns : tie.Need-returns
 returns c =
     let b = c .before .before .before .before in
@@ -29,9 +20,6 @@ returns-2 c =
     let (full, e) = b .pre .2 in
     beside-apart (a .shape) (a .ways .now) full (a .meetings .now) _ _ (ap told (sym (c .before .fault .given .1)) ∙ e)
 
-returns-3 : tie.Need-returns-3
-returns-3 c = search needs
-
 pub none-apart-beside-spec : {M : Type 1} → statement M
 none-apart-beside-spec =
-    tie.close (tie.spec enum-told enum-known-fault none-apart-requires returns returns-2 returns-3)
+    tie.close (tie.spec (λ c. search needs) (λ c. search needs) (λ c κs. search needs) returns returns-2 (λ c. search needs))

@@ -31,14 +31,8 @@ Left s r =
     let a = s .args in
     Converts (convert (a .f) (a .table .now) (a .shape .now) (a .list .now) (a .new-table .now) (a .new-shape .now)) r (a .new-table .now) (a .new-shape .now)
 
-old-range-requires : tie.Need-old-range-requires
-old-range-requires c κs = search needs
-
 examine-requires : tie.Need-examine-requires
 examine-requires c κs = let s = begun c in served (s .args .f) _ (c .old-range .ensures) (s .pre)
-
-refused-requires : tie.Need-refused-requires
-refused-requires c κs = search needs
 
 -- What examining tells is told on the old range.
 table-told : (x : tie.After-examine) →
@@ -74,14 +68,8 @@ returns c =
     (table-refused (a .f) (a .table .now) (a .shape .now) (a .list .now) (a .new-table .now) (a .new-shape .now) (r .number) (r .place)
     (Table.examined-refused (oldRange (a .f)) (a .table .now) (r .number) (r .place) (r .rows) (table-told x) (c .before .if1 .taken)))
 
-old-range-requires-2 : tie.Need-old-range-requires-2
-old-range-requires-2 c κs = search needs
-
 examine-shape-requires : tie.Need-examine-shape-requires
 examine-shape-requires c κs = let s = begun (c .before .before .before) in served (s .args .f) _ (c .old-range2 .ensures) (s .pre)
-
-refused-requires-2 : tie.Need-refused-requires-2
-refused-requires-2 c κs = search needs
 
 returns-2 : tie.Need-returns-2
 returns-2 c =
@@ -113,28 +101,19 @@ convert-tested-requires c κs =
       shape-passes = Shape.examined-given old shape (r .number) (r .place) (r .entries) (shape-told y) (d .if2 .left);
     }
 
-same-length : tie.Need-same-length
-same-length c = search needs
-
-same-length-2 : tie.Need-same-length-2
-same-length-2 c = search needs
-
-returns-3 : tie.Need-returns-3
-returns-3 c = search needs
-
 pub convert-spec : {M : Type 1} → statement M
 convert-spec =
     tie.close
     (tie.spec
-    old-range-requires
+    (λ c κs. search needs)
     examine-requires
-    refused-requires
+    (λ c κs. search needs)
     returns
-    old-range-requires-2
+    (λ c κs. search needs)
     examine-shape-requires
-    refused-requires-2
+    (λ c κs. search needs)
     returns-2
     convert-tested-requires
-    same-length
-    same-length-2
-    returns-3)
+    (λ c. search needs)
+    (λ c. search needs)
+    (λ c. search needs))

@@ -27,15 +27,6 @@ Left s r =
     let a = s .args in
     Converts (convert (a .f) (a .table .now) (a .shape .now) (a .list .now) (a .new-table .now) (a .new-shape .now)) r (a .new-table .now) (a .new-shape .now)
 
-first-bad-requires : tie.Need-first-bad-requires
-first-bad-requires c κs = search needs
-
-count-pairs-requires : tie.Need-count-pairs-requires
-count-pairs-requires c κs = search needs
-
-refused-requires : tie.Need-refused-requires
-refused-requires c κs = search needs
-
 returns : tie.Need-returns
 returns c =
     let q = c .before .before in
@@ -45,18 +36,12 @@ returns c =
     (refused-25 (a .f) (a .table .now) (a .shape .now) (a .list .now) (a .new-table .now) (a .new-shape .now) (a .rows) (a .entries) (s .pre)
     (q .before .first-bad .result) (q .before .first-bad .ensures) (omega (arith, c .before .if1 .taken, q .count-pairs .ensures)))
 
-row-bytes-requires : tie.Need-row-bytes-requires
-row-bytes-requires c κs = search needs
-
 first-unlisted-requires : tie.Need-first-unlisted-requires
 first-unlisted-requires c κs =
     let s = begun (c .before .before) in
     let w = c .row-bytes .ensures in
     let levels = s .pre .counted .served .shallow in
     (omega (arith, w), omega (arith, w, levels), s .pre .counted .rows-counted ∙ ap (λ n. whole n (s .args .table .now)) (sym w))
-
-refused-requires-2 : tie.Need-refused-requires-2
-refused-requires-2 c κs = search needs
 
 -- the list is right
 right : (e : tie.Else1) → length (pairs (begun (e .before) .args .list .now)) ≤ e .before .before .first-bad .result
@@ -85,18 +70,12 @@ returns-2 c =
     (refused-row (a .f) (a .table .now) (a .shape .now) (a .list .now) (a .new-table .now) (a .new-shape .now) (a .rows) (a .entries) (s .pre)
     (q .before .first-bad .result) (q .before .first-bad .ensures) (right e) _ (first-row u) (c .before .if2 .taken))
 
-entry-bytes-requires : tie.Need-entry-bytes-requires
-entry-bytes-requires c κs = search needs
-
 first-unlisted-requires-2 : tie.Need-first-unlisted-requires-2
 first-unlisted-requires-2 c κs =
     let s = begun (c .before .before .before .before .before) in
     let w = c .entry-bytes .ensures in
     let levels = s .pre .counted .served .shallow in
     (omega (arith, w), omega (arith, w, levels), s .pre .counted .entries-counted ∙ ap (λ n. whole n (s .args .shape .now)) (sym w))
-
-refused-requires-3 : tie.Need-refused-requires-3
-refused-requires-3 c κs = search needs
 
 -- the first entry with one
 first-entry : (x : tie.After-first-unlisted2) →
@@ -123,9 +102,6 @@ returns-3 c =
     (q .before .first-bad .result) (q .before .first-bad .ensures) (right e) _ (first-row u) (r .if2 .left) _ (first-entry x)
     (c .before .if3 .taken))
 
-refused-requires-4 : tie.Need-refused-requires-4
-refused-requires-4 c κs = search needs
-
 returns-4 : tie.Need-returns-4
 returns-4 c =
     let y = c .before .before in
@@ -140,9 +116,6 @@ returns-4 c =
     (refused-table (a .f) (a .table .now) (a .shape .now) (a .list .now) (a .new-table .now) (a .new-shape .now) (a .rows) (a .entries) (s .pre)
     (q .before .first-bad .result) (q .before .first-bad .ensures) (right e) _ (first-row u) (r .if2 .left) _ (first-entry x)
     (y .if3 .left) (c .before .if4 .taken))
-
-refused-requires-5 : tie.Need-refused-requires-5
-refused-requires-5 c κs = search needs
 
 returns-5 : tie.Need-returns-5
 returns-5 c =
@@ -183,12 +156,6 @@ put-records-requires-2 c κs =
     let counted = s .pre .counted .entries-counted ∙ ap (λ n. whole n (s .args .shape .now)) (sym w) in
     (omega (arith, w), omega (arith, w, levels), counted, within _ _ (s .args .shape .now) (s .args .new-shape .now) counted (z .if5 .left))
 
-same-length : tie.Need-same-length
-same-length c = search needs
-
-same-length-2 : tie.Need-same-length-2
-same-length-2 c = search needs
-
 returns-6 : tie.Need-returns-6
 returns-6 c =
     let shown = c .before .before in
@@ -211,24 +178,24 @@ pub convert-tested-spec : {M : Type 1} → statement M
 convert-tested-spec =
     tie.close
     (tie.spec
-    first-bad-requires
-    count-pairs-requires
-    refused-requires
+    (λ c κs. search needs)
+    (λ c κs. search needs)
+    (λ c κs. search needs)
     returns
-    row-bytes-requires
+    (λ c κs. search needs)
     first-unlisted-requires
-    refused-requires-2
+    (λ c κs. search needs)
     returns-2
-    entry-bytes-requires
+    (λ c κs. search needs)
     first-unlisted-requires-2
-    refused-requires-3
+    (λ c κs. search needs)
     returns-3
-    refused-requires-4
+    (λ c κs. search needs)
     returns-4
-    refused-requires-5
+    (λ c κs. search needs)
     returns-5
     put-records-requires
     put-records-requires-2
-    same-length
-    same-length-2
+    (λ c. search needs)
+    (λ c. search needs)
     returns-6)

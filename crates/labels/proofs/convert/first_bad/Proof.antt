@@ -18,9 +18,6 @@ abbrev μ-loop : tie.MeasureT-loop
 abbrev begun : tie.At-loop Inv-loop μ-loop → tie.Start Inv-loop μ-loop
 begun l = l .before .before .before .before .before
 
-count-pairs-requires : tie.Need-count-pairs-requires Inv-loop μ-loop
-count-pairs-requires c κs = search needs
-
 loop-holds : tie.Need-loop-holds Inv-loop μ-loop
 loop-holds c =
     let a = c .before .before .before .before .args in
@@ -38,12 +35,6 @@ returns c =
     let a = begun l .args in
     breaking-stop (a .f) (standing (a .f) (a .table .now) (a .shape .now)) (a .list .now) (l .loop .i) (l .loop .inv) _ (l .before .count-pairs .ensures)
     (k .before .loop-test .taken) (sym (k .pair-kept .ensures) ∙ not-true _ (c .if1 .taken))
-
-add-i : tie.Need-add-i Inv-loop μ-loop
-add-i c = search needs
-
-loop-less : tie.Need-loop-less Inv-loop μ-loop
-loop-less c = search needs
 
 loop-again : tie.Need-loop-again Inv-loop μ-loop
 loop-again c =
@@ -66,11 +57,11 @@ first-bad-spec =
     (tie.spec
     Inv-loop
     μ-loop
-    count-pairs-requires
+    (λ c κs. search needs)
     loop-holds
     pair-kept-requires
     returns
-    add-i
-    loop-less
+    (λ c. search needs)
+    (λ c. search needs)
     loop-again
     returns-2)

@@ -7,9 +7,6 @@ use borrow.Author.Needs.{needs}
 use Rattle.labels.proofs.convert.occurs.Statement.{statement}
 use Rattle.labels.proofs.convert.occurs.Tie as tie
 
-row-bytes-requires : tie.Need-row-bytes-requires
-row-bytes-requires c κs = search needs
-
 file-has-requires : tie.Need-file-has-requires
 file-has-requires c κs =
     let s = c .before .before .before in
@@ -25,9 +22,6 @@ returns c =
     let a = s .args in
     in-table (a .f) (a .table .now) (a .shape .now) (a .x) _ (a .rows) (w .row-bytes .ensures) (s .pre .rows-counted)
     (sym (h .file-has .ensures) ∙ c .if1 .taken)
-
-entry-bytes-requires : tie.Need-entry-bytes-requires
-entry-bytes-requires c κs = search needs
 
 file-has-requires-2 : tie.Need-file-has-requires-2
 file-has-requires-2 c κs =
@@ -51,9 +45,9 @@ pub occurs-spec : {M : Type 1} → statement M
 occurs-spec =
     tie.close
     (tie.spec
-    row-bytes-requires
+    (λ c κs. search needs)
     file-has-requires
     returns
-    entry-bytes-requires
+    (λ c κs. search needs)
     file-has-requires-2
     returns-2)

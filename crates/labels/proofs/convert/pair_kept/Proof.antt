@@ -16,17 +16,11 @@ read k = k .before
 mul-number-at : tie.Need-mul-number-at
 mul-number-at c = let count = counted (c .before .before .before .args .list .now) in search needs
 
-number-at-requires : tie.Need-number-at-requires
-number-at-requires c κs = search needs
-
 mul-number-at-2 : tie.Need-mul-number-at-2
 mul-number-at-2 c = let count = counted (begun c .args .list .now) in search needs
 
 add-number-at : tie.Need-add-number-at
 add-number-at c = let count = counted (begun c .args .list .now) in search needs
-
-number-at-requires-2 : tie.Need-number-at-requires-2
-number-at-requires-2 c κs = search needs
 
 returns : tie.Need-returns
 returns c =
@@ -66,9 +60,6 @@ returns-4 c =
     new-too-large (a .f) (standing (a .f) (a .table .now) (a .shape .now)) (a .list .now) (a .i) _ _ (s .pre .1)
     (v .before .number-at .ensures .0) (v .number-at2 .ensures .0) (e1 .if1 .left) (e2 .if2 .left) (e3 .if3 .left) (c .if4 .taken)
 
-occurs-requires : tie.Need-occurs-requires
-occurs-requires c κs = search needs
-
 returns-5 : tie.Need-returns-5
 returns-5 c =
     let o = c .before in
@@ -82,9 +73,6 @@ returns-5 c =
     new-occurs (a .f) (standing (a .f) (a .table .now) (a .shape .now)) (a .list .now) (a .i) _ _ (s .pre .1)
     (v .before .number-at .ensures .0) (v .number-at2 .ensures .0) (e1 .if1 .left) (e2 .if2 .left) (e3 .if3 .left)
     (e4 .if4 .left) _ (o .occurs .ensures) (c .if5 .taken)
-
-find-requires : tie.Need-find-requires
-find-requires c κs = search needs
 
 returns-6 : tie.Need-returns-6
 returns-6 c =
@@ -101,9 +89,6 @@ returns-6 c =
     old-twice (a .f) (standing (a .f) (a .table .now) (a .shape .now)) (a .list .now) (a .i) _ _ (s .pre .1)
     (v .before .number-at .ensures .0) (v .number-at2 .ensures .0) (e1 .if1 .left) (e2 .if2 .left) (e3 .if3 .left)
     (e4 .if4 .left) _ (o .occurs .ensures) (e5 .if5 .left) _ (g .find .ensures) (c .if6 .taken)
-
-find-requires-2 : tie.Need-find-requires-2
-find-requires-2 c κs = search needs
 
 returns-7 : tie.Need-returns-7
 returns-7 c =
@@ -127,17 +112,17 @@ pair-kept-spec =
     tie.close
     (tie.spec
     mul-number-at
-    number-at-requires
+    (λ c κs. search needs)
     mul-number-at-2
     add-number-at
-    number-at-requires-2
+    (λ c κs. search needs)
     returns
     returns-2
     returns-3
     returns-4
-    occurs-requires
+    (λ c κs. search needs)
     returns-5
-    find-requires
+    (λ c κs. search needs)
     returns-6
-    find-requires-2
+    (λ c κs. search needs)
     returns-7)

@@ -5,20 +5,11 @@ use borrow.Author.Needs.{needs}
 use Rattle.labels.proofs.pairs.convert_label.Statement.{statement}
 use Rattle.labels.proofs.pairs.convert_label.Tie as tie
 
-count-pairs-requires : tie.Need-count-pairs-requires
-count-pairs-requires c κs = search needs
-
-find-requires : tie.Need-find-requires
-find-requires c κs = search needs
-
 mul-number-at : tie.Need-mul-number-at
 mul-number-at c = let count = counted (c .before .before .before .before .args .list .now) in search needs
 
 add-number-at : tie.Need-add-number-at
 add-number-at c = let count = counted (c .before .before .before .before .args .list .now) in search needs
-
-number-at-requires : tie.Need-number-at-requires
-number-at-requires c κs = search needs
 
 returns : tie.Need-returns
 returns c =
@@ -41,10 +32,10 @@ pub convert-label-spec : {M : Type 1} → statement M
 convert-label-spec =
     tie.close
     (tie.spec
-    count-pairs-requires
-    find-requires
+    (λ c κs. search needs)
+    (λ c κs. search needs)
     mul-number-at
     add-number-at
-    number-at-requires
+    (λ c κs. search needs)
     returns
     returns-2)

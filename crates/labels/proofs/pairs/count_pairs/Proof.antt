@@ -4,11 +4,8 @@ use borrow.Author.Needs.{needs}
 use Rattle.labels.proofs.pairs.count_pairs.Statement.{statement}
 use Rattle.labels.proofs.pairs.count_pairs.Tie as tie
 
-add-result : tie.Need-add-result
-add-result c = search needs
-
 returns : tie.Need-returns
 returns c = count-is (c .args .list .now)
 
 pub count-pairs-spec : {M : Type 1} → statement M
-count-pairs-spec = tie.close (tie.spec add-result returns)
+count-pairs-spec = tie.close (tie.spec (λ c. search needs) returns)

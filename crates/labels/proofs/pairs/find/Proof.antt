@@ -40,9 +40,6 @@ mul-number-at c = let count = counted (begun (c .before) .args .list .now) in se
 add-number-at : tie.Need-add-number-at Inv-loop μ-loop
 add-number-at c = let count = counted (begun (c .before) .args .list .now) in search needs
 
-number-at-requires : tie.Need-number-at-requires Inv-loop μ-loop
-number-at-requires c κs = search needs
-
 returns : tie.Need-returns Inv-loop μ-loop
 returns c =
     let x = c .before in
@@ -52,12 +49,6 @@ returns c =
     let lt = x .before .loop-test .taken in
     looking-stop (has (a .side) (a .x)) (take (a .n) (pairs (a .list .now))) (a .n) (l .loop .i) (l .loop .inv) lt _
     (next-of-first (a .list .now) (a .n) (s .pre .0) (l .loop .i) lt) (seen x ∙ eq-eqb _ _ (c .if1 .taken))
-
-add-i : tie.Need-add-i Inv-loop μ-loop
-add-i c = search needs
-
-loop-less : tie.Need-loop-less Inv-loop μ-loop
-loop-less c = search needs
 
 loop-again : tie.Need-loop-again Inv-loop μ-loop
 loop-again c =
@@ -86,9 +77,9 @@ find-spec =
     loop-holds
     mul-number-at
     add-number-at
-    number-at-requires
+    (λ c κs. search needs)
     returns
-    add-i
-    loop-less
+    (λ c. search needs)
+    (λ c. search needs)
     loop-again
     returns-2)

@@ -7,12 +7,6 @@ use Rattle.labels.proofs.pairs.is_unlisted.Tie as tie
 returns : tie.Need-returns
 returns c = let a = c .before .before .before .args in unlisted-small (a .f) _ (a .x) (c .if1 .taken)
 
-count-pairs-requires : tie.Need-count-pairs-requires
-count-pairs-requires c κs = search needs
-
-find-requires : tie.Need-find-requires
-find-requires c κs = search needs
-
 returns-2 : tie.Need-returns-2
 returns-2 c =
     let n = c .before in
@@ -25,6 +19,6 @@ is-unlisted-spec =
     tie.close
     (tie.spec
     returns
-    count-pairs-requires
-    find-requires
+    (λ c κs. search needs)
+    (λ c κs. search needs)
     returns-2)

@@ -37,9 +37,6 @@ loop-holds c = let a = c .before .args in looking-start (hasLabel (a .from) (a .
 record-requires : tie.Need-record-requires Inv-loop μ-loop
 record-requires c κs = let s = begun (c .before) in row-in (s .args .w) (c .before .loop .i) (s .args .b .now) (omega (arith, s .pre .2, c .loop-test .taken))
 
-has-label-requires : tie.Need-has-label-requires Inv-loop μ-loop
-has-label-requires c κs = search needs
-
 returns : tie.Need-returns Inv-loop μ-loop
 returns c =
     let y = c .before in
@@ -50,12 +47,6 @@ returns c =
     looking-found (hasLabel (a .from) (a .n) (a .x)) (records (a .w) (a .count) b) (a .count) (l .loop .i) (l .loop .inv) lt _
     (next-record (a .w) (a .count) b (l .loop .i) lt) (seen y ∙ c .if1 .taken)
     ∙ sym (any-join (eqb (a .x)) (λ (r : List _). words (a .n) r (a .from)) (records (a .w) (a .count) b))
-
-add-i : tie.Need-add-i Inv-loop μ-loop
-add-i c = omega arith
-
-loop-less : tie.Need-loop-less Inv-loop μ-loop
-loop-less c = omega arith
 
 loop-again : tie.Need-loop-again Inv-loop μ-loop
 loop-again c =
@@ -84,9 +75,9 @@ file-has-spec =
     μ-loop
     loop-holds
     record-requires
-    has-label-requires
+    (λ c κs. search needs)
     returns
-    add-i
-    loop-less
+    (λ c. omega arith)
+    (λ c. omega arith)
     loop-again
     returns-2)

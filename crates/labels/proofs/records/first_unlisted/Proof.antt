@@ -37,9 +37,6 @@ loop-holds c =
 record-requires : tie.Need-record-requires Inv-loop μ-loop
 record-requires c κs = let s = begun (c .before) in row-in (s .args .w) (c .before .loop .i) (s .args .b .now) (omega (arith, s .pre .2, c .loop-test .taken))
 
-has-unlisted-requires : tie.Need-has-unlisted-requires Inv-loop μ-loop
-has-unlisted-requires c κs = search needs
-
 returns : tie.Need-returns Inv-loop μ-loop
 returns c =
     let y = c .before in
@@ -49,12 +46,6 @@ returns c =
     let lt = y .before .before .loop-test .taken in
     looking-stop (anyUnlisted (a .f) (pairs (a .list .now)) (a .from) (a .n)) (records (a .w) (a .count) b) (a .count) (l .loop .i) (l .loop .inv) lt _
     (next-record (a .w) (a .count) b (l .loop .i) lt) (seen y ∙ c .if1 .taken)
-
-add-i : tie.Need-add-i Inv-loop μ-loop
-add-i c = omega arith
-
-loop-less : tie.Need-loop-less Inv-loop μ-loop
-loop-less c = omega arith
 
 loop-again : tie.Need-loop-again Inv-loop μ-loop
 loop-again c =
@@ -82,9 +73,9 @@ first-unlisted-spec =
     μ-loop
     loop-holds
     record-requires
-    has-unlisted-requires
+    (λ c κs. search needs)
     returns
-    add-i
-    loop-less
+    (λ c. omega arith)
+    (λ c. omega arith)
     loop-again
     returns-2)

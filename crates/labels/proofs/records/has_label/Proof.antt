@@ -23,9 +23,6 @@ begun l = l .before .before
 loop-holds : tie.Need-loop-holds Inv-loop μ-loop
 loop-holds c = let a = c .before .args in looking-start (eqb (a .x)) (words (a .n) (a .r .now) (a .from)) (a .n)
 
-label-at-requires : tie.Need-label-at-requires Inv-loop μ-loop
-label-at-requires c κs = search needs
-
 returns : tie.Need-returns Inv-loop μ-loop
 returns c =
     let y = c .before in
@@ -34,12 +31,6 @@ returns c =
     let lt = y .before .loop-test .taken in
     looking-found (eqb (a .x)) (words (a .n) (a .r .now) (a .from)) (a .n) (l .loop .k) (l .loop .inv) lt _
     (next-word (a .n) (a .r .now) (a .from) (l .loop .k) lt) (eq-eqb _ _ (sym (sym (y .label-at .ensures .0) ∙ c .if1 .taken)))
-
-add-k : tie.Need-add-k Inv-loop μ-loop
-add-k c = search needs
-
-loop-less : tie.Need-loop-less Inv-loop μ-loop
-loop-less c = search needs
 
 loop-again : tie.Need-loop-again Inv-loop μ-loop
 loop-again c =
@@ -64,9 +55,9 @@ has-label-spec =
     Inv-loop
     μ-loop
     loop-holds
-    label-at-requires
+    (λ c κs. search needs)
     returns
-    add-k
-    loop-less
+    (λ c. search needs)
+    (λ c. search needs)
     loop-again
     returns-2)

@@ -32,12 +32,6 @@ seen y =
 loop-holds : tie.Need-loop-holds Inv-loop μ-loop
 loop-holds c = let a = c .before .before .args in looking-start (unlisted (a .f) (pairs (a .list .now))) (words (a .n) (a .r .now) (a .from)) (a .n)
 
-label-at-requires : tie.Need-label-at-requires Inv-loop μ-loop
-label-at-requires c κs = search needs
-
-is-unlisted-requires : tie.Need-is-unlisted-requires Inv-loop μ-loop
-is-unlisted-requires c κs = search needs
-
 returns : tie.Need-returns Inv-loop μ-loop
 returns c =
     let y = c .before in
@@ -46,12 +40,6 @@ returns c =
     let lt = y .before .before .loop-test .taken in
     looking-found (unlisted (a .f) (pairs (a .list .now))) (words (a .n) (a .r .now) (a .from)) (a .n) (l .loop .k) (l .loop .inv) lt _
     (next-word (a .n) (a .r .now) (a .from) (l .loop .k) lt) (seen y ∙ c .if1 .taken)
-
-add-k : tie.Need-add-k Inv-loop μ-loop
-add-k c = search needs
-
-loop-less : tie.Need-loop-less Inv-loop μ-loop
-loop-less c = search needs
 
 loop-again : tie.Need-loop-again Inv-loop μ-loop
 loop-again c =
@@ -76,10 +64,10 @@ has-unlisted-spec =
     Inv-loop
     μ-loop
     loop-holds
-    label-at-requires
-    is-unlisted-requires
+    (λ c κs. search needs)
+    (λ c κs. search needs)
     returns
-    add-k
-    loop-less
+    (λ c. search needs)
+    (λ c. search needs)
     loop-again
     returns-2)

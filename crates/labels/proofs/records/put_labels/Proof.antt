@@ -29,29 +29,11 @@ begun l = l .before .before .before .before
 loop-holds : tie.Need-loop-holds Inv-loop μ-loop
 loop-holds c = let a = c .before .before .before .args in (omega arith, all-left (a .new .now) (a .at) _ _ (omega arith))
 
-label-at-requires : tie.Need-label-at-requires Inv-loop μ-loop
-label-at-requires c κs = search needs
-
-convert-label-requires : tie.Need-convert-label-requires Inv-loop μ-loop
-convert-label-requires c κs = search needs
-
-mul-put-word : tie.Need-mul-put-word Inv-loop μ-loop
-mul-put-word c = search needs
-
 add-put-word : tie.Need-add-put-word Inv-loop μ-loop
 add-put-word c = let long = c .before .before .before .before .loop .inv .1 .as-long in search needs
 
-cast-put-word : tie.Need-cast-put-word Inv-loop μ-loop
-cast-put-word c = search needs
-
 put-word-requires : tie.Need-put-word-requires Inv-loop μ-loop
 put-word-requires c κs = let long = c .before .before .before .before .loop .inv .1 .as-long in search needs
-
-add-k : tie.Need-add-k Inv-loop μ-loop
-add-k c = search needs
-
-loop-less : tie.Need-loop-less Inv-loop μ-loop
-loop-less c = search needs
 
 loop-again : tie.Need-loop-again Inv-loop μ-loop
 loop-again c =
@@ -70,9 +52,6 @@ loop-again c =
           (p .put-word .ensures ∙ ap (λ x. sets (l .loop .new) (a .at + 2 * k) (bytes 2 x)) is),
     )
 
-same-length : tie.Need-same-length Inv-loop μ-loop
-same-length c = search needs
-
 returns : tie.Need-returns Inv-loop μ-loop
 returns c =
     let l = c .before in
@@ -89,14 +68,14 @@ put-labels-spec =
     Inv-loop
     μ-loop
     loop-holds
-    label-at-requires
-    convert-label-requires
-    mul-put-word
+    (λ c κs. search needs)
+    (λ c κs. search needs)
+    (λ c. search needs)
     add-put-word
-    cast-put-word
+    (λ c. search needs)
     put-word-requires
-    add-k
-    loop-less
+    (λ c. search needs)
+    (λ c. search needs)
     loop-again
-    same-length
+    (λ c. search needs)
     returns)

@@ -4,48 +4,6 @@ use borrow.Author.Needs.{needs}
 use Rattle.labels.proofs.records.put_record.Statement.{statement}
 use Rattle.labels.proofs.records.put_record.Tie as tie
 
-mul-past : tie.Need-mul-past
-mul-past c = search needs
-
-add-past : tie.Need-add-past
-add-past c = search needs
-
-sub-put : tie.Need-sub-put
-sub-put c = search needs
-
-part-put-start : tie.Need-part-put-start
-part-put-start c = search needs
-
-part-put-end : tie.Need-part-put-end
-part-put-end c = search needs
-
-put-requires : tie.Need-put-requires
-put-requires c κs = search needs
-
-add-put-labels : tie.Need-add-put-labels
-add-put-labels c = search needs
-
-put-labels-requires : tie.Need-put-labels-requires
-put-labels-requires c κs = search needs
-
-add-put : tie.Need-add-put
-add-put c = search needs
-
-sub-put-2 : tie.Need-sub-put-2
-sub-put-2 c = search needs
-
-part-put-start-2 : tie.Need-part-put-start-2
-part-put-start-2 c = search needs
-
-part-put-end-2 : tie.Need-part-put-end-2
-part-put-end-2 c = search needs
-
-put-requires-2 : tie.Need-put-requires-2
-put-requires-2 c κs = search needs
-
-same-length : tie.Need-same-length
-same-length c = search needs
-
 returns : tie.Need-returns
 returns c =
     let back = c .before .before in
@@ -60,18 +18,18 @@ pub put-record-spec : {M : Type 1} → statement M
 put-record-spec =
     tie.close
     (tie.spec
-    mul-past
-    add-past
-    sub-put
-    part-put-start
-    part-put-end
-    put-requires
-    add-put-labels
-    put-labels-requires
-    add-put
-    sub-put-2
-    part-put-start-2
-    part-put-end-2
-    put-requires-2
-    same-length
+    (λ c. search needs)
+    (λ c. search needs)
+    (λ c. search needs)
+    (λ c. search needs)
+    (λ c. search needs)
+    (λ c κs. search needs)
+    (λ c. search needs)
+    (λ c κs. search needs)
+    (λ c. search needs)
+    (λ c. search needs)
+    (λ c. search needs)
+    (λ c. search needs)
+    (λ c κs. search needs)
+    (λ c. search needs)
     returns)

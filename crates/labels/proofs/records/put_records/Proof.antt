@@ -49,12 +49,6 @@ put-record-requires c κs =
     let long = c .before .before .before .loop .inv .1 .as-long in
     search needs
 
-add-i : tie.Need-add-i Inv-loop μ-loop
-add-i c = search needs
-
-loop-less : tie.Need-loop-less Inv-loop μ-loop
-loop-less c = search needs
-
 loop-again : tie.Need-loop-again Inv-loop μ-loop
 loop-again c =
     let m = c .before .before in
@@ -69,9 +63,6 @@ loop-again c =
           (as-long (pairs (a .list .now)) (a .from) (a .n) (a .w) (s .pre .0)) (r .before .loop-test .taken) (sym (ap length (own .0)) ∙ own .1) _
           (m .put-record .ensures ∙ ap (λ x. sets (l .loop .new) (a .w * l .loop .i) (with x)) (own .0)),
     )
-
-same-length : tie.Need-same-length Inv-loop μ-loop
-same-length c = search needs
 
 returns : tie.Need-returns Inv-loop μ-loop
 returns c =
@@ -90,8 +81,8 @@ put-records-spec =
     record-requires
     mul-put-record
     put-record-requires
-    add-i
-    loop-less
+    (λ c. search needs)
+    (λ c. search needs)
     loop-again
-    same-length
+    (λ c. search needs)
     returns)

@@ -34,17 +34,11 @@ positioned c = c .before .before .before .before
 long : (c : tie.After-new2) → length (c .before .put-number .last .0) ≡ length (labelled (numbered c) .before .before .before .args .new .now)
 long c = omega (arith, c .new2 .given, simp length-set at (numbered c .new .given))
 
-row-bytes-requires : tie.Need-row-bytes-requires
-row-bytes-requires c κs = search needs
-
 mul-value-at : tie.Need-mul-value-at
 mul-value-at c = omega (arith, widths c)
 
 add-value-at : tie.Need-add-value-at
 add-value-at c = omega (arith, widths c)
-
-sub-value-at : tie.Need-sub-value-at
-sub-value-at c = search needs
 
 value-at-requires : tie.Need-value-at-requires
 value-at-requires c κs = omega (arith, widths c)
@@ -76,9 +70,6 @@ put-number-requires c κs = omega (arith, widths (labelled (c .before .before)),
 add-put-word-2 : tie.Need-add-put-word-2
 add-put-word-2 c = omega (arith, widths (labelled (numbered (c .before .before))))
 
-mul-put-word : tie.Need-mul-put-word
-mul-put-word c = search needs
-
 add-put-word-3 : tie.Need-add-put-word-3
 add-put-word-3 c = omega (arith, widths (labelled (numbered (c .before .before))))
 
@@ -87,9 +78,6 @@ put-word-requires-2 c κs = omega (arith, widths (labelled (numbered (c .before 
 
 add-put-value : tie.Need-add-put-value
 add-put-value c = omega (arith, widths (labelled (numbered (positioned (c .before .before)))))
-
-sub-put-value : tie.Need-sub-put-value
-sub-put-value c = search needs
 
 put-value-requires : tie.Need-put-value-requires
 put-value-requires c κs =
@@ -122,10 +110,10 @@ pub put-line-spec : {M : Type 1} → statement M
 put-line-spec =
     tie.close
     (tie.spec
-    row-bytes-requires
+    (λ c κs. search needs)
     mul-value-at
     add-value-at
-    sub-value-at
+    (λ c. search needs)
     value-at-requires
     mul-start
     slice-write-new
@@ -136,11 +124,11 @@ put-line-spec =
     add-put-number
     put-number-requires
     add-put-word-2
-    mul-put-word
+    (λ c. search needs)
     add-put-word-3
     put-word-requires-2
     add-put-value
-    sub-put-value
+    (λ c. search needs)
     put-value-requires
     same-length
     returns)

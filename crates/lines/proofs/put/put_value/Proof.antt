@@ -16,28 +16,10 @@ abbrev μ-loop : tie.MeasureT-loop
 loop-holds : tie.Need-loop-holds Inv-loop μ-loop
 loop-holds c = (omega arith, all-left (c .args .new .now) (c .args .at) _ _ (omega arith))
 
-array-read-new : tie.Need-array-read-new Inv-loop μ-loop
-array-read-new c = search needs
-
-add-new : tie.Need-add-new Inv-loop μ-loop
-add-new c = search needs
-
-slice-write-new : tie.Need-slice-write-new Inv-loop μ-loop
-slice-write-new c = search needs
-
-add-k : tie.Need-add-k Inv-loop μ-loop
-add-k c = search needs
-
-loop-less : tie.Need-loop-less Inv-loop μ-loop
-loop-less c = search needs
-
 loop-again : tie.Need-loop-again Inv-loop μ-loop
 loop-again c =
     let l = c .before in
     (omega arith, byte-written (l .loop .k) (l .before .args .t3) (l .loop .inv .1) (omega (arith, l .before .good)))
-
-same-length : tie.Need-same-length Inv-loop μ-loop
-same-length c = search needs
 
 returns : tie.Need-returns Inv-loop μ-loop
 returns c =
@@ -51,11 +33,11 @@ put-value-spec =
     Inv-loop
     μ-loop
     loop-holds
-    array-read-new
-    add-new
-    slice-write-new
-    add-k
-    loop-less
+    (λ c. search needs)
+    (λ c. search needs)
+    (λ c. search needs)
+    (λ c. search needs)
+    (λ c. search needs)
     loop-again
-    same-length
+    (λ c. search needs)
     returns)

@@ -7,30 +7,6 @@ use borrow.Author.Needs.{needs}
 use Rattle.listing.proofs.answers.put_verdict.Statement.{statement}
 use Rattle.listing.proofs.answers.put_verdict.Tie as tie
 
-enum-told : tie.Need-enum-told
-enum-told c = search needs
-
-put-kept-requires : tie.Need-put-kept-requires
-put-kept-requires c κs = search needs
-
-enum-known-v : tie.Need-enum-known-v
-enum-known-v c = search needs
-
-put-found-requires : tie.Need-put-found-requires
-put-found-requires c κs = search needs
-
-enum-known-v-2 : tie.Need-enum-known-v-2
-enum-known-v-2 c = search needs
-
-put-found-requires-2 : tie.Need-put-found-requires-2
-put-found-requires-2 c κs = search needs
-
-enum-known-v-3 : tie.Need-enum-known-v-3
-enum-known-v-3 c = search needs
-
-put-found-requires-3 : tie.Need-put-found-requires-3
-put-found-requires-3 c κs = search needs
-
 returns : tie.Need-returns
 returns c = (put-as (c .put-kept .ensures .0) (sym (ap (λ v. verdictText (numbersOf v)) (c .before .before .enum-told .given .1))), c .put-kept .ensures .1)
 
@@ -47,14 +23,14 @@ pub put-verdict-spec : {M : Type 1} → statement M
 put-verdict-spec =
     tie.close
     (tie.spec
-    enum-told
-    put-kept-requires
-    enum-known-v
-    put-found-requires
-    enum-known-v-2
-    put-found-requires-2
-    enum-known-v-3
-    put-found-requires-3
+    (λ c. search needs)
+    (λ c κs. search needs)
+    (λ c. search needs)
+    (λ c κs. search needs)
+    (λ c. search needs)
+    (λ c κs. search needs)
+    (λ c. search needs)
+    (λ c κs. search needs)
     returns
     returns-2
     returns-3

@@ -8,21 +8,6 @@ use borrow.Author.Needs.{needs}
 use Rattle.listing.proofs.edge.put_edge.Statement.{statement}
 use Rattle.listing.proofs.edge.put_edge.Tie as tie
 
-slice-aggregate-put-bytes : tie.Need-slice-aggregate-put-bytes
-slice-aggregate-put-bytes c = search needs
-
-put-bytes-requires : tie.Need-put-bytes-requires
-put-bytes-requires c κs = search needs
-
-put-after-requires : tie.Need-put-after-requires
-put-after-requires c κs = search needs
-
-put-numbers-requires : tie.Need-put-numbers-requires
-put-numbers-requires c κs = search needs
-
-put-byte-requires : tie.Need-put-byte-requires
-put-byte-requires c κs = search needs
-
 returns : tie.Need-returns
 unfolding followed parted edgeText
 returns c =
@@ -37,9 +22,9 @@ pub put-edge-spec : {M : Type 1} → statement M
 put-edge-spec =
     tie.close
     (tie.spec
-    slice-aggregate-put-bytes
-    put-bytes-requires
-    put-after-requires
-    put-numbers-requires
-    put-byte-requires
+    (λ c. search needs)
+    (λ c κs. search needs)
+    (λ c κs. search needs)
+    (λ c κs. search needs)
+    (λ c κs. search needs)
     returns)

@@ -6,21 +6,6 @@ use borrow.Author.Needs.{needs}
 use Rattle.listing.proofs.edge.put_numbers.Statement.{statement}
 use Rattle.listing.proofs.edge.put_numbers.Tie as tie
 
-put-after-requires : tie.Need-put-after-requires
-put-after-requires c κs = search needs
-
-put-after-requires-2 : tie.Need-put-after-requires-2
-put-after-requires-2 c κs = search needs
-
-put-after-requires-3 : tie.Need-put-after-requires-3
-put-after-requires-3 c κs = search needs
-
-put-after-requires-4 : tie.Need-put-after-requires-4
-put-after-requires-4 c κs = search needs
-
-same-length : tie.Need-same-length
-same-length c = search needs
-
 returns : tie.Need-returns
 unfolding followed
 returns c =
@@ -36,9 +21,9 @@ pub put-numbers-spec : {M : Type 1} → statement M
 put-numbers-spec =
     tie.close
     (tie.spec
-    put-after-requires
-    put-after-requires-2
-    put-after-requires-3
-    put-after-requires-4
-    same-length
+    (λ c κs. search needs)
+    (λ c κs. search needs)
+    (λ c κs. search needs)
+    (λ c κs. search needs)
+    (λ c. search needs)
     returns)

@@ -10,21 +10,6 @@ use borrow.Author.Needs.{needs}
 use Rattle.listing.proofs.line.put_dewey.Statement.{statement}
 use Rattle.listing.proofs.line.put_dewey.Tie as tie
 
-shared-slice-read-wide : tie.Need-shared-slice-read-wide
-shared-slice-read-wide c = search needs
-
-wide-requires : tie.Need-wide-requires
-wide-requires c κs = search needs
-
-smaller-requires : tie.Need-smaller-requires
-smaller-requires c κs = search needs
-
-put-list-requires : tie.Need-put-list-requires
-put-list-requires c κs = search needs
-
-same-length : tie.Need-same-length
-same-length c = search needs
-
 returns : tie.Need-returns
 unfolding rowOf
 returns c =
@@ -39,4 +24,4 @@ returns c =
 
 pub put-dewey-spec : {M : Type 1} → statement M
 put-dewey-spec =
-    tie.close (tie.spec shared-slice-read-wide wide-requires smaller-requires put-list-requires same-length returns)
+    tie.close (tie.spec (λ c. search needs) (λ c κs. search needs) (λ c κs. search needs) (λ c κs. search needs) (λ c. search needs) returns)

@@ -21,24 +21,6 @@ loop-holds : tie.Need-loop-holds Inv-loop μ-loop
 unfolding followed
 loop-holds c = (omega arith, omega arith, refl, put-none (c .before .before .args .out .now) (c .before .before .args .at))
 
-mul-word : tie.Need-mul-word Inv-loop μ-loop
-mul-word c = search needs
-
-add-word : tie.Need-add-word Inv-loop μ-loop
-add-word c = search needs
-
-word-requires : tie.Need-word-requires Inv-loop μ-loop
-word-requires c κs = search needs
-
-put-after-requires : tie.Need-put-after-requires Inv-loop μ-loop
-put-after-requires c κs = search needs
-
-add-k : tie.Need-add-k Inv-loop μ-loop
-add-k c = search needs
-
-loop-less : tie.Need-loop-less Inv-loop μ-loop
-loop-less c = search needs
-
 loop-again : tie.Need-loop-again Inv-loop μ-loop
 loop-again c =
     let a = c .before .before in
@@ -48,9 +30,6 @@ loop-again c =
     let said = leading-put decimal dot held 6 (l .loop .k) (w .word .result) (w .word .ensures .0) in
     let put = said (l .loop .inv .3) (a .put-after .ensures .0) in
     (omega arith, omega (arith, a .put-after .ensures .1), as-long put, put)
-
-same-length : tie.Need-same-length Inv-loop μ-loop
-same-length c = search needs
 
 returns : tie.Need-returns Inv-loop μ-loop
 returns c =
@@ -65,12 +44,12 @@ put-further-spec =
     Inv-loop
     μ-loop
     loop-holds
-    mul-word
-    add-word
-    word-requires
-    put-after-requires
-    add-k
-    loop-less
+    (λ c. search needs)
+    (λ c. search needs)
+    (λ c κs. search needs)
+    (λ c κs. search needs)
+    (λ c. search needs)
+    (λ c. search needs)
     loop-again
-    same-length
+    (λ c. search needs)
     returns)

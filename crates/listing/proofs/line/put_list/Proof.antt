@@ -15,21 +15,6 @@ returns c =
     let a = c .before .before .before .args in
     (put-as (put-none (a .out .now) (a .at)) (no-numbers (a .n) (a .held .now) (c .if1 .taken)), omega arith)
 
-word-requires : tie.Need-word-requires
-word-requires c κs = search needs
-
-put-number-requires : tie.Need-put-number-requires
-put-number-requires c κs = search needs
-
-sub-put-further : tie.Need-sub-put-further
-sub-put-further c = search needs
-
-put-further-requires : tie.Need-put-further-requires
-put-further-requires c κs = search needs
-
-same-length : tie.Need-same-length
-same-length c = search needs
-
 returns-2 : tie.Need-returns-2
 returns-2 c =
     let f = c .before .before in
@@ -44,4 +29,4 @@ returns-2 c =
 
 pub put-list-spec : {M : Type 1} → statement M
 put-list-spec =
-    tie.close (tie.spec returns word-requires put-number-requires sub-put-further put-further-requires same-length returns-2)
+    tie.close (tie.spec returns (λ c κs. search needs) (λ c κs. search needs) (λ c. search needs) (λ c κs. search needs) (λ c. search needs) returns-2)

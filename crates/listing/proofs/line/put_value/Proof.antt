@@ -9,27 +9,6 @@ use borrow.Author.Needs.{needs}
 use Rattle.listing.proofs.line.put_value.Statement.{statement}
 use Rattle.listing.proofs.line.put_value.Tie as tie
 
-entry-bytes-requires : tie.Need-entry-bytes-requires
-entry-bytes-requires c κs = search needs
-
-long-requires : tie.Need-long-requires
-long-requires c κs = search needs
-
-put-number-requires : tie.Need-put-number-requires
-put-number-requires c κs = search needs
-
-sub-put-after : tie.Need-sub-put-after
-sub-put-after c = search needs
-
-add-put-after : tie.Need-add-put-after
-add-put-after c = search needs
-
-put-after-requires : tie.Need-put-after-requires
-put-after-requires c κs = search needs
-
-same-length : tie.Need-same-length
-same-length c = search needs
-
 returns : tie.Need-returns
 unfolding rowOf
 returns c =
@@ -42,9 +21,6 @@ returns c =
       put-as (n .put-number .ensures .0) (not-below (rowOf (a .f) row .value) (v .long .result) is (omega arith)),
       omega (arith, n .put-number .ensures .1),
     )
-
-same-length-2 : tie.Need-same-length-2
-same-length-2 c = search needs
 
 returns-2 : tie.Need-returns-2
 unfolding rowOf
@@ -63,13 +39,13 @@ pub put-value-spec : {M : Type 1} → statement M
 put-value-spec =
     tie.close
     (tie.spec
-    entry-bytes-requires
-    long-requires
-    put-number-requires
-    sub-put-after
-    add-put-after
-    put-after-requires
-    same-length
+    (λ c κs. search needs)
+    (λ c κs. search needs)
+    (λ c κs. search needs)
+    (λ c. search needs)
+    (λ c. search needs)
+    (λ c κs. search needs)
+    (λ c. search needs)
     returns
-    same-length-2
+    (λ c. search needs)
     returns-2)

@@ -21,12 +21,6 @@ held k = getD (map (λ n. take 9 (n ++ replicate 9 space)) names) k []
 right : ℕ → Bool
 right k = same (take (length (nameOf k)) (held k)) (nameOf k)
 
-mul-result : tie.Need-mul-result
-mul-result c = search needs
-
-array-copy-out-result : tie.Need-array-copy-out-result
-array-copy-out-result c = search needs
-
 returns : tie.Need-returns
 unfolding names nameOf right
 returns c =
@@ -34,4 +28,4 @@ returns c =
     same-eq (take (length (nameOf k)) (held k)) (nameOf k) (all-has right k (count 0 named) refl (has-count 0 named k (search needs) (search needs)))
 
 pub name-bytes-spec : {M : Type 1} → statement M
-name-bytes-spec = tie.close (tie.spec mul-result array-copy-out-result returns)
+name-bytes-spec = tie.close (tie.spec (λ c. search needs) (λ c. search needs) returns)

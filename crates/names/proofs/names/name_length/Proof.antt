@@ -23,12 +23,6 @@ held k = getD (map length names) k 0
 right : ℕ → Bool
 right k = eqb (held k) (length (nameOf k)) && leb (held k) 9
 
-array-read-wide : tie.Need-array-read-wide
-array-read-wide c = search needs
-
-wide-requires : tie.Need-wide-requires
-wide-requires c κs = search needs
-
 returns : tie.Need-returns
 unfolding names nameOf right
 returns c =
@@ -38,4 +32,4 @@ returns c =
     (told ∙ eqb-true (held k) (length (nameOf k)) (h .0), omega (arith, told, leb-true (held k) 9 (h .1)))
 
 pub name-length-spec : {M : Type 1} → statement M
-name-length-spec = tie.close (tie.spec array-read-wide wide-requires returns)
+name-length-spec = tie.close (tie.spec (λ c. search needs) (λ c κs. search needs) returns)

@@ -7,23 +7,11 @@ use borrow.Author.Needs.{needs}
 use Rattle.names.proofs.put.put_number.Statement.{statement}
 use Rattle.names.proofs.put.put_number.Tie as tie
 
-decimal-requires : tie.Need-decimal-requires
-decimal-requires c κs = search needs
-
-array-share-prefix-text : tie.Need-array-share-prefix-text
-array-share-prefix-text c = search needs
-
-slice-aggregate-put-bytes : tie.Need-slice-aggregate-put-bytes
-slice-aggregate-put-bytes c = search needs
-
 put-bytes-requires : tie.Need-put-bytes-requires
 put-bytes-requires c κs =
     let d = c .before .before in
     let few = few-digits (d .decimal .result) (d .before .before .before .args .n) (d .decimal .ensures .1 .0) (omega arith) in
     omega (arith, d .decimal .ensures .0 .1)
-
-same-length : tie.Need-same-length
-same-length c = search needs
 
 returns : tie.Need-returns
 returns c =
@@ -38,9 +26,9 @@ pub put-number-spec : {M : Type 1} → statement M
 put-number-spec =
     tie.close
     (tie.spec
-    decimal-requires
-    array-share-prefix-text
-    slice-aggregate-put-bytes
+    (λ c κs. search needs)
+    (λ c. search needs)
+    (λ c. search needs)
     put-bytes-requires
-    same-length
+    (λ c. search needs)
     returns)

@@ -23,20 +23,8 @@ returns c = empty-part _ (c .if1 .taken)
 returns-2 : tie.Need-returns-2
 returns-2 c = long-part _ (c .if2 .taken)
 
-shared-slice-read-guess : tie.Need-shared-slice-read-guess
-shared-slice-read-guess c = search needs
-
-guess-requires : tie.Need-guess-requires
-guess-requires c κs = search needs
-
 returns-3 : tie.Need-returns-3
 returns-3 c = no-guess (partAt (c .before)) (c .before .guess .result) (guessed (c .before)) (c .if3 .taken)
-
-is-name-requires : tie.Need-is-name-requires
-is-name-requires c κs = search needs
-
-add-result : tie.Need-add-result
-add-result c = search needs
 
 returns-4 : tie.Need-returns-4
 returns-4 c =
@@ -54,10 +42,10 @@ by-name-spec =
     (tie.spec
     returns
     returns-2
-    shared-slice-read-guess
-    guess-requires
+    (λ c. search needs)
+    (λ c κs. search needs)
     returns-3
-    is-name-requires
-    add-result
+    (λ c κs. search needs)
+    (λ c. search needs)
     returns-4
     returns-5)

@@ -8,9 +8,6 @@ use Rattle.names.proofs.word.first_at.Tie as tie
 returns : tie.Need-returns
 returns c = first-none _ (c .if1 .taken)
 
-shared-slice-read-if2 : tie.Need-shared-slice-read-if2
-shared-slice-read-if2 c = search needs
-
 returns-2 : tie.Need-returns-2
 returns-2 c = first-dot _ (omega arith) (c .if2 .taken)
 
@@ -18,4 +15,4 @@ returns-3 : tie.Need-returns-3
 returns-3 c = first-other _ (omega arith) (c .if2 .left)
 
 pub first-at-spec : {M : Type 1} → statement M
-first-at-spec = tie.close (tie.spec returns shared-slice-read-if2 returns-2 returns-3)
+first-at-spec = tie.close (tie.spec returns (λ c. search needs) returns-2 returns-3)

@@ -16,26 +16,14 @@ Inv-loop part k n name i₀ i = (i ≤ n) × ((j : ℕ) → j < i → getD part 
 abbrev μ-loop : tie.MeasureT-loop
 μ-loop part k n name i₀ i = n - i
 
-name-length-requires : tie.Need-name-length-requires Inv-loop μ-loop
-name-length-requires c κs = search needs
-
 returns : tie.Need-returns Inv-loop μ-loop
 returns c =
     let n = c .before .name-length in
     let s = c .before .before .before .args in
     not-same (nameOf (s .k)) (s .part .now) (λ e. c .if1 .taken (sym (ap length e) ∙ sym (n .ensures .0)))
 
-name-bytes-requires : tie.Need-name-bytes-requires Inv-loop μ-loop
-name-bytes-requires c κs = search needs
-
 loop-holds : tie.Need-loop-holds Inv-loop μ-loop
 loop-holds c = (search needs, below-none _)
-
-shared-slice-read-if2 : tie.Need-shared-slice-read-if2 Inv-loop μ-loop
-shared-slice-read-if2 c = search needs
-
-array-read-if2 : tie.Need-array-read-if2 Inv-loop μ-loop
-array-read-if2 c = search needs
 
 returns-2 : tie.Need-returns-2 Inv-loop μ-loop
 returns-2 c =
@@ -43,12 +31,6 @@ returns-2 c =
     let n = l .before .before .before in
     let s = n .before .before .args in
     differs (nameOf (s .k)) (s .part .now) (l .before .name-bytes .result) (l .before .name-bytes .ensures) (l .loop .i) (omega (arith, n .name-length .ensures .0)) (c .if2 .taken)
-
-add-i : tie.Need-add-i Inv-loop μ-loop
-add-i c = search needs
-
-loop-less : tie.Need-loop-less Inv-loop μ-loop
-loop-less c = search needs
 
 loop-again : tie.Need-loop-again Inv-loop μ-loop
 loop-again c = let l = c .before .before .before .loop in (search needs, below-more _ _ (l .inv .1) (c .if2 .left))
@@ -67,14 +49,14 @@ is-name-spec =
     (tie.spec
     Inv-loop
     μ-loop
-    name-length-requires
+    (λ c κs. search needs)
     returns
-    name-bytes-requires
+    (λ c κs. search needs)
     loop-holds
-    shared-slice-read-if2
-    array-read-if2
+    (λ c. search needs)
+    (λ c. search needs)
     returns-2
-    add-i
-    loop-less
+    (λ c. search needs)
+    (λ c. search needs)
     loop-again
     returns-3)

@@ -8,9 +8,6 @@ use Rattle.names.proofs.Labelled.{by-its-name, by-its-number, is-label,
 use Rattle.names.proofs.word.label_of.Statement.{statement}
 use Rattle.names.proofs.word.label_of.Tie as tie
 
-by-name-requires : tie.Need-by-name-requires
-by-name-requires c κs = search needs
-
 returns : tie.Need-returns
 returns c =
     let n = c .before .before .before in
@@ -22,9 +19,6 @@ returns-2 c =
     let n = c .before .before .before in
     let some : 0 < n .by-name .result = omega (arith, c .before .before .if1 .taken) in
     is-label _ _ (n .by-name .result) some (c .if2 .left) (by-its-name (n .by-name .ensures) some)
-
-by-number-requires : tie.Need-by-number-requires
-by-number-requires c κs = search needs
 
 returns-3 : tie.Need-returns-3
 returns-3 c =
@@ -49,4 +43,4 @@ returns-5 c =
 pub label-of-spec : {M : Type 1} → statement M
 label-of-spec =
     tie.close
-    (tie.spec by-name-requires returns returns-2 by-number-requires returns-3 returns-4 returns-5)
+    (tie.spec (λ c κs. search needs) returns returns-2 (λ c κs. search needs) returns-3 returns-4 returns-5)

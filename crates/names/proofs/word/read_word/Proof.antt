@@ -22,16 +22,10 @@ abbrev μ-loop : tie.MeasureT-loop
 abbrev begun : tie.After-part-end Inv-loop μ-loop → tie.Start Inv-loop μ-loop
 begun c = c .before .before .before .before .before
 
-first-at-requires : tie.Need-first-at-requires Inv-loop μ-loop
-first-at-requires c κs = search needs
-
 loop-holds : tie.Need-loop-holds Inv-loop μ-loop
 loop-holds c =
     let w = c .before .before .args .word .now in
     (omega (arith, c .first-at .ensures, first-within w), omega arith, none-read _ w _ _ (c .first-at .ensures) refl)
-
-part-end-requires : tie.Need-part-end-requires Inv-loop μ-loop
-part-end-requires c κs = search needs
 
 sub-label-of : tie.Need-sub-label-of Inv-loop μ-loop
 sub-label-of c = omega (arith, c .part-end .ensures .begins)
@@ -44,9 +38,6 @@ part-label-of-end c = omega (arith, c .part-end .ensures .begins, c .part-end .e
 
 label-of-requires : tie.Need-label-of-requires Inv-loop μ-loop
 label-of-requires c κs = begun (c .before) .pre .0
-
-no-name-requires : tie.Need-no-name-requires Inv-loop μ-loop
-no-name-requires c κs = search needs
 
 returns : tie.Need-returns Inv-loop μ-loop
 returns c =
@@ -65,21 +56,6 @@ cast-labels c =
     let l = c .before .before in
     let small = label-small _ _ (l .label-of .ensures) (begun (l .before .before) .pre .0 .small) in
     omega arith
-
-mul-labels : tie.Need-mul-labels Inv-loop μ-loop
-mul-labels c = search needs
-
-array-write-labels : tie.Need-array-write-labels Inv-loop μ-loop
-array-write-labels c = search needs
-
-add-size : tie.Need-add-size Inv-loop μ-loop
-add-size c = search needs
-
-add-p : tie.Need-add-p Inv-loop μ-loop
-add-p c = search needs
-
-loop-less : tie.Need-loop-less Inv-loop μ-loop
-loop-less c = search needs
 
 loop-again : tie.Need-loop-again Inv-loop μ-loop
 loop-again c =
@@ -112,20 +88,20 @@ read-word-spec =
     (tie.spec
     Inv-loop
     μ-loop
-    first-at-requires
+    (λ c κs. search needs)
     loop-holds
-    part-end-requires
+    (λ c κs. search needs)
     sub-label-of
     part-label-of-start
     part-label-of-end
     label-of-requires
-    no-name-requires
+    (λ c κs. search needs)
     returns
     cast-labels
-    mul-labels
-    array-write-labels
-    add-size
-    add-p
-    loop-less
+    (λ c. search needs)
+    (λ c. search needs)
+    (λ c. search needs)
+    (λ c. search needs)
+    (λ c. search needs)
     loop-again
     returns-2)

@@ -18,9 +18,6 @@ abbrev μ-loop : tie.MeasureT-loop
 loop-holds : tie.Need-loop-holds Inv-loop μ-loop
 loop-holds c = (omega arith, c .pre .0, λ e lt le. let z : ⊥ = omega arith in absurd z)
 
-of-entry-requires : tie.Need-of-entry-requires Inv-loop μ-loop
-of-entry-requires c κs = search needs
-
 returns : tie.Need-returns Inv-loop μ-loop
 returns c =
     let l = c .before .before .before in
@@ -30,12 +27,6 @@ returns c =
       passed = l .loop .inv .2;
       here = λ lt. omega (arith, c .if1 .taken, c .before .of-entry .ensures .0, c .before .of-entry .ensures .1);
     }
-
-add-c : tie.Need-add-c Inv-loop μ-loop
-add-c c = search needs
-
-loop-less : tie.Need-loop-less Inv-loop μ-loop
-loop-less c = search needs
 
 loop-again : tie.Need-loop-again Inv-loop μ-loop
 loop-again c =
@@ -59,9 +50,9 @@ first-alone-spec =
     Inv-loop
     μ-loop
     loop-holds
-    of-entry-requires
+    (λ c κs. search needs)
     returns
-    add-c
-    loop-less
+    (λ c. search needs)
+    (λ c. search needs)
     loop-again
     returns-2)

@@ -18,9 +18,6 @@ abbrev μ-loop : tie.MeasureT-loop
 loop-holds : tie.Need-loop-holds Inv-loop μ-loop
 loop-holds c = (omega arith, filling-none _ _ _ _ _ refl refl refl)
 
-add-c : tie.Need-add-c Inv-loop μ-loop
-add-c c = search needs
-
 -- the turn of the loop, and its entry
 abbrev turn : tie.Then1 Inv-loop μ-loop → tie.At-loop Inv-loop μ-loop
 turn c = c .before .before
@@ -32,62 +29,17 @@ entry l = l .before .args .first + l .loop .e
 inside : (c : tie.Then1 Inv-loop μ-loop) → (0 < entry (turn c)) × (entry (turn c) < turn c .before .args .t1 .entries)
 inside c = has-edge (turn c .before .args .t1) (entry (turn c)) (c .if1 .taken)
 
-element-copy-out-run-bound : tie.Need-element-copy-out-run-bound Inv-loop μ-loop
-element-copy-out-run-bound c = search needs
-
-run-bound-requires : tie.Need-run-bound-requires Inv-loop μ-loop
-run-bound-requires c κs = search needs
-
-cast-bounds : tie.Need-cast-bounds Inv-loop μ-loop
-cast-bounds c = search needs
-
-mul-bounds : tie.Need-mul-bounds Inv-loop μ-loop
-mul-bounds c = search needs
-
-array-write-bounds : tie.Need-array-write-bounds Inv-loop μ-loop
-array-write-bounds c = search needs
-
-element-copy-out-wide : tie.Need-element-copy-out-wide Inv-loop μ-loop
-element-copy-out-wide c = search needs
-
-wide-requires : tie.Need-wide-requires Inv-loop μ-loop
-wide-requires c κs = search needs
-
 element-copy-out-over : tie.Need-element-copy-out-over Inv-loop μ-loop
 element-copy-out-over c =
     let t = c .before .before .before .before in
     let l = turn t in
     omega (arith, c .wide .ensures .0, l .before .pre .0 .under (entry l) (inside t .0) (inside t .1), l .before .pre .0 .few, inside t .1)
 
-cast-over : tie.Need-cast-over Inv-loop μ-loop
-cast-over c = search needs
-
-mul-over : tie.Need-mul-over Inv-loop μ-loop
-mul-over c = search needs
-
-array-write-over : tie.Need-array-write-over Inv-loop μ-loop
-array-write-over c = search needs
-
-element-copy-out-own : tie.Need-element-copy-out-own Inv-loop μ-loop
-element-copy-out-own c = search needs
-
 cast-own : tie.Need-cast-own Inv-loop μ-loop
 cast-own c =
     let t = c .before .before .before .before .before .before in
     let l = turn t in
     omega (arith, l .before .pre .0 .typed (entry l) (inside t .1))
-
-mul-own : tie.Need-mul-own Inv-loop μ-loop
-mul-own c = search needs
-
-array-write-own : tie.Need-array-write-own Inv-loop μ-loop
-array-write-own c = search needs
-
-add-e : tie.Need-add-e Inv-loop μ-loop
-add-e c = search needs
-
-loop-less : tie.Need-loop-less Inv-loop μ-loop
-loop-less c = search needs
 
 loop-again : tie.Need-loop-again Inv-loop μ-loop
 loop-again c =
@@ -99,30 +51,6 @@ loop-again c =
       filling-more _ _ (omega arith) (l .loop .inv .1) _ _ _ (walking-edge (a .t1) (entry l) (b .run-bound .ensures) (inside t .0) (inside t .1)
           (ap (typeOf (a .t1)) (c .before .before .wide .ensures .0)) refl),
     )
-
-mul-bounds-2 : tie.Need-mul-bounds-2 Inv-loop μ-loop
-mul-bounds-2 c = search needs
-
-array-write-bounds-2 : tie.Need-array-write-bounds-2 Inv-loop μ-loop
-array-write-bounds-2 c = search needs
-
-mul-over-2 : tie.Need-mul-over-2 Inv-loop μ-loop
-mul-over-2 c = search needs
-
-array-write-over-2 : tie.Need-array-write-over-2 Inv-loop μ-loop
-array-write-over-2 c = search needs
-
-mul-own-2 : tie.Need-mul-own-2 Inv-loop μ-loop
-mul-own-2 c = search needs
-
-array-write-own-2 : tie.Need-array-write-own-2 Inv-loop μ-loop
-array-write-own-2 c = search needs
-
-add-e-2 : tie.Need-add-e-2 Inv-loop μ-loop
-add-e-2 c = search needs
-
-loop-less-2 : tie.Need-loop-less-2 Inv-loop μ-loop
-loop-less-2 c = search needs
 
 loop-again-2 : tie.Need-loop-again-2 Inv-loop μ-loop
 loop-again-2 c =
@@ -142,32 +70,32 @@ group-from-spec =
     Inv-loop
     μ-loop
     loop-holds
-    add-c
-    element-copy-out-run-bound
-    run-bound-requires
-    cast-bounds
-    mul-bounds
-    array-write-bounds
-    element-copy-out-wide
-    wide-requires
+    (λ c. search needs)
+    (λ c. search needs)
+    (λ c κs. search needs)
+    (λ c. search needs)
+    (λ c. search needs)
+    (λ c. search needs)
+    (λ c. search needs)
+    (λ c κs. search needs)
     element-copy-out-over
-    cast-over
-    mul-over
-    array-write-over
-    element-copy-out-own
+    (λ c. search needs)
+    (λ c. search needs)
+    (λ c. search needs)
+    (λ c. search needs)
     cast-own
-    mul-own
-    array-write-own
-    add-e
-    loop-less
+    (λ c. search needs)
+    (λ c. search needs)
+    (λ c. search needs)
+    (λ c. search needs)
     loop-again
-    mul-bounds-2
-    array-write-bounds-2
-    mul-over-2
-    array-write-over-2
-    mul-own-2
-    array-write-own-2
-    add-e-2
-    loop-less-2
+    (λ c. search needs)
+    (λ c. search needs)
+    (λ c. search needs)
+    (λ c. search needs)
+    (λ c. search needs)
+    (λ c. search needs)
+    (λ c. search needs)
+    (λ c. search needs)
     loop-again-2
     returns)

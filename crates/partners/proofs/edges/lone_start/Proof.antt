@@ -8,15 +8,6 @@ use borrow.Author.Needs.{needs}
 use Rattle.partners.proofs.edges.lone_start.Statement.{statement}
 use Rattle.partners.proofs.edges.lone_start.Tie as tie
 
-returns : tie.Need-returns
-returns c = search needs
-
-of-entry-requires : tie.Need-of-entry-requires
-of-entry-requires c κs = search needs
-
-element-copy-out-run-start : tie.Need-element-copy-out-run-start
-element-copy-out-run-start c = search needs
-
 sub-run-start : tie.Need-sub-run-start
 sub-run-start c = let o = c .before in omega (arith, o .of-entry .ensures .0, o .before .before .before .pre .1 (o .before .if1 .left) .0)
 
@@ -36,9 +27,9 @@ pub lone-start-spec : {M : Type 1} → statement M
 lone-start-spec =
     tie.close
     (tie.spec
-    returns
-    of-entry-requires
-    element-copy-out-run-start
+    (λ c. search needs)
+    (λ c κs. search needs)
+    (λ c. search needs)
     sub-run-start
     run-start-requires
     returns-2)

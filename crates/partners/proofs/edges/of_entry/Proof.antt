@@ -6,28 +6,10 @@ use borrow.Author.Needs.{needs}
 use Rattle.partners.proofs.edges.of_entry.Statement.{statement}
 use Rattle.partners.proofs.edges.of_entry.Tie as tie
 
-mul-wide16 : tie.Need-mul-wide16
-mul-wide16 c = search needs
-
-array-read-wide16 : tie.Need-array-read-wide16
-array-read-wide16 c = search needs
-
-wide16-requires : tie.Need-wide16-requires
-wide16-requires c κs = search needs
-
 returns : tie.Need-returns
 returns c =
     let a = c .before .before .args in
     (c .wide16 .ensures .0 ∙ sym (of-high (a .t1) (a .t2) (a .c) (c .before .if1 .taken)), omega (arith, c .wide16 .ensures .1))
-
-mul-wide16-2 : tie.Need-mul-wide16-2
-mul-wide16-2 c = search needs
-
-array-read-wide16-2 : tie.Need-array-read-wide16-2
-array-read-wide16-2 c = search needs
-
-wide16-requires-2 : tie.Need-wide16-requires-2
-wide16-requires-2 c κs = search needs
 
 returns-2 : tie.Need-returns-2
 returns-2 c =
@@ -38,11 +20,11 @@ pub of-entry-spec : {M : Type 1} → statement M
 of-entry-spec =
     tie.close
     (tie.spec
-    mul-wide16
-    array-read-wide16
-    wide16-requires
+    (λ c. search needs)
+    (λ c. search needs)
+    (λ c κs. search needs)
     returns
-    mul-wide16-2
-    array-read-wide16-2
-    wide16-requires-2
+    (λ c. search needs)
+    (λ c. search needs)
+    (λ c κs. search needs)
     returns-2)

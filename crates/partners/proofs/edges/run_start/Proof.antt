@@ -23,14 +23,8 @@ Inv-loop levels l row bound i₀ i = (i ≤ row) × (startOf levels l i ≡ star
 abbrev μ-loop : tie.MeasureT-loop
 μ-loop levels l row bound i₀ i = i
 
-run-bound-requires : tie.Need-run-bound-requires Inv-loop μ-loop
-run-bound-requires c κs = search needs
-
 loop-holds : tie.Need-loop-holds Inv-loop μ-loop
 loop-holds c = (omega arith, refl)
-
-shared-slice-read-if1 : tie.Need-shared-slice-read-if1 Inv-loop μ-loop
-shared-slice-read-if1 c = search needs
 
 returns : tie.Need-returns Inv-loop μ-loop
 returns c =
@@ -39,12 +33,6 @@ returns c =
     sym (start-begins (a .levels .now) (a .l) (w .loop .i)
     (begins-within (a .levels .now) (a .l) (w .before .run-bound .result) (w .loop .i) (w .before .run-bound .ensures)
     (c .before .shared-slice-known2 .given (w .loop .i) .fits) (c .if1 .taken))) ∙ w .loop .inv .1
-
-sub-i : tie.Need-sub-i Inv-loop μ-loop
-sub-i c = search needs
-
-loop-less : tie.Need-loop-less Inv-loop μ-loop
-loop-less c = search needs
 
 loop-again : tie.Need-loop-again Inv-loop μ-loop
 loop-again c =
@@ -69,11 +57,11 @@ run-start-spec =
     (tie.spec
     Inv-loop
     μ-loop
-    run-bound-requires
+    (λ c κs. search needs)
     loop-holds
-    shared-slice-read-if1
+    (λ c. search needs)
     returns
-    sub-i
-    loop-less
+    (λ c. search needs)
+    (λ c. search needs)
     loop-again
     returns-2)

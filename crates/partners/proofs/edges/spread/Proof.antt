@@ -17,45 +17,6 @@ abbrev μ-loop : tie.MeasureT-loop
 loop-holds : tie.Need-loop-holds Inv-loop μ-loop
 loop-holds c = (omega arith, halves-none _ _ _ refl)
 
-mul-told : tie.Need-mul-told Inv-loop μ-loop
-mul-told c = search needs
-
-array-read-told : tie.Need-array-read-told Inv-loop μ-loop
-array-read-told c = search needs
-
-told-requires : tie.Need-told-requires Inv-loop μ-loop
-told-requires c κs = search needs
-
-mul-all : tie.Need-mul-all Inv-loop μ-loop
-mul-all c = search needs
-
-array-write-all : tie.Need-array-write-all Inv-loop μ-loop
-array-write-all c = search needs
-
-mul-told-2 : tie.Need-mul-told-2 Inv-loop μ-loop
-mul-told-2 c = search needs
-
-array-read-told-2 : tie.Need-array-read-told-2 Inv-loop μ-loop
-array-read-told-2 c = search needs
-
-told-requires-2 : tie.Need-told-requires-2 Inv-loop μ-loop
-told-requires-2 c κs = search needs
-
-add-all : tie.Need-add-all Inv-loop μ-loop
-add-all c = search needs
-
-mul-all-2 : tie.Need-mul-all-2 Inv-loop μ-loop
-mul-all-2 c = search needs
-
-array-write-all-2 : tie.Need-array-write-all-2 Inv-loop μ-loop
-array-write-all-2 c = search needs
-
-add-e : tie.Need-add-e Inv-loop μ-loop
-add-e c = search needs
-
-loop-less : tie.Need-loop-less Inv-loop μ-loop
-loop-less c = search needs
-
 loop-again : tie.Need-loop-again Inv-loop μ-loop
 loop-again c =
     let l = c .before .before .before in
@@ -74,18 +35,18 @@ spread-spec =
     Inv-loop
     μ-loop
     loop-holds
-    mul-told
-    array-read-told
-    told-requires
-    mul-all
-    array-write-all
-    mul-told-2
-    array-read-told-2
-    told-requires-2
-    add-all
-    mul-all-2
-    array-write-all-2
-    add-e
-    loop-less
+    (λ c. search needs)
+    (λ c. search needs)
+    (λ c κs. search needs)
+    (λ c. search needs)
+    (λ c. search needs)
+    (λ c. search needs)
+    (λ c. search needs)
+    (λ c κs. search needs)
+    (λ c. search needs)
+    (λ c. search needs)
+    (λ c. search needs)
+    (λ c. search needs)
+    (λ c. search needs)
     loop-again
     returns)

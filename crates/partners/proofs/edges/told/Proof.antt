@@ -8,11 +8,8 @@ use Rattle.partners.proofs.edges.told.Tie as tie
 returns : tie.Need-returns
 returns c = sym (zero-of _ (c .if1 .taken))
 
-wide16-requires : tie.Need-wide16-requires
-wide16-requires c κs = search needs
-
 returns-2 : tie.Need-returns-2
 returns-2 c = c .wide16 .ensures .0 ∙ sym (one-of _ (c .before .if1 .left))
 
 pub told-spec : {M : Type 1} → statement M
-told-spec = tie.close (tie.spec returns wide16-requires returns-2)
+told-spec = tie.close (tie.spec returns (λ c κs. search needs) returns-2)

@@ -26,27 +26,6 @@ walked c = groups (first-spread (second-spread (third-spread (last-spread c))))
 abbrev begun : tie.After-walk-group2 → tie.Start
 begun c = c .before .before .before .before
 
-walk-group-requires : tie.Need-walk-group-requires
-walk-group-requires c κs = search needs
-
-walk-group-requires-2 : tie.Need-walk-group-requires-2
-walk-group-requires-2 c κs = search needs
-
-spread-requires : tie.Need-spread-requires
-spread-requires c κs = search needs
-
-spread-requires-2 : tie.Need-spread-requires-2
-spread-requires-2 c κs = search needs
-
-spread-requires-3 : tie.Need-spread-requires-3
-spread-requires-3 c κs = search needs
-
-spread-requires-4 : tie.Need-spread-requires-4
-spread-requires-4 c κs = search needs
-
-first-alone-requires : tie.Need-first-alone-requires
-first-alone-requires c κs = search needs
-
 lone-start-requires : tie.Need-lone-start-requires
 lone-start-requires c κs =
     let g = walked c in
@@ -72,12 +51,12 @@ pub walk-edges-spec : {M : Type 1} → statement M
 walk-edges-spec =
     tie.close
     (tie.spec
-    walk-group-requires
-    walk-group-requires-2
-    spread-requires
-    spread-requires-2
-    spread-requires-3
-    spread-requires-4
-    first-alone-requires
+    (λ c κs. search needs)
+    (λ c κs. search needs)
+    (λ c κs. search needs)
+    (λ c κs. search needs)
+    (λ c κs. search needs)
+    (λ c κs. search needs)
+    (λ c κs. search needs)
     lone-start-requires
     returns)

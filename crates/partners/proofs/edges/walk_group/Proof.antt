@@ -12,9 +12,6 @@ known c = c .before .before .before
 abbrev begun : tie.After-struct-known2 → tie.Start
 begun c = known c .before
 
-nothing-requires : tie.Need-nothing-requires
-nothing-requires c κs = search needs
-
 returns : tie.Need-returns
 returns c =
     let t = c .before in
@@ -22,12 +19,6 @@ returns c =
     let a = s .args in
     nothing-found (a .levels .now) (a .types .now) (a .rows) (s .pre .0) (λ i lt. known (t .before) .shared-slice-known .given i .fits) (a .shape)
     (none-there (a .shape) (a .first) (t .if1 .taken)) (c .nothing .ensures)
-
-group-from-requires : tie.Need-group-from-requires
-group-from-requires c κs = search needs
-
-walk-eight-requires : tie.Need-walk-eight-requires
-walk-eight-requires c κs = search needs
 
 returns-2 : tie.Need-returns-2
 returns-2 c =
@@ -39,4 +30,4 @@ returns-2 c =
     (g .group-from .ensures) (c .walk-eight .ensures)
 
 pub walk-group-spec : {M : Type 1} → statement M
-walk-group-spec = tie.close (tie.spec nothing-requires returns group-from-requires walk-eight-requires returns-2)
+walk-group-spec = tie.close (tie.spec (λ c κs. search needs) returns (λ c κs. search needs) (λ c κs. search needs) returns-2)

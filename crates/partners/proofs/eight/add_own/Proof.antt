@@ -24,35 +24,11 @@ turn c = c .before .before
 loop-holds : tie.Need-loop-holds Inv-loop μ-loop
 loop-holds c = (omega arith, filled-none _ 0 places (c .args .t1) (omega (arith, c .good)))
 
-mul-if1 : tie.Need-mul-if1 Inv-loop μ-loop
-mul-if1 c = search needs
-
-array-read-if1 : tie.Need-array-read-if1 Inv-loop μ-loop
-array-read-if1 c = search needs
-
-mul-on : tie.Need-mul-on Inv-loop μ-loop
-mul-on c = search needs
-
-array-read-on : tie.Need-array-read-on Inv-loop μ-loop
-array-read-on c = search needs
-
 add-on : tie.Need-add-on Inv-loop μ-loop
 add-on c =
     let l = turn (c .before) in
     let own : c .before .if1 .own ≤ 1 = ⊎-elim (λ w. omega (arith, w .1)) (λ w. omega (arith, w .1)) (c .before .if1 .came) in
     omega (arith, own, l .before .pre (l .loop .e) (omega arith))
-
-mul-on-2 : tie.Need-mul-on-2 Inv-loop μ-loop
-mul-on-2 c = search needs
-
-array-write-on : tie.Need-array-write-on Inv-loop μ-loop
-array-write-on c = search needs
-
-add-e : tie.Need-add-e Inv-loop μ-loop
-add-e c = search needs
-
-loop-less : tie.Need-loop-less Inv-loop μ-loop
-loop-less c = search needs
 
 -- what is put at a place is the rows counted there
 lane : (c : tie.Joined1 Inv-loop μ-loop) →
@@ -84,14 +60,14 @@ add-own-spec =
     Inv-loop
     μ-loop
     loop-holds
-    mul-if1
-    array-read-if1
-    mul-on
-    array-read-on
+    (λ c. search needs)
+    (λ c. search needs)
+    (λ c. search needs)
+    (λ c. search needs)
     add-on
-    mul-on-2
-    array-write-on
-    add-e
-    loop-less
+    (λ c. search needs)
+    (λ c. search needs)
+    (λ c. search needs)
+    (λ c. search needs)
     loop-again
     returns)

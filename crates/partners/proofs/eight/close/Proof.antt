@@ -6,27 +6,6 @@ use borrow.Author.Needs.{needs}
 use Rattle.partners.proofs.eight.close.Statement.{statement}
 use Rattle.partners.proofs.eight.close.Tie as tie
 
-ended-requires : tie.Need-ended-requires
-ended-requires c κs = search needs
-
-ended-requires-2 : tie.Need-ended-requires-2
-ended-requires-2 c κs = search needs
-
-fewest-requires : tie.Need-fewest-requires
-fewest-requires c κs = search needs
-
-greatest-requires : tie.Need-greatest-requires
-greatest-requires c κs = search needs
-
-fewest-requires-2 : tie.Need-fewest-requires-2
-fewest-requires-2 c κs = search needs
-
-greatest-requires-2 : tie.Need-greatest-requires-2
-greatest-requires-2 c κs = search needs
-
-first-end-requires : tie.Need-first-end-requires
-first-end-requires c κs = search needs
-
 returns : tie.Need-returns
 returns c =
     let many-parents = c .before .before in
@@ -53,11 +32,11 @@ pub close-spec : {M : Type 1} → statement M
 close-spec =
     tie.close
     (tie.spec
-    ended-requires
-    ended-requires-2
-    fewest-requires
-    greatest-requires
-    fewest-requires-2
-    greatest-requires-2
-    first-end-requires
+    (λ c κs. search needs)
+    (λ c κs. search needs)
+    (λ c κs. search needs)
+    (λ c κs. search needs)
+    (λ c κs. search needs)
+    (λ c κs. search needs)
+    (λ c κs. search needs)
     returns)

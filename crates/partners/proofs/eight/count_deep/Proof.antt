@@ -28,14 +28,8 @@ loop-holds c =
     let a = s .args in
     deep-none (a .levels .now) (a .types .now) (a .rows) (a .over) (a .own) (a .bound) (a .at) (s .pre .1)
 
-shared-slice-read-if1 : tie.Need-shared-slice-read-if1 Inv-loop μ-loop
-shared-slice-read-if1 c = search needs
-
 cast-if1 : tie.Need-cast-if1 Inv-loop μ-loop
 cast-if1 c = omega (arith, c .shared-slice-known3 .given (c .before .before .loop .i))
-
-shared-slice-read-k : tie.Need-shared-slice-read-k Inv-loop μ-loop
-shared-slice-read-k c = search needs
 
 cast-k : tie.Need-cast-k Inv-loop μ-loop
 cast-k c = omega (arith, c .shared-slice-known4 .given (c .before .before .before .before .loop .i))
@@ -45,12 +39,6 @@ add-own-requires c κs e lt = let l = turn c in omega (arith, l .loop .inv .few 
 
 add-own-requires-2 : tie.Need-add-own-requires-2 Inv-loop μ-loop
 add-own-requires-2 c κs e lt = let l = turn (c .before) in omega (arith, l .loop .inv .few .children-few e lt, begun l .pre .0 .few)
-
-add-i : tie.Need-add-i Inv-loop μ-loop
-add-i c = search needs
-
-loop-less : tie.Need-loop-less Inv-loop μ-loop
-loop-less c = search needs
 
 loop-again : tie.Need-loop-again Inv-loop μ-loop
 loop-again c =
@@ -62,12 +50,6 @@ loop-again c =
     deep-more (a .levels .now) (a .types .now) (a .rows) (a .over) (a .own) (a .bound) (l .loop .inv) (omega arith) deeper (p .add-own .ensures)
     (c .add-own2 .ensures)
 
-returns : tie.Need-returns Inv-loop μ-loop
-returns c = search needs
-
-returns-2 : tie.Need-returns-2 Inv-loop μ-loop
-returns-2 c = search needs
-
 pub count-deep-spec : {M : Type 1} → statement M
 count-deep-spec =
     tie.close
@@ -75,14 +57,14 @@ count-deep-spec =
     Inv-loop
     μ-loop
     loop-holds
-    shared-slice-read-if1
+    (λ c. search needs)
     cast-if1
-    shared-slice-read-k
+    (λ c. search needs)
     cast-k
     add-own-requires
     add-own-requires-2
-    add-i
-    loop-less
+    (λ c. search needs)
+    (λ c. search needs)
     loop-again
-    returns
-    returns-2)
+    (λ c. search needs)
+    (λ c. search needs))

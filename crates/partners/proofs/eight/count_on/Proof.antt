@@ -25,24 +25,6 @@ turn c = c .before .before .before
 loop-holds : tie.Need-loop-holds Inv-loop μ-loop
 loop-holds c = (omega arith, filled-none _ 0 places (c .args .t1) (omega (arith, c .good)))
 
-mul-if1 : tie.Need-mul-if1 Inv-loop μ-loop
-mul-if1 c = search needs
-
-array-read-if1 : tie.Need-array-read-if1 Inv-loop μ-loop
-array-read-if1 c = search needs
-
-mul-before : tie.Need-mul-before Inv-loop μ-loop
-mul-before c = search needs
-
-array-read-before : tie.Need-array-read-before Inv-loop μ-loop
-array-read-before c = search needs
-
-mul-if2 : tie.Need-mul-if2 Inv-loop μ-loop
-mul-if2 c = search needs
-
-array-read-if2 : tie.Need-array-read-if2 Inv-loop μ-loop
-array-read-if2 c = search needs
-
 add-on : tie.Need-add-on Inv-loop μ-loop
 add-on c =
     let j = c .before .before in
@@ -51,18 +33,6 @@ add-on c =
     ⊎-elim (λ w. omega (arith, w .1)) (λ w. omega (arith, w .1)) (j .before .if1 .came) in
     let own : j .if2 .own ≤ 1 = ⊎-elim (λ w. omega (arith, w .1)) (λ w. omega (arith, w .1)) (j .if2 .came) in
     omega (arith, before, own, l .before .pre (l .loop .e) (omega arith))
-
-mul-on : tie.Need-mul-on Inv-loop μ-loop
-mul-on c = search needs
-
-array-write-on : tie.Need-array-write-on Inv-loop μ-loop
-array-write-on c = search needs
-
-add-e : tie.Need-add-e Inv-loop μ-loop
-add-e c = search needs
-
-loop-less : tie.Need-loop-less Inv-loop μ-loop
-loop-less c = search needs
 
 -- what is put at a place is the rows counted there
 lane : (c : tie.Joined2 Inv-loop μ-loop) →
@@ -98,16 +68,16 @@ count-on-spec =
     Inv-loop
     μ-loop
     loop-holds
-    mul-if1
-    array-read-if1
-    mul-before
-    array-read-before
-    mul-if2
-    array-read-if2
+    (λ c. search needs)
+    (λ c. search needs)
+    (λ c. search needs)
+    (λ c. search needs)
+    (λ c. search needs)
+    (λ c. search needs)
     add-on
-    mul-on
-    array-write-on
-    add-e
-    loop-less
+    (λ c. search needs)
+    (λ c. search needs)
+    (λ c. search needs)
+    (λ c. search needs)
     loop-again
     returns)

@@ -20,30 +20,6 @@ abbrev μ-loop : tie.MeasureT-loop
 loop-holds : tie.Need-loop-holds Inv-loop μ-loop
 loop-holds c = (omega arith, filled-none _ 0 places (c .args .t1) (omega (arith, c .good)))
 
-mul-if1 : tie.Need-mul-if1 Inv-loop μ-loop
-mul-if1 c = search needs
-
-array-read-if1 : tie.Need-array-read-if1 Inv-loop μ-loop
-array-read-if1 c = search needs
-
-mul-gone : tie.Need-mul-gone Inv-loop μ-loop
-mul-gone c = search needs
-
-array-read-gone : tie.Need-array-read-gone Inv-loop μ-loop
-array-read-gone c = search needs
-
-mul-gone-2 : tie.Need-mul-gone-2 Inv-loop μ-loop
-mul-gone-2 c = search needs
-
-array-write-gone : tie.Need-array-write-gone Inv-loop μ-loop
-array-write-gone c = search needs
-
-add-e : tie.Need-add-e Inv-loop μ-loop
-add-e c = search needs
-
-loop-less : tie.Need-loop-less Inv-loop μ-loop
-loop-less c = search needs
-
 -- what is put at a place is what was counted in a run that ends
 lane : (c : tie.Joined1 Inv-loop μ-loop) →
     let l = c .before .before in
@@ -72,13 +48,13 @@ ended-spec =
     Inv-loop
     μ-loop
     loop-holds
-    mul-if1
-    array-read-if1
-    mul-gone
-    array-read-gone
-    mul-gone-2
-    array-write-gone
-    add-e
-    loop-less
+    (λ c. search needs)
+    (λ c. search needs)
+    (λ c. search needs)
+    (λ c. search needs)
+    (λ c. search needs)
+    (λ c. search needs)
+    (λ c. search needs)
+    (λ c. search needs)
     loop-again
     returns)

@@ -60,12 +60,6 @@ one-more c =
     walked-more (a .levels .now) (a .types .now) (a .bounds) (a .over) (a .own) (l .loop .inv .1) (level-is (p .before)) (d .close .ensures)
     (p .count-on .ensures) (c .count-on2 .ensures)
 
-deepest-requires : tie.Need-deepest-requires Inv-loop μ-loop
-deepest-requires c κs = search needs
-
-nothing-requires : tie.Need-nothing-requires Inv-loop μ-loop
-nothing-requires c κs = search needs
-
 loop-holds : tie.Need-loop-holds Inv-loop μ-loop
 loop-holds c =
     let a = c .before .before .before .before .args in
@@ -73,12 +67,6 @@ loop-holds c =
 
 level-at-requires : tie.Need-level-at-requires Inv-loop μ-loop
 level-at-requires c κs = begun c .pre .levels-long
-
-cast-close : tie.Need-cast-close Inv-loop μ-loop
-cast-close c = search needs
-
-close-requires : tie.Need-close-requires Inv-loop μ-loop
-close-requires c κs = search needs
 
 returns : tie.Need-returns Inv-loop μ-loop
 returns c =
@@ -90,9 +78,6 @@ returns c =
     (d .before .level-at .ensures .past (omega (arith, q))) (d .close .ensures) in
     subst (λ n. WalkedAll (a .levels .now) (a .types .now) n (a .bounds) (a .over) (a .own) (d .close .result)) q all
 
-shared-slice-read-k : tie.Need-shared-slice-read-k Inv-loop μ-loop
-shared-slice-read-k c = search needs
-
 cast-k : tie.Need-cast-k Inv-loop μ-loop
 cast-k c = omega (arith, c .shared-slice-known3 .given (turn (closed c) .loop .i))
 
@@ -101,9 +86,6 @@ count-on-requires c κs e lt = let l = turn (closed c) in omega (arith, few l .p
 
 count-on-requires-2 : tie.Need-count-on-requires-2 Inv-loop μ-loop
 count-on-requires-2 c κs e lt = let l = turn (closed (c .before)) in omega (arith, few l .children-few e lt, begun l .pre .few)
-
-add-row : tie.Need-add-row Inv-loop μ-loop
-add-row c = search needs
 
 count-deep-requires : tie.Need-count-deep-requires Inv-loop μ-loop
 count-deep-requires c κs =
@@ -132,18 +114,18 @@ walk-eight-spec =
     (tie.spec
     Inv-loop
     μ-loop
-    deepest-requires
-    nothing-requires
+    (λ c κs. search needs)
+    (λ c κs. search needs)
     loop-holds
     level-at-requires
-    cast-close
-    close-requires
+    (λ c. search needs)
+    (λ c κs. search needs)
     returns
-    shared-slice-read-k
+    (λ c. search needs)
     cast-k
     count-on-requires
     count-on-requires-2
-    add-row
+    (λ c. search needs)
     count-deep-requires
     loop-less
     loop-again)

@@ -4,11 +4,8 @@ use borrow.Author.Needs.{needs}
 use Rattle.printing.proofs.width.served.Statement.{statement}
 use Rattle.printing.proofs.width.served.Tie as tie
 
-format-of-requires : tie.Need-format-of-requires
-format-of-requires c κs = search needs
-
 returns : tie.Need-returns
 returns c = format-served (c .format-of .result) (c .before .args .width) (c .format-of .ensures)
 
 pub served-spec : {M : Type 1} → statement M
-served-spec = tie.close (tie.spec format-of-requires returns)
+served-spec = tie.close (tie.spec (λ c κs. search needs) returns)

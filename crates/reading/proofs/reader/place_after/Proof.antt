@@ -20,15 +20,9 @@ begun c = c .before .before .before
 wide : (c : tie.After-row-bytes) → c .row-bytes .result ≡ rowBytes (formatOf (begun c .args .width))
 wide c = c .row-bytes .ensures ∙ ap rowBytes (c .before .format-of .ensures)
 
-format-of-requires : tie.Need-format-of-requires
-format-of-requires c κs = search needs
-
 row-bytes-requires : tie.Need-row-bytes-requires
 row-bytes-requires c κs =
     omega (arith, format-served (c .format-of .result) (c .before .before .args .width) (c .format-of .ensures) .shallow)
-
-div-if1 : tie.Need-div-if1
-div-if1 c = search needs
 
 add-result : tie.Need-add-result
 add-result c =
@@ -48,4 +42,4 @@ returns-2 c =
 
 pub place-after-spec : {M : Type 1} → statement M
 place-after-spec =
-    tie.close (tie.spec format-of-requires row-bytes-requires div-if1 add-result returns returns-2)
+    tie.close (tie.spec (λ c κs. search needs) row-bytes-requires (λ c. search needs) add-result returns returns-2)

@@ -21,15 +21,9 @@ begun c = c .before .before .before
 wide : (c : tie.After-row-bytes) → c .row-bytes .result ≡ rowBytes (formatOf (begun c .args .width))
 wide c = c .row-bytes .ensures ∙ ap rowBytes (c .before .format-of .ensures)
 
-format-of-requires : tie.Need-format-of-requires
-format-of-requires c κs = search needs
-
 row-bytes-requires : tie.Need-row-bytes-requires
 row-bytes-requires c κs =
     omega (arith, format-served (c .format-of .result) (c .before .before .args .width) (c .format-of .ensures) .shallow)
-
-div-rows : tie.Need-div-rows
-div-rows c = search needs
 
 record-requires : tie.Need-record-requires
 record-requires c κs =
@@ -47,15 +41,6 @@ returns c =
     (r .result) (subst (λ w. now (r .result) ≡ take w (drop (w * a .at) (a .table .now))) (wide x) (r .ensures .0))
     (subst (λ w. OwnFrom (a .table) (w * a .at) (r .result)) (wide x) (r .ensures .2))
 
-sub-result : tie.Need-sub-result
-sub-result c = search needs
-
-part-result-start : tie.Need-part-result-start
-part-result-start c = search needs
-
-part-result-end : tie.Need-part-result-end
-part-result-end c = search needs
-
 returns-2 : tie.Need-returns-2
 returns-2 c =
     let e = c .before in
@@ -66,12 +51,12 @@ pub row-at-spec : {M : Type 1} → statement M
 row-at-spec =
     tie.close
     (tie.spec
-    format-of-requires
+    (λ c κs. search needs)
     row-bytes-requires
-    div-rows
+    (λ c. search needs)
     record-requires
     returns
-    sub-result
-    part-result-start
-    part-result-end
+    (λ c. search needs)
+    (λ c. search needs)
+    (λ c. search needs)
     returns-2)

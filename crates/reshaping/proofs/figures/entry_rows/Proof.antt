@@ -24,32 +24,8 @@ begun c = c .before .before .before
 abbrev turn : tie.After-smaller Inv-loop μ-loop → tie.In-loop Inv-loop μ-loop
 turn c = c .before .before .before .before .before
 
-mul-entry-at : tie.Need-mul-entry-at Inv-loop μ-loop
-mul-entry-at c = search needs
-
 loop-holds : tie.Need-loop-holds Inv-loop μ-loop
 loop-holds c = (zero-le, zero-le, zero-le, refl, refl)
-
-shared-slice-read-if1 : tie.Need-shared-slice-read-if1 Inv-loop μ-loop
-shared-slice-read-if1 c = search needs
-
-add-held : tie.Need-add-held Inv-loop μ-loop
-add-held c = search needs
-
-add-wide16 : tie.Need-add-wide16 Inv-loop μ-loop
-add-wide16 c = search needs
-
-mul-wide16 : tie.Need-mul-wide16 Inv-loop μ-loop
-mul-wide16 c = search needs
-
-shared-slice-read-wide16 : tie.Need-shared-slice-read-wide16 Inv-loop μ-loop
-shared-slice-read-wide16 c = search needs
-
-wide16-requires : tie.Need-wide16-requires Inv-loop μ-loop
-wide16-requires c κs = search needs
-
-smaller-requires : tie.Need-smaller-requires Inv-loop μ-loop
-smaller-requires c κs = search needs
 
 -- a row counts once at the most
 once : (c : tie.After-smaller Inv-loop μ-loop) →
@@ -60,12 +36,6 @@ once c = (c .smaller .ensures ∙ ap (λ n. min n 1) (c .before .wide16 .ensures
 
 add-different : tie.Need-add-different Inv-loop μ-loop
 add-different c = omega (arith, once c .1, turn c .before .loop .inv .2, turn c .loop-test .taken)
-
-add-i : tie.Need-add-i Inv-loop μ-loop
-add-i c = search needs
-
-loop-less : tie.Need-loop-less Inv-loop μ-loop
-loop-less c = search needs
 
 loop-again : tie.Need-loop-again Inv-loop μ-loop
 loop-again c =
@@ -80,12 +50,6 @@ loop-again c =
       sum-row (a .types .now) (a .k) (v .i) (v .held) (λ _. 1) held 1 own refl,
       sum-row (a .types .now) (a .k) (v .i) (v .different) _ different (c .smaller .result) own (once c .0),
     )
-
-add-i-2 : tie.Need-add-i-2 Inv-loop μ-loop
-add-i-2 c = search needs
-
-loop-less-2 : tie.Need-loop-less-2 Inv-loop μ-loop
-loop-less-2 c = search needs
 
 loop-again-2 : tie.Need-loop-again-2 Inv-loop μ-loop
 loop-again-2 c =
@@ -115,20 +79,20 @@ entry-rows-spec =
     (tie.spec
     Inv-loop
     μ-loop
-    mul-entry-at
+    (λ c. search needs)
     loop-holds
-    shared-slice-read-if1
-    add-held
-    add-wide16
-    mul-wide16
-    shared-slice-read-wide16
-    wide16-requires
-    smaller-requires
+    (λ c. search needs)
+    (λ c. search needs)
+    (λ c. search needs)
+    (λ c. search needs)
+    (λ c. search needs)
+    (λ c κs. search needs)
+    (λ c κs. search needs)
     add-different
-    add-i
-    loop-less
+    (λ c. search needs)
+    (λ c. search needs)
     loop-again
-    add-i-2
-    loop-less-2
+    (λ c. search needs)
+    (λ c. search needs)
     loop-again-2
     returns)

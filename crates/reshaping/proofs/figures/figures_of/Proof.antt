@@ -38,14 +38,8 @@ entry-rows-requires c κs =
     let (long, few, _, room) = begun (c .before) .pre .0 in
     (long, few, omega (arith, place c))
 
-mul-held : tie.Need-mul-held Inv-loop μ-loop
-mul-held c = search needs
-
 array-write-held : tie.Need-array-write-held Inv-loop μ-loop
 array-write-held c = place (c .before)
-
-mul-copies : tie.Need-mul-copies Inv-loop μ-loop
-mul-copies c = search needs
 
 array-read-copies : tie.Need-array-read-copies Inv-loop μ-loop
 array-read-copies c = place (c .before)
@@ -56,23 +50,11 @@ sub-copies c =
     let t = r .before in
     omega (arith, r .entry-rows .ensures .1, begun (t .before) .pre .1 (t .before .loop .e) (t .loop-test .taken))
 
-mul-copies-2 : tie.Need-mul-copies-2 Inv-loop μ-loop
-mul-copies-2 c = search needs
-
 array-write-copies : tie.Need-array-write-copies Inv-loop μ-loop
 array-write-copies c = place (c .before .before)
 
-mul-different : tie.Need-mul-different Inv-loop μ-loop
-mul-different c = search needs
-
 array-write-different : tie.Need-array-write-different Inv-loop μ-loop
 array-write-different c = place (c .before .before)
-
-add-e : tie.Need-add-e Inv-loop μ-loop
-add-e c = search needs
-
-loop-less : tie.Need-loop-less Inv-loop μ-loop
-loop-less c = search needs
 
 loop-again : tie.Need-loop-again Inv-loop μ-loop
 loop-again c =
@@ -108,16 +90,16 @@ figures-of-spec =
     loop-holds
     array-read-entry-rows
     entry-rows-requires
-    mul-held
+    (λ c. search needs)
     array-write-held
-    mul-copies
+    (λ c. search needs)
     array-read-copies
     sub-copies
-    mul-copies-2
+    (λ c. search needs)
     array-write-copies
-    mul-different
+    (λ c. search needs)
     array-write-different
-    add-e
-    loop-less
+    (λ c. search needs)
+    (λ c. search needs)
     loop-again
     returns)

@@ -32,18 +32,6 @@ types x = x .read-rows .last .1 .1 .1 .0
 rows : (u : tie.Else1) → let x = readAt u in let a = begun x .args in RowsIn (a .f) (a .table .now) (x .read-rows .result) (levels x) (types x)
 rows u = readAt u .read-rows .ensures .read (u .if1 .left)
 
-slice-aggregate-read-rows : tie.Need-slice-aggregate-read-rows
-slice-aggregate-read-rows c = search needs
-
-slice-aggregate-read-rows-2 : tie.Need-slice-aggregate-read-rows-2
-slice-aggregate-read-rows-2 c = search needs
-
-read-rows-requires : tie.Need-read-rows-requires
-read-rows-requires c κs = search needs
-
-refused-requires : tie.Need-refused-requires
-refused-requires c κs = search needs
-
 returns : tie.Need-returns
 returns c =
     let x = c .before .before .before .before in
@@ -55,20 +43,8 @@ returns c =
     leaves (begun x .pre) t s (a .new .now) (a .sources .now) (c .refused .result) (r .number) (r .place) (c .refused .ensures)
     (reshape-refused (a .f) t s (r .number) (r .place) e (a .new .now) (a .sources .now))
 
-slice-aggregate-next-rows : tie.Need-slice-aggregate-next-rows
-slice-aggregate-next-rows c = search needs
-
-slice-aggregate-next-rows-2 : tie.Need-slice-aggregate-next-rows-2
-slice-aggregate-next-rows-2 c = search needs
-
 next-rows-requires : tie.Need-next-rows-requires
 next-rows-requires c κs = let y = rows (passed c) .rows-are in ((y .few, y .types-long, search needs), y .type-few)
-
-slice-aggregate-reshape-rows : tie.Need-slice-aggregate-reshape-rows
-slice-aggregate-reshape-rows c = search needs
-
-slice-aggregate-reshape-rows-2 : tie.Need-slice-aggregate-reshape-rows-2
-slice-aggregate-reshape-rows-2 c = search needs
 
 slice-aggregate-reshape-rows-3 : tie.Need-slice-aggregate-reshape-rows-3
 slice-aggregate-reshape-rows-3 c = search needs
@@ -81,31 +57,22 @@ reshape-rows-requires c κs =
     let few = rows u .rows-are .few in
     ((begun (readAt u) .pre, rows u), (n .next-rows .ensures, omega (arith, slice-aggregate-reshape-rows-3 l)))
 
-same-length : tie.Need-same-length
-same-length c = search needs
-
-same-length-2 : tie.Need-same-length-2
-same-length-2 c = search needs
-
-returns-2 : tie.Need-returns-2
-returns-2 c = search needs
-
 pub reshape-spec : {M : Type 1} → statement M
 reshape-spec =
     tie.close
     (tie.spec
-    slice-aggregate-read-rows
-    slice-aggregate-read-rows-2
-    read-rows-requires
-    refused-requires
+    (λ c. search needs)
+    (λ c. search needs)
+    (λ c κs. search needs)
+    (λ c κs. search needs)
     returns
-    slice-aggregate-next-rows
-    slice-aggregate-next-rows-2
+    (λ c. search needs)
+    (λ c. search needs)
     next-rows-requires
-    slice-aggregate-reshape-rows
-    slice-aggregate-reshape-rows-2
+    (λ c. search needs)
+    (λ c. search needs)
     slice-aggregate-reshape-rows-3
     reshape-rows-requires
-    same-length
-    same-length-2
-    returns-2)
+    (λ c. search needs)
+    (λ c. search needs)
+    (λ c. search needs))

@@ -50,18 +50,6 @@ room-enough d =
     let few = count-fits (counted-here y (n .count-lines .ensures .1)) (r .result) (omega (arith, r .ensures)) (d .if2 .left) in
     omega (arith, r .ensures, length-is y, few)
 
-slice-aggregate-prepare : tie.Need-slice-aggregate-prepare
-slice-aggregate-prepare c = search needs
-
-slice-aggregate-prepare-2 : tie.Need-slice-aggregate-prepare-2
-slice-aggregate-prepare-2 c = search needs
-
-prepare-requires : tie.Need-prepare-requires
-prepare-requires c κs = search needs
-
-refused-requires : tie.Need-refused-requires
-refused-requires c κs = search needs
-
 returns : tie.Need-returns
 returns c =
     let p = c .before .before .before .before in
@@ -85,12 +73,6 @@ count-lines-requires c κs =
       y .shaped .sized,
       record { runs-long = omega (arith, slice-aggregate-count-lines (c .before)); list-long = omega (arith, slice-aggregate-count-lines-2 c) },
     )
-
-room-in-requires : tie.Need-room-in-requires
-room-in-requires c κs = search needs
-
-refused-requires-2 : tie.Need-refused-requires-2
-refused-requires-2 c κs = search needs
 
 returns-2 : tie.Need-returns-2
 returns-2 c =
@@ -122,12 +104,6 @@ write-table-requires c κs =
     (record { runs-long = omega (arith, slice-aggregate-write-table (l .before)); list-long = omega (arith, slice-aggregate-write-table-2 l) }) in
     (named, (next-as y (s .pre .0 .1) (s .args .next .now) (s .pre .1), fits y (s .args .new .now) (s .args .sources .now) (room-enough b)))
 
-same-length : tie.Need-same-length
-same-length c = search needs
-
-same-length-2 : tie.Need-same-length-2
-same-length-2 c = search needs
-
 returns-3 : tie.Need-returns-3
 returns-3 c =
     let v = c .before .before .before .before .before in
@@ -145,20 +121,20 @@ pub reshape-rows-spec : {M : Type 1} → statement M
 reshape-rows-spec =
     tie.close
     (tie.spec
-    slice-aggregate-prepare
-    slice-aggregate-prepare-2
-    prepare-requires
-    refused-requires
+    (λ c. search needs)
+    (λ c. search needs)
+    (λ c κs. search needs)
+    (λ c κs. search needs)
     returns
     slice-aggregate-count-lines
     slice-aggregate-count-lines-2
     count-lines-requires
-    room-in-requires
-    refused-requires-2
+    (λ c κs. search needs)
+    (λ c κs. search needs)
     returns-2
     slice-aggregate-write-table
     slice-aggregate-write-table-2
     write-table-requires
-    same-length
-    same-length-2
+    (λ c. search needs)
+    (λ c. search needs)
     returns-3)

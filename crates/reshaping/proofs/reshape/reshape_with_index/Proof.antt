@@ -25,18 +25,6 @@ types x = x .read-indexed .last .1 .1 .1 .1 .1 .0
 rows : (u : tie.Else1) → let x = readAt u in let a = begun x .args in RowsIn (a .f) (a .table .now) (x .read-indexed .result) (levels x) (types x)
 rows u = readAt u .read-indexed .ensures .read (u .if1 .left)
 
-slice-aggregate-read-indexed : tie.Need-slice-aggregate-read-indexed
-slice-aggregate-read-indexed c = search needs
-
-slice-aggregate-read-indexed-2 : tie.Need-slice-aggregate-read-indexed-2
-slice-aggregate-read-indexed-2 c = search needs
-
-read-indexed-requires : tie.Need-read-indexed-requires
-read-indexed-requires c κs = search needs
-
-refused-requires : tie.Need-refused-requires
-refused-requires c κs = search needs
-
 returns : tie.Need-returns
 returns c =
     let x = c .before .before .before .before in
@@ -44,24 +32,12 @@ returns c =
     leaves-with (a .f) (a .table .now) (a .shape .now) (a .last .now) (a .next .now) (a .new .now) (a .sources .now) _ _
     (x .read-indexed .ensures .says .refused-is (c .before .if1 .taken)) (c .refused .result) (c .refused .ensures)
 
-slice-aggregate-reshape-rows : tie.Need-slice-aggregate-reshape-rows
-slice-aggregate-reshape-rows c = search needs
-
-slice-aggregate-reshape-rows-2 : tie.Need-slice-aggregate-reshape-rows-2
-slice-aggregate-reshape-rows-2 c = search needs
-
 -- the lent next rows are those of the rows that were read
 reshape-rows-requires : tie.Need-reshape-rows-requires
 reshape-rows-requires c κs =
     let u = c .before .before .before .before in
     let next = readAt u .read-indexed .ensures .next-in (u .if1 .left) in
     ((begun (readAt u) .pre, rows u), (next .nexts, next .long))
-
-same-length : tie.Need-same-length
-same-length c = search needs
-
-same-length-2 : tie.Need-same-length-2
-same-length-2 c = search needs
 
 returns-2 : tie.Need-returns-2
 returns-2 c =
@@ -75,14 +51,14 @@ pub reshape-with-index-spec : {M : Type 1} → statement M
 reshape-with-index-spec =
     tie.close
     (tie.spec
-    slice-aggregate-read-indexed
-    slice-aggregate-read-indexed-2
-    read-indexed-requires
-    refused-requires
+    (λ c. search needs)
+    (λ c. search needs)
+    (λ c κs. search needs)
+    (λ c κs. search needs)
     returns
-    slice-aggregate-reshape-rows
-    slice-aggregate-reshape-rows-2
+    (λ c. search needs)
+    (λ c. search needs)
     reshape-rows-requires
-    same-length
-    same-length-2
+    (λ c. search needs)
+    (λ c. search needs)
     returns-2)

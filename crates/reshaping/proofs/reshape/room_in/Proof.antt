@@ -5,18 +5,6 @@ use borrow.Author.Needs.{needs}
 use Rattle.reshaping.proofs.reshape.room_in.Statement.{statement}
 use Rattle.reshaping.proofs.reshape.room_in.Tie as tie
 
-row-bytes-requires : tie.Need-row-bytes-requires
-row-bytes-requires c κs = search needs
-
-div-smaller : tie.Need-div-smaller
-div-smaller c = search needs
-
-smaller-requires : tie.Need-smaller-requires
-smaller-requires c κs = search needs
-
-smaller-requires-2 : tie.Need-smaller-requires-2
-smaller-requires-2 c κs = search needs
-
 returns : tie.Need-returns
 returns c =
     let p = c .before in
@@ -24,4 +12,4 @@ returns c =
     c .smaller2 .ensures ∙ ap₂ min (ap (λ n. w .before .args .bytes / n) (w .row-bytes .ensures)) (p .smaller .ensures)
 
 pub room-in-spec : {M : Type 1} → statement M
-room-in-spec = tie.close (tie.spec row-bytes-requires div-smaller smaller-requires smaller-requires-2 returns)
+room-in-spec = tie.close (tie.spec (λ c κs. search needs) (λ c. search needs) (λ c κs. search needs) (λ c κs. search needs) returns)

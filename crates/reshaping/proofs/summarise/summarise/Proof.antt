@@ -26,18 +26,6 @@ types x = x .read-rows .last .1 .1 .1 .0
 rows : (u : tie.Else1) → let x = readAt u in let a = begun x .args in RowsIn (a .f) (a .table .now) (x .read-rows .result) (levels x) (types x)
 rows u = readAt u .read-rows .ensures .read (u .if1 .left)
 
-slice-aggregate-read-rows : tie.Need-slice-aggregate-read-rows
-slice-aggregate-read-rows c = search needs
-
-slice-aggregate-read-rows-2 : tie.Need-slice-aggregate-read-rows-2
-slice-aggregate-read-rows-2 c = search needs
-
-read-rows-requires : tie.Need-read-rows-requires
-read-rows-requires c κs = search needs
-
-refused-requires : tie.Need-refused-requires
-refused-requires c κs = search needs
-
 returns : tie.Need-returns
 returns c =
     let x = c .before .before .before .before in
@@ -47,12 +35,6 @@ returns c =
     let r = x .read-rows .result in
     let e = refused-table (a .f) t s (r .number) (r .place) (x .read-rows .ensures .refused-is (c .before .if1 .taken)) in
     c .refused .ensures ∙ sym (summary-refused (a .f) t s (r .number) (r .place) e)
-
-slice-aggregate-summarise-rows : tie.Need-slice-aggregate-summarise-rows
-slice-aggregate-summarise-rows c = search needs
-
-slice-aggregate-summarise-rows-2 : tie.Need-slice-aggregate-summarise-rows-2
-slice-aggregate-summarise-rows-2 c = search needs
 
 summarise-rows-requires : tie.Need-summarise-rows-requires
 summarise-rows-requires c κs = let u = c .before .before in let s = begun (readAt u) in (s .pre, (s .args .table .now, rows u))
@@ -64,12 +46,12 @@ pub summarise-spec : {M : Type 1} → statement M
 summarise-spec =
     tie.close
     (tie.spec
-    slice-aggregate-read-rows
-    slice-aggregate-read-rows-2
-    read-rows-requires
-    refused-requires
+    (λ c. search needs)
+    (λ c. search needs)
+    (λ c κs. search needs)
+    (λ c κs. search needs)
     returns
-    slice-aggregate-summarise-rows
-    slice-aggregate-summarise-rows-2
+    (λ c. search needs)
+    (λ c. search needs)
     summarise-rows-requires
     returns-2)

@@ -56,18 +56,6 @@ fits e t rows =
     let n = counts e in
     count-fits (counted-here (ready (n .before) t rows) (n .count-lines .ensures .1)) mostLines (omega arith) (e .if2 .left)
 
-slice-aggregate-prepare : tie.Need-slice-aggregate-prepare
-slice-aggregate-prepare c = search needs
-
-slice-aggregate-prepare-2 : tie.Need-slice-aggregate-prepare-2
-slice-aggregate-prepare-2 c = search needs
-
-prepare-requires : tie.Need-prepare-requires
-prepare-requires c κs = search needs
-
-refused-requires : tie.Need-refused-requires
-refused-requires c κs = search needs
-
 returns : tie.Need-returns
 returns c t rows =
     let p = c .before .before .before .before in
@@ -89,9 +77,6 @@ count-lines-requires c κs =
       y .shaped .sized,
       record { runs-long = omega (arith, slice-aggregate-count-lines (c .before)); list-long = omega (arith, slice-aggregate-count-lines-2 c) },
     )
-
-refused-requires-2 : tie.Need-refused-requires-2
-refused-requires-2 c κs = search needs
 
 returns-2 : tie.Need-returns-2
 returns-2 c t rows =
@@ -127,15 +112,15 @@ pub summarise-rows-spec : {M : Type 1} → statement M
 summarise-rows-spec =
     tie.close
     (tie.spec
-    slice-aggregate-prepare
-    slice-aggregate-prepare-2
-    prepare-requires
-    refused-requires
+    (λ c. search needs)
+    (λ c. search needs)
+    (λ c κs. search needs)
+    (λ c κs. search needs)
     returns
     slice-aggregate-count-lines
     slice-aggregate-count-lines-2
     count-lines-requires
-    refused-requires-2
+    (λ c κs. search needs)
     returns-2
     slice-aggregate-figures-of
     figures-of-requires

@@ -25,18 +25,6 @@ types x = x .read-indexed .last .1 .1 .1 .1 .1 .0
 rows : (u : tie.Else1) → let x = readAt u in let a = begun x .args in RowsIn (a .f) (a .table .now) (x .read-indexed .result) (levels x) (types x)
 rows u = readAt u .read-indexed .ensures .read (u .if1 .left)
 
-slice-aggregate-read-indexed : tie.Need-slice-aggregate-read-indexed
-slice-aggregate-read-indexed c = search needs
-
-slice-aggregate-read-indexed-2 : tie.Need-slice-aggregate-read-indexed-2
-slice-aggregate-read-indexed-2 c = search needs
-
-read-indexed-requires : tie.Need-read-indexed-requires
-read-indexed-requires c κs = search needs
-
-refused-requires : tie.Need-refused-requires
-refused-requires c κs = search needs
-
 returns : tie.Need-returns
 returns c =
     let x = c .before .before .before .before in
@@ -44,12 +32,6 @@ returns c =
     c .refused .ensures
     ∙ summary-with-refused (a .f) (a .table .now) (a .shape .now) (a .last .now) (a .next .now) _ _
     (x .read-indexed .ensures .says .refused-is (c .before .if1 .taken))
-
-slice-aggregate-summarise-rows : tie.Need-slice-aggregate-summarise-rows
-slice-aggregate-summarise-rows c = search needs
-
-slice-aggregate-summarise-rows-2 : tie.Need-slice-aggregate-summarise-rows-2
-slice-aggregate-summarise-rows-2 c = search needs
 
 summarise-rows-requires : tie.Need-summarise-rows-requires
 summarise-rows-requires c κs = let u = c .before .before in let s = begun (readAt u) in (s .pre, (s .args .table .now, rows u))
@@ -65,12 +47,12 @@ pub summarise-with-index-spec : {M : Type 1} → statement M
 summarise-with-index-spec =
     tie.close
     (tie.spec
-    slice-aggregate-read-indexed
-    slice-aggregate-read-indexed-2
-    read-indexed-requires
-    refused-requires
+    (λ c. search needs)
+    (λ c. search needs)
+    (λ c κs. search needs)
+    (λ c κs. search needs)
     returns
-    slice-aggregate-summarise-rows
-    slice-aggregate-summarise-rows-2
+    (λ c. search needs)
+    (λ c. search needs)
     summarise-rows-requires
     returns-2)

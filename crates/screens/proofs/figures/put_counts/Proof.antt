@@ -34,56 +34,8 @@ room : (c : tie.After-put-counted3) → let a = lines-put (first-comma (rows-put
     (length (c .put-counted3 .last .0) ≡ length (a .out .now)) × (c .put-counted3 .result + 37 ≤ length (a .out .now))
 room c = (search needs, search needs)
 
-slice-aggregate-put-counted : tie.Need-slice-aggregate-put-counted
-slice-aggregate-put-counted c = search needs
-
-slice-aggregate-put-counted-2 : tie.Need-slice-aggregate-put-counted-2
-slice-aggregate-put-counted-2 c = search needs
-
-put-counted-requires : tie.Need-put-counted-requires
-put-counted-requires c κs = search needs
-
-slice-aggregate-put-bytes : tie.Need-slice-aggregate-put-bytes
-slice-aggregate-put-bytes c = search needs
-
-put-bytes-requires : tie.Need-put-bytes-requires
-put-bytes-requires c κs = search needs
-
-slice-aggregate-put-counted-3 : tie.Need-slice-aggregate-put-counted-3
-slice-aggregate-put-counted-3 c = search needs
-
-slice-aggregate-put-counted-4 : tie.Need-slice-aggregate-put-counted-4
-slice-aggregate-put-counted-4 c = search needs
-
-put-counted-requires-2 : tie.Need-put-counted-requires-2
-put-counted-requires-2 c κs = search needs
-
-slice-aggregate-put-bytes-2 : tie.Need-slice-aggregate-put-bytes-2
-slice-aggregate-put-bytes-2 c = search needs
-
-put-bytes-requires-2 : tie.Need-put-bytes-requires-2
-put-bytes-requires-2 c κs = search needs
-
-slice-aggregate-put-counted-5 : tie.Need-slice-aggregate-put-counted-5
-slice-aggregate-put-counted-5 c = search needs
-
-slice-aggregate-put-counted-6 : tie.Need-slice-aggregate-put-counted-6
-slice-aggregate-put-counted-6 c = search needs
-
-put-counted-requires-3 : tie.Need-put-counted-requires-3
-put-counted-requires-3 c κs = search needs
-
-slice-aggregate-put-bytes-3 : tie.Need-slice-aggregate-put-bytes-3
-slice-aggregate-put-bytes-3 c = search needs
-
 put-bytes-requires-3 : tie.Need-put-bytes-requires-3
 put-bytes-requires-3 c κs = omega (arith, room (c .before .before .before .before))
-
-slice-aggregate-put-counted-7 : tie.Need-slice-aggregate-put-counted-7
-slice-aggregate-put-counted-7 c = search needs
-
-slice-aggregate-put-counted-8 : tie.Need-slice-aggregate-put-counted-8
-slice-aggregate-put-counted-8 c = search needs
 
 put-counted-requires-4 : tie.Need-put-counted-requires-4
 put-counted-requires-4 c κs = search (needs, room (copies-put (c .before .before .before .before .before)))
@@ -109,23 +61,23 @@ pub put-counts-spec : {M : Type 1} → statement M
 put-counts-spec =
     tie.close
     (tie.spec
-    slice-aggregate-put-counted
-    slice-aggregate-put-counted-2
-    put-counted-requires
-    slice-aggregate-put-bytes
-    put-bytes-requires
-    slice-aggregate-put-counted-3
-    slice-aggregate-put-counted-4
-    put-counted-requires-2
-    slice-aggregate-put-bytes-2
-    put-bytes-requires-2
-    slice-aggregate-put-counted-5
-    slice-aggregate-put-counted-6
-    put-counted-requires-3
-    slice-aggregate-put-bytes-3
+    (λ c. search needs)
+    (λ c. search needs)
+    (λ c κs. search needs)
+    (λ c. search needs)
+    (λ c κs. search needs)
+    (λ c. search needs)
+    (λ c. search needs)
+    (λ c κs. search needs)
+    (λ c. search needs)
+    (λ c κs. search needs)
+    (λ c. search needs)
+    (λ c. search needs)
+    (λ c κs. search needs)
+    (λ c. search needs)
     put-bytes-requires-3
-    slice-aggregate-put-counted-7
-    slice-aggregate-put-counted-8
+    (λ c. search needs)
+    (λ c. search needs)
     put-counted-requires-4
     same-length
     returns)

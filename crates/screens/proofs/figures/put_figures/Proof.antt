@@ -7,30 +7,6 @@ use borrow.Author.Needs.{needs}
 use Rattle.screens.proofs.figures.put_figures.Statement.{statement}
 use Rattle.screens.proofs.figures.put_figures.Tie as tie
 
-put-indent-requires : tie.Need-put-indent-requires
-put-indent-requires c κs = search needs
-
-put-number-requires : tie.Need-put-number-requires
-put-number-requires c κs = search needs
-
-put-byte-requires : tie.Need-put-byte-requires
-put-byte-requires c κs = search needs
-
-put-name-requires : tie.Need-put-name-requires
-put-name-requires c κs = search needs
-
-slice-aggregate-put-bytes : tie.Need-slice-aggregate-put-bytes
-slice-aggregate-put-bytes c = search needs
-
-put-bytes-requires : tie.Need-put-bytes-requires
-put-bytes-requires c κs = search needs
-
-put-counts-requires : tie.Need-put-counts-requires
-put-counts-requires c κs = search needs
-
-put-byte-requires-2 : tie.Need-put-byte-requires-2
-put-byte-requires-2 c κs = search needs
-
 returns : tie.Need-returns
 unfolding figuresText
 returns c =
@@ -50,12 +26,12 @@ pub put-figures-spec : {M : Type 1} → statement M
 put-figures-spec =
     tie.close
     (tie.spec
-    put-indent-requires
-    put-number-requires
-    put-byte-requires
-    put-name-requires
-    slice-aggregate-put-bytes
-    put-bytes-requires
-    put-counts-requires
-    put-byte-requires-2
+    (λ c κs. search needs)
+    (λ c κs. search needs)
+    (λ c κs. search needs)
+    (λ c κs. search needs)
+    (λ c. search needs)
+    (λ c κs. search needs)
+    (λ c κs. search needs)
+    (λ c κs. search needs)
     returns)

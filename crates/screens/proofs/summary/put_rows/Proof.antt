@@ -6,27 +6,6 @@ use borrow.Author.Needs.{needs}
 use Rattle.screens.proofs.summary.put_rows.Statement.{statement}
 use Rattle.screens.proofs.summary.put_rows.Tie as tie
 
-put-indent-requires : tie.Need-put-indent-requires
-put-indent-requires c κs = search needs
-
-put-name-requires : tie.Need-put-name-requires
-put-name-requires c κs = search needs
-
-put-byte-requires : tie.Need-put-byte-requires
-put-byte-requires c κs = search needs
-
-slice-aggregate-put-counted : tie.Need-slice-aggregate-put-counted
-slice-aggregate-put-counted c = search needs
-
-slice-aggregate-put-counted-2 : tie.Need-slice-aggregate-put-counted-2
-slice-aggregate-put-counted-2 c = search needs
-
-put-counted-requires : tie.Need-put-counted-requires
-put-counted-requires c κs = search needs
-
-same-length : tie.Need-same-length
-same-length c = search needs
-
 returns : tie.Need-returns
 unfolding rowsText
 returns c =
@@ -42,11 +21,11 @@ pub put-rows-spec : {M : Type 1} → statement M
 put-rows-spec =
     tie.close
     (tie.spec
-    put-indent-requires
-    put-name-requires
-    put-byte-requires
-    slice-aggregate-put-counted
-    slice-aggregate-put-counted-2
-    put-counted-requires
-    same-length
+    (λ c κs. search needs)
+    (λ c κs. search needs)
+    (λ c κs. search needs)
+    (λ c. search needs)
+    (λ c. search needs)
+    (λ c κs. search needs)
+    (λ c. search needs)
     returns)

@@ -7,12 +7,6 @@ use borrow.Author.Needs.{needs}
 use Rattle.screens.proofs.summary.put_type.Statement.{statement}
 use Rattle.screens.proofs.summary.put_type.Tie as tie
 
-put-rows-requires : tie.Need-put-rows-requires
-put-rows-requires c κs = search needs
-
-put-byte-requires : tie.Need-put-byte-requires
-put-byte-requires c κs = search needs
-
 returns : tie.Need-returns
 returns c =
     let test = c .before .before in
@@ -20,12 +14,6 @@ returns c =
     let a = rows .before .before .args in
     let whole = put-as (put-then (rows .put-rows .ensures .0) (c .put-byte .ensures)) (root-line (told (a .s)) (a .above) (test .if1 .taken)) in
     fits whole (omega arith)
-
-put-under-requires : tie.Need-put-under-requires
-put-under-requires c κs = search needs
-
-put-byte-requires-2 : tie.Need-put-byte-requires-2
-put-byte-requires-2 c κs = search needs
 
 returns-2 : tie.Need-returns-2
 returns-2 c =
@@ -41,9 +29,9 @@ pub put-type-spec : {M : Type 1} → statement M
 put-type-spec =
     tie.close
     (tie.spec
-    put-rows-requires
-    put-byte-requires
+    (λ c κs. search needs)
+    (λ c κs. search needs)
     returns
-    put-under-requires
-    put-byte-requires-2
+    (λ c κs. search needs)
+    (λ c κs. search needs)
     returns-2)

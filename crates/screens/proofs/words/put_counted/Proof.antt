@@ -6,18 +6,6 @@ use borrow.Author.Needs.{needs}
 use Rattle.screens.proofs.words.put_counted.Statement.{statement}
 use Rattle.screens.proofs.words.put_counted.Tie as tie
 
-put-number-requires : tie.Need-put-number-requires
-put-number-requires c κs = search needs
-
-put-byte-requires : tie.Need-put-byte-requires
-put-byte-requires c κs = search needs
-
-put-bytes-requires : tie.Need-put-bytes-requires
-put-bytes-requires c κs = search needs
-
-same-length : tie.Need-same-length
-same-length c = search needs
-
 returns : tie.Need-returns
 returns c =
     let word = c .before .before in
@@ -27,12 +15,6 @@ returns c =
     let a = number .before .before .before .before .before .args in
     let whole = put-then (number .put-number .ensures .0) (put-then (gap .put-byte .ensures) (word .put-bytes .ensures)) in
     (put-as whole (counted-one (a .n) (a .one .now) (a .more .now) (omega arith)), omega arith)
-
-put-bytes-requires-2 : tie.Need-put-bytes-requires-2
-put-bytes-requires-2 c κs = search needs
-
-same-length-2 : tie.Need-same-length-2
-same-length-2 c = search needs
 
 returns-2 : tie.Need-returns-2
 returns-2 c =
@@ -48,11 +30,11 @@ pub put-counted-spec : {M : Type 1} → statement M
 put-counted-spec =
     tie.close
     (tie.spec
-    put-number-requires
-    put-byte-requires
-    put-bytes-requires
-    same-length
+    (λ c κs. search needs)
+    (λ c κs. search needs)
+    (λ c κs. search needs)
+    (λ c. search needs)
     returns
-    put-bytes-requires-2
-    same-length-2
+    (λ c κs. search needs)
+    (λ c. search needs)
     returns-2)

@@ -6,18 +6,6 @@ use borrow.Author.Needs.{needs}
 use Rattle.screens.proofs.words.put_with_article.Statement.{statement}
 use Rattle.screens.proofs.words.put_with_article.Tie as tie
 
-put-article-requires : tie.Need-put-article-requires
-put-article-requires c κs = search needs
-
-put-byte-requires : tie.Need-put-byte-requires
-put-byte-requires c κs = search needs
-
-put-name-requires : tie.Need-put-name-requires
-put-name-requires c κs = search needs
-
-same-length : tie.Need-same-length
-same-length c = search needs
-
 returns : tie.Need-returns
 unfolding withArticle
 returns c =
@@ -29,4 +17,4 @@ returns c =
 pub put-with-article-spec : {M : Type 1} → statement M
 put-with-article-spec =
     tie.close
-    (tie.spec put-article-requires put-byte-requires put-name-requires same-length returns)
+    (tie.spec (λ c κs. search needs) (λ c κs. search needs) (λ c κs. search needs) (λ c. search needs) returns)

@@ -13,15 +13,6 @@ returns c = let label = c .before .args .label in number-first label (no-name-be
 returns-2 : tie.Need-returns-2
 returns-2 c = let label = c .before .before .args .label in number-first label (no-name-above label (omega arith))
 
-name-bytes-requires : tie.Need-name-bytes-requires
-name-bytes-requires c κs = search needs
-
-array-read-is-vowel : tie.Need-array-read-is-vowel
-array-read-is-vowel c = search needs
-
-is-vowel-requires : tie.Need-is-vowel-requires
-is-vowel-requires c κs = search needs
-
 returns-3 : tie.Need-returns-3
 returns-3 c =
     let n = c .before in
@@ -34,7 +25,7 @@ vowel-first-spec =
     (tie.spec
     returns
     returns-2
-    name-bytes-requires
-    array-read-is-vowel
-    is-vowel-requires
+    (λ c κs. search needs)
+    (λ c. search needs)
+    (λ c κs. search needs)
     returns-3)

@@ -27,9 +27,6 @@ loop-holds c = let a = c .before .args in (omega arith, filled-none (level (a .m
 array-read-wide : tie.Need-array-read-wide Inv-loop μ-loop
 array-read-wide c = omega (arith, c .loop-test .taken, c .before .before .before .pre .0 .inside .few)
 
-wide-requires : tie.Need-wide-requires Inv-loop μ-loop
-wide-requires c κs = search needs
-
 meeting-requires : tie.Need-meeting-requires Inv-loop μ-loop
 meeting-requires c κs =
     let i = c .before in
@@ -45,12 +42,6 @@ cast-edges c = omega (arith, c .meeting .ensures .1)
 
 array-write-edges : tie.Need-array-write-edges Inv-loop μ-loop
 array-write-edges c = array-read-wide (c .before .before)
-
-add-c : tie.Need-add-c Inv-loop μ-loop
-add-c c = search needs
-
-loop-less : tie.Need-loop-less Inv-loop μ-loop
-loop-less c = search needs
 
 loop-again : tie.Need-loop-again Inv-loop μ-loop
 loop-again c =
@@ -74,11 +65,11 @@ edge-levels-spec =
     μ-loop
     loop-holds
     array-read-wide
-    wide-requires
+    (λ c κs. search needs)
     meeting-requires
     cast-edges
     array-write-edges
-    add-c
-    loop-less
+    (λ c. search needs)
+    (λ c. search needs)
     loop-again
     returns)

@@ -23,26 +23,8 @@ entry c = let s = c .before .before .before in (s .pre .under (c .before .before
 loop-holds : tie.Need-loop-holds Inv-loop μ-loop
 loop-holds c = ending-start _ _ _ refl (zeros-at 16) 1 refl
 
-add-ends : tie.Need-add-ends Inv-loop μ-loop
-add-ends c = search needs
-
-cast-ends : tie.Need-cast-ends Inv-loop μ-loop
-cast-ends c = search needs
-
-array-read-wide : tie.Need-array-read-wide Inv-loop μ-loop
-array-read-wide c = search needs
-
-wide-requires : tie.Need-wide-requires Inv-loop μ-loop
-wide-requires c κs = search needs
-
 array-write-ends : tie.Need-array-write-ends Inv-loop μ-loop
 array-write-ends c = omega (arith, c .wide .ensures .0, entry c .0, entry c .1)
-
-add-c : tie.Need-add-c Inv-loop μ-loop
-add-c c = search needs
-
-loop-less : tie.Need-loop-less Inv-loop μ-loop
-loop-less c = search needs
 
 loop-again : tie.Need-loop-again Inv-loop μ-loop
 loop-again c =
@@ -59,12 +41,12 @@ entry-ends-spec =
     Inv-loop
     μ-loop
     loop-holds
-    add-ends
-    cast-ends
-    array-read-wide
-    wide-requires
+    (λ c. search needs)
+    (λ c. search needs)
+    (λ c. search needs)
+    (λ c κs. search needs)
     array-write-ends
-    add-c
-    loop-less
+    (λ c. search needs)
+    (λ c. search needs)
     loop-again
     returns)

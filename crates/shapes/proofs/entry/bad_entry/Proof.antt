@@ -32,9 +32,6 @@ entry-is c =
     let l = c .before .before in
     c .«record» .ensures .0 ∙ ap (λ w. rec w (l .loop .e) (begun l .args .shape .now)) (l .before .entry-bytes .ensures)
 
-entry-bytes-requires : tie.Need-entry-bytes-requires Inv-loop μ-loop
-entry-bytes-requires c κs = search needs
-
 loop-holds : tie.Need-loop-holds Inv-loop μ-loop
 loop-holds c = let a = c .before .before .args in search-start (a .f) (a .shape .now)
 
@@ -44,9 +41,6 @@ record-requires c κs =
     let s = begun l .args .shape .now in
     let w = l .before .entry-bytes in
     row-in (w .result) (l .loop .e) s (omega (arith, begun l .pre .0, ap (λ w. whole w s) (w .ensures)))
-
-entry-kept-requires : tie.Need-entry-kept-requires Inv-loop μ-loop
-entry-kept-requires c κs = search needs
 
 returns : tie.Need-returns Inv-loop μ-loop
 returns c =
@@ -58,18 +52,6 @@ returns c =
           (now (k .before .«record» .result)) (entry-is (k .before)) (sym (k .entry-kept .ensures) ∙ not-true _ (c .if1 .taken)),
       omega arith,
     )
-
-shared-slice-read-wide : tie.Need-shared-slice-read-wide Inv-loop μ-loop
-shared-slice-read-wide c = search needs
-
-wide-requires : tie.Need-wide-requires Inv-loop μ-loop
-wide-requires c κs = search needs
-
-add-e : tie.Need-add-e Inv-loop μ-loop
-add-e c = search needs
-
-loop-less : tie.Need-loop-less Inv-loop μ-loop
-loop-less c = search needs
 
 loop-again : tie.Need-loop-again Inv-loop μ-loop
 loop-again c =
@@ -94,14 +76,14 @@ bad-entry-spec =
     (tie.spec
     Inv-loop
     μ-loop
-    entry-bytes-requires
+    (λ c κs. search needs)
     loop-holds
     record-requires
-    entry-kept-requires
+    (λ c κs. search needs)
     returns
-    shared-slice-read-wide
-    wide-requires
-    add-e
-    loop-less
+    (λ c. search needs)
+    (λ c κs. search needs)
+    (λ c. search needs)
+    (λ c. search needs)
     loop-again
     returns-2)

@@ -23,18 +23,6 @@ spared c = sized (c .before .before)
 abbrev labelled : tie.Else6 → tie.After-wide2
 labelled c = spared (c .before .before)
 
-shared-slice-read-wide : tie.Need-shared-slice-read-wide
-shared-slice-read-wide c = search needs
-
-wide-requires : tie.Need-wide-requires
-wide-requires c κs = search needs
-
-shared-slice-read-wide-2 : tie.Need-shared-slice-read-wide-2
-shared-slice-read-wide-2 c = search needs
-
-wide-requires-2 : tie.Need-wide-requires-2
-wide-requires-2 c κs = search needs
-
 returns : tie.Need-returns
 returns c =
     let s = c .before in
@@ -59,9 +47,6 @@ returns-4 c =
     let a = lent s .args in
     sym (wrong-size (a .f) (a .before) (a .entry .now) (s .before .before .wide .ensures .0) (s .wide2 .ensures .0) (above _ _ _ (c .if4 .taken)))
 
-word-requires : tie.Need-word-requires
-word-requires c κs = search needs
-
 returns-5 : tie.Need-returns-5
 returns-5 c =
     let w = c .before in
@@ -69,9 +54,6 @@ returns-5 c =
     let a = lent s .args in
     sym (spare-set (a .f) (a .before) (a .entry .now) (s .before .before .wide .ensures .0) (s .wide2 .ensures .0)
     (w .word .result) (w .word .ensures .0) (c .if5 .taken))
-
-labels-within-requires : tie.Need-labels-within-requires
-labels-within-requires c κs = search needs
 
 returns-6 : tie.Need-returns-6
 returns-6 c =
@@ -81,9 +63,6 @@ returns-6 c =
     sym (wrong-label (a .f) (a .before) (a .entry .now) (s .before .before .wide .ensures .0) (s .wide2 .ensures .0)
     (sym (n .labels-within .ensures) ∙ not-true _ (c .if6 .taken)))
 
-zeros-from-requires : tie.Need-zeros-from-requires
-zeros-from-requires c κs = search needs
-
 returns-7 : tie.Need-returns-7
 returns-7 c =
     let z = c .before in
@@ -91,9 +70,6 @@ returns-7 c =
     let a = lent s .args in
     sym (past-set (a .f) (a .before) (a .entry .now) (s .before .before .wide .ensures .0) (s .wide2 .ensures .0)
     (sym (z .zeros-from .ensures) ∙ not-true _ (c .if7 .taken)))
-
-level-kept-requires : tie.Need-level-kept-requires
-level-kept-requires c κs = search needs
 
 returns-8 : tie.Need-returns-8
 returns-8 c =
@@ -114,19 +90,19 @@ pub entry-kept-spec : {M : Type 1} → statement M
 entry-kept-spec =
     tie.close
     (tie.spec
-    shared-slice-read-wide
-    wide-requires
-    shared-slice-read-wide-2
-    wide-requires-2
+    (λ c. search needs)
+    (λ c κs. search needs)
+    (λ c. search needs)
+    (λ c κs. search needs)
     returns
     returns-2
     returns-3
     returns-4
-    word-requires
+    (λ c κs. search needs)
     returns-5
-    labels-within-requires
+    (λ c κs. search needs)
     returns-6
-    zeros-from-requires
+    (λ c κs. search needs)
     returns-7
-    level-kept-requires
+    (λ c κs. search needs)
     returns-8)

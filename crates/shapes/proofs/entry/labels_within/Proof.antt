@@ -17,12 +17,6 @@ Inv-loop e f size k₀ k =
 abbrev μ-loop : tie.MeasureT-loop
 μ-loop e f size k₀ k = size - k
 
-loop-holds : tie.Need-loop-holds Inv-loop μ-loop
-loop-holds c = search needs
-
-component-requires : tie.Need-component-requires Inv-loop μ-loop
-component-requires c κs = search needs
-
 returns : tie.Need-returns Inv-loop μ-loop
 returns c =
     let p = c .before in
@@ -40,12 +34,6 @@ returns-2 c =
     sym (label-stop (a .f) (a .size) (a .entry .now) (omega arith) (l .loop .k)
     (p .component .result) (omega arith) (p .component .ensures .0) (above _ _ _ (c .if2 .taken)))
     ∙ l .loop .inv
-
-add-k : tie.Need-add-k Inv-loop μ-loop
-add-k c = search needs
-
-loop-less : tie.Need-loop-less Inv-loop μ-loop
-loop-less c = search needs
 
 loop-again : tie.Need-loop-again Inv-loop μ-loop
 loop-again c =
@@ -68,11 +56,11 @@ labels-within-spec =
     (tie.spec
     Inv-loop
     μ-loop
-    loop-holds
-    component-requires
+    (λ c. search needs)
+    (λ c κs. search needs)
     returns
     returns-2
-    add-k
-    loop-less
+    (λ c. search needs)
+    (λ c. search needs)
     loop-again
     returns-3)

@@ -11,11 +11,8 @@ returns c = let a = c .before .args in level-first (a .before) (a .level) (c .if
 returns-2 : tie.Need-returns-2
 returns-2 c = let a = c .before .before .args in sym (level-low (a .before) (a .level) (c .before .if1 .left) (c .if2 .taken))
 
-add-result : tie.Need-add-result
-add-result c = search needs
-
 returns-3 : tie.Need-returns-3
 returns-3 c = let a = c .before .before .args in level-next (a .before) (a .level) (c .before .if1 .left) (c .if2 .left)
 
 pub level-kept-spec : {M : Type 1} → statement M
-level-kept-spec = tie.close (tie.spec returns returns-2 add-result returns-3)
+level-kept-spec = tie.close (tie.spec returns returns-2 (λ c. search needs) returns-3)

@@ -57,24 +57,12 @@ number-is k =
     read-numbers (a .f) (a .shape .now) (a .parents .now) (a .labels .now) (a .count) (l .loop .e) (now (r .«record» .result)) (k .before .wide .result)
     (k .type-of .result) (entry-is r) (k .before .wide .ensures .0) (k .type-of .ensures .1)
 
-entry-bytes-requires : tie.Need-entry-bytes-requires Inv-loop μ-loop
-entry-bytes-requires c κs = search needs
-
-loop-holds : tie.Need-loop-holds Inv-loop μ-loop
-loop-holds c = search needs
-
 record-requires : tie.Need-record-requires Inv-loop μ-loop
 record-requires c κs =
     let l = c .before in
     let s = begun l .args .shape .now in
     let w = l .before .entry-bytes in
     row-in (w .result) (l .loop .e) s (omega (arith, begun l .pre .0 .0, ap (λ w. whole w s) (w .ensures), c .loop-test .taken))
-
-shared-slice-read-wide : tie.Need-shared-slice-read-wide Inv-loop μ-loop
-shared-slice-read-wide c = search needs
-
-wide-requires : tie.Need-wide-requires Inv-loop μ-loop
-wide-requires c κs = search needs
 
 type-of-requires : tie.Need-type-of-requires Inv-loop μ-loop
 type-of-requires c κs =
@@ -93,18 +81,6 @@ returns c =
     let a = s .args in
     numbered-stop (a .f) (a .shape .now) (a .parents .now) (a .labels .now) (a .count) (l .loop .e) (l .loop .types) (l .loop .inv .2) (here (read k))
     (k .type-of .result) (number-is k) (omega (arith, c .if1 .taken)) (a .entries) (s .pre .0 .0)
-
-cast-types : tie.Need-cast-types Inv-loop μ-loop
-cast-types c = search needs
-
-array-write-types : tie.Need-array-write-types Inv-loop μ-loop
-array-write-types c = search needs
-
-add-e : tie.Need-add-e Inv-loop μ-loop
-add-e c = search needs
-
-loop-less : tie.Need-loop-less Inv-loop μ-loop
-loop-less c = search needs
 
 loop-again : tie.Need-loop-again Inv-loop μ-loop
 loop-again c =
@@ -132,16 +108,16 @@ entry-types-spec =
     (tie.spec
     Inv-loop
     μ-loop
-    entry-bytes-requires
-    loop-holds
+    (λ c κs. search needs)
+    (λ c. search needs)
     record-requires
-    shared-slice-read-wide
-    wide-requires
+    (λ c. search needs)
+    (λ c κs. search needs)
     type-of-requires
     returns
-    cast-types
-    array-write-types
-    add-e
-    loop-less
+    (λ c. search needs)
+    (λ c. search needs)
+    (λ c. search needs)
+    (λ c. search needs)
     loop-again
     returns-2)

@@ -34,18 +34,6 @@ loop-holds c =
     let a = s .args in
     (omega arith, omega arith, λ lt. absurd (not-suc-le-zero lt), walk-start (a .parents .now) (a .labels .now) (a .count) (labelsOf s))
 
-component-requires : tie.Need-component-requires Inv-loop μ-loop
-component-requires c κs = search needs
-
-cast-a : tie.Need-cast-a Inv-loop μ-loop
-cast-a c = search needs
-
-cast-find-type : tie.Need-cast-find-type Inv-loop μ-loop
-cast-find-type c = search needs
-
-find-type-requires : tie.Need-find-type-requires Inv-loop μ-loop
-find-type-requires c κs = search needs
-
 returns : tie.Need-returns Inv-loop μ-loop
 returns c =
     let q = c .before in
@@ -58,12 +46,6 @@ returns c =
       walk-stop (a .parents .now) (a .labels .now) (a .count) (labelsOf s) (l .loop .k) (l .loop .p) (label .result) (q .find-type .result) (l .loop .inv .3)
           (omega (arith, long)) (label .ensures .0) (q .find-type .ensures) (a .size) (omega arith) (omega (arith, long)) (omega (arith, c .if1 .taken)),
     )
-
-add-k : tie.Need-add-k Inv-loop μ-loop
-add-k c = search needs
-
-loop-less : tie.Need-loop-less Inv-loop μ-loop
-loop-less c = search needs
 
 loop-again : tie.Need-loop-again Inv-loop μ-loop
 loop-again c =
@@ -100,12 +82,12 @@ type-of-spec =
     Inv-loop
     μ-loop
     loop-holds
-    component-requires
-    cast-a
-    cast-find-type
-    find-type-requires
+    (λ c κs. search needs)
+    (λ c. search needs)
+    (λ c. search needs)
+    (λ c κs. search needs)
     returns
-    add-k
-    loop-less
+    (λ c. search needs)
+    (λ c. search needs)
     loop-again
     returns-2)

@@ -28,28 +28,16 @@ whole-entries c =
     let w = c .before .before .before in
     subst (λ n. length (lent w) % n ≡ 0) (w .entry-bytes .ensures) (c .if3 .left)
 
-entry-bytes-requires : tie.Need-entry-bytes-requires
-entry-bytes-requires c κs = search needs
-
 returns : tie.Need-returns
 returns c = refused-empty (format (c .before)) (lent (c .before)) (omega (arith, c .if1 .taken))
 
-mul-if2 : tie.Need-mul-if2
-mul-if2 c = search needs
-
 returns-2 : tie.Need-returns-2
 returns-2 c = let w = c .before .before in refused-long (format w) (lent w) (omega (arith, w .entry-bytes .ensures, c .if2 .taken))
-
-rem-if3 : tie.Need-rem-if3
-rem-if3 c = search needs
 
 returns-3 : tie.Need-returns-3
 returns-3 c =
     let w = c .before .before .before in
     refused-ragged (format w) (lent w) (subst (λ n. length (lent w) % n ≡ 0 → ⊥) (w .entry-bytes .ensures) (c .if3 .taken))
-
-div-entries : tie.Need-div-entries
-div-entries c = search needs
 
 bad-entry-requires : tie.Need-bad-entry-requires
 bad-entry-requires c κs =
@@ -78,13 +66,13 @@ pub examine-shape-spec : {M : Type 1} → statement M
 examine-shape-spec =
     tie.close
     (tie.spec
-    entry-bytes-requires
+    (λ c κs. search needs)
     returns
-    mul-if2
+    (λ c. search needs)
     returns-2
-    rem-if3
+    (λ c. search needs)
     returns-3
-    div-entries
+    (λ c. search needs)
     bad-entry-requires
     returns-4
     returns-5)

@@ -25,12 +25,6 @@ shapeAt k = k .before
 shaped : (c : tie.Else1) → Shaped (format (c .before)) (shape (c .before)) (c .before .examine-shape .result .entries)
 shaped c = let x = c .before in shape-passed (format x) (shape x) (x .examine-shape .result) (x .examine-shape .ensures) (c .if1 .left)
 
-examine-shape-requires : tie.Need-examine-shape-requires
-examine-shape-requires c κs = search needs
-
-refused-requires : tie.Need-refused-requires
-refused-requires c κs = search needs
-
 returns : tie.Need-returns
 returns c t table told =
     let x = c .before .before in
@@ -43,9 +37,6 @@ entry-types-requires c κs =
     let s = begun (c .before) in
     let ((whole, some, deep), kept) = shape-asked (s .pre .0 .0) (shaped c) in
     ((whole, some, omega arith), (kept, s .pre .1))
-
-refused-requires-2 : tie.Need-refused-requires-2
-refused-requires-2 c κs = search needs
 
 returns-2 : tie.Need-returns-2
 returns-2 c t table told =
@@ -62,9 +53,6 @@ entry-ways-requires c κs =
     let (asked, kept) = shape-asked (begun x .pre .0 .0) (shaped s) in
     (asked, (kept, begun x .pre .0 .1))
 
-same-length : tie.Need-same-length
-same-length c = search needs
-
 returns-3 : tie.Need-returns-3
 returns-3 c t table told =
     let v = c .before .before .before .before .before .before in
@@ -78,12 +66,12 @@ pub tests5-7-spec : {M : Type 1} → statement M
 tests5-7-spec =
     tie.close
     (tie.spec
-    examine-shape-requires
-    refused-requires
+    (λ c κs. search needs)
+    (λ c κs. search needs)
     returns
     entry-types-requires
-    refused-requires-2
+    (λ c κs. search needs)
     returns-2
     entry-ways-requires
-    same-length
+    (λ c. search needs)
     returns-3)

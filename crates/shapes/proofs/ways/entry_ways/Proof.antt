@@ -74,9 +74,6 @@ level-fits w =
 abbrev placed : tie.After-parent-of-arg Inv-loop μ-loop → tie.After-put-way Inv-loop μ-loop
 placed c = c .before .before .before
 
-entry-bytes-requires : tie.Need-entry-bytes-requires Inv-loop μ-loop
-entry-bytes-requires c κs = search needs
-
 loop-holds : tie.Need-loop-holds Inv-loop μ-loop
 loop-holds c =
     let s = c .before .before .before in
@@ -89,24 +86,6 @@ record-requires c κs =
     let w = l .before .entry-bytes in
     row-in (w .result) (l .loop .e) s (omega (arith, begun l .pre .0 .0, ap (λ w. whole w s) (w .ensures), c .loop-test .taken))
 
-shared-slice-read-wide : tie.Need-shared-slice-read-wide Inv-loop μ-loop
-shared-slice-read-wide c = search needs
-
-wide-requires : tie.Need-wide-requires Inv-loop μ-loop
-wide-requires c κs = search needs
-
-shared-slice-read-wide-2 : tie.Need-shared-slice-read-wide-2 Inv-loop μ-loop
-shared-slice-read-wide-2 c = search needs
-
-wide-requires-2 : tie.Need-wide-requires-2 Inv-loop μ-loop
-wide-requires-2 c κs = search needs
-
-shared-slice-read-levels : tie.Need-shared-slice-read-levels Inv-loop μ-loop
-shared-slice-read-levels c = search needs
-
-array-write-levels : tie.Need-array-write-levels Inv-loop μ-loop
-array-write-levels c = search needs
-
 sub-component : tie.Need-sub-component Inv-loop μ-loop
 sub-component c = omega (arith, size-fits (c .before))
 
@@ -116,15 +95,6 @@ component-requires c κs =
     let l = turn r in
     let size = size-fits (c .before) in
     (omega (arith, r .«record» .ensures .1, l .before .entry-bytes .ensures), omega arith, omega (arith, begun l .pre .0 .2))
-
-cast-labels : tie.Need-cast-labels Inv-loop μ-loop
-cast-labels c = search needs
-
-mul-labels : tie.Need-mul-labels Inv-loop μ-loop
-mul-labels c = search needs
-
-array-write-labels : tie.Need-array-write-labels Inv-loop μ-loop
-array-write-labels c = search needs
 
 put-way-requires : tie.Need-put-way-requires Inv-loop μ-loop
 put-way-requires c κs =
@@ -137,15 +107,6 @@ parent-of-requires c κs =
     let w = sized (placed c .before .before .before .before) in
     let (inside, lo, hi, first) = level-fits w in
     (omega (arith, turn (levelled w) .loop .inv .1 .ways-long), inside, lo, hi)
-
-array-write-parents : tie.Need-array-write-parents Inv-loop μ-loop
-array-write-parents c = search needs
-
-add-e : tie.Need-add-e Inv-loop μ-loop
-add-e c = search needs
-
-loop-less : tie.Need-loop-less Inv-loop μ-loop
-loop-less c = search needs
 
 loop-again : tie.Need-loop-again Inv-loop μ-loop
 loop-again c =
@@ -164,9 +125,6 @@ loop-again c =
           refl (z .wide2 .ensures .0) (x .component .ensures .0) (c .parent-of .ensures),
     )
 
-same-length : tie.Need-same-length Inv-loop μ-loop
-same-length c = search needs
-
 returns : tie.Need-returns Inv-loop μ-loop
 returns c =
     let l = c .before in
@@ -181,25 +139,25 @@ entry-ways-spec =
     (tie.spec
     Inv-loop
     μ-loop
-    entry-bytes-requires
+    (λ c κs. search needs)
     loop-holds
     record-requires
-    shared-slice-read-wide
-    wide-requires
-    shared-slice-read-wide-2
-    wide-requires-2
-    shared-slice-read-levels
-    array-write-levels
+    (λ c. search needs)
+    (λ c κs. search needs)
+    (λ c. search needs)
+    (λ c κs. search needs)
+    (λ c. search needs)
+    (λ c. search needs)
     sub-component
     component-requires
-    cast-labels
-    mul-labels
-    array-write-labels
+    (λ c. search needs)
+    (λ c. search needs)
+    (λ c. search needs)
     put-way-requires
     parent-of-requires
-    array-write-parents
-    add-e
-    loop-less
+    (λ c. search needs)
+    (λ c. search needs)
+    (λ c. search needs)
     loop-again
-    same-length
+    (λ c. search needs)
     returns)

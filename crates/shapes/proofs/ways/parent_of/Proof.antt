@@ -8,17 +8,8 @@ use Rattle.shapes.proofs.ways.parent_of.Tie as tie
 returns : tie.Need-returns
 returns c = let a = c .before .args in over-none (a .ways .now) (a .e) (a .l) (omega (arith, c .if1 .taken))
 
-mul-result : tie.Need-mul-result
-mul-result c = search needs
-
-add-result : tie.Need-add-result
-add-result c = search needs
-
-shared-slice-read-result : tie.Need-shared-slice-read-result
-shared-slice-read-result c = search needs
-
 returns-2 : tie.Need-returns-2
 returns-2 c = let a = c .before .before .args in over-at (a .ways .now) (a .e) (a .l) (omega arith) (omega (arith, c .before .if1 .left))
 
 pub parent-of-spec : {M : Type 1} → statement M
-parent-of-spec = tie.close (tie.spec returns mul-result add-result shared-slice-read-result returns-2)
+parent-of-spec = tie.close (tie.spec returns (λ c. search needs) (λ c. search needs) (λ c. search needs) returns-2)

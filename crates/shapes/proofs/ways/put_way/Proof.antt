@@ -19,37 +19,10 @@ begun l = l .before
 loop-holds : tie.Need-loop-holds Inv-loop μ-loop
 loop-holds c = let a = c .args in (omega arith, copied-none (a .ways .now) (a .e))
 
-add-loop : tie.Need-add-loop Inv-loop μ-loop
-add-loop c = search needs
-
 sub-ways : tie.Need-sub-ways Inv-loop μ-loop
 sub-ways c =
     let s = begun (c .before) in
     later (s .args .e) (s .args .l) (s .pre .4) (omega arith)
-
-mul-ways : tie.Need-mul-ways Inv-loop μ-loop
-mul-ways c = search needs
-
-add-ways : tie.Need-add-ways Inv-loop μ-loop
-add-ways c = search needs
-
-slice-read-ways : tie.Need-slice-read-ways Inv-loop μ-loop
-slice-read-ways c = search needs
-
-mul-ways-2 : tie.Need-mul-ways-2 Inv-loop μ-loop
-mul-ways-2 c = search needs
-
-add-ways-2 : tie.Need-add-ways-2 Inv-loop μ-loop
-add-ways-2 c = search needs
-
-slice-write-ways : tie.Need-slice-write-ways Inv-loop μ-loop
-slice-write-ways c = search needs
-
-add-k : tie.Need-add-k Inv-loop μ-loop
-add-k c = search needs
-
-loop-less : tie.Need-loop-less Inv-loop μ-loop
-loop-less c = search needs
 
 loop-again : tie.Need-loop-again Inv-loop μ-loop
 loop-again c =
@@ -58,24 +31,6 @@ loop-again c =
     let a = s .args in
     let pos : 1 ≤ a .e = later (a .e) (a .l) (s .pre .4) (omega arith) in
     (omega arith, copied-more (a .ways .now) (a .e) (l .loop .k) (l .loop .ways) (l .loop .inv .1) pos (omega arith) (omega arith))
-
-cast-ways : tie.Need-cast-ways Inv-loop μ-loop
-cast-ways c = search needs
-
-mul-ways-3 : tie.Need-mul-ways-3 Inv-loop μ-loop
-mul-ways-3 c = search needs
-
-sub-ways-2 : tie.Need-sub-ways-2 Inv-loop μ-loop
-sub-ways-2 c = search needs
-
-add-ways-3 : tie.Need-add-ways-3 Inv-loop μ-loop
-add-ways-3 c = search needs
-
-slice-write-ways-2 : tie.Need-slice-write-ways-2 Inv-loop μ-loop
-slice-write-ways-2 c = search needs
-
-same-length : tie.Need-same-length Inv-loop μ-loop
-same-length c = search needs
 
 returns : tie.Need-returns Inv-loop μ-loop
 returns c =
@@ -90,21 +45,21 @@ put-way-spec =
     Inv-loop
     μ-loop
     loop-holds
-    add-loop
+    (λ c. search needs)
     sub-ways
-    mul-ways
-    add-ways
-    slice-read-ways
-    mul-ways-2
-    add-ways-2
-    slice-write-ways
-    add-k
-    loop-less
+    (λ c. search needs)
+    (λ c. search needs)
+    (λ c. search needs)
+    (λ c. search needs)
+    (λ c. search needs)
+    (λ c. search needs)
+    (λ c. search needs)
+    (λ c. search needs)
     loop-again
-    cast-ways
-    mul-ways-3
-    sub-ways-2
-    add-ways-3
-    slice-write-ways-2
-    same-length
+    (λ c. search needs)
+    (λ c. search needs)
+    (λ c. search needs)
+    (λ c. search needs)
+    (λ c. search needs)
+    (λ c. search needs)
     returns)

@@ -40,19 +40,10 @@ tests5-7-requires c κs =
     let few = rows .told .few in
     ((served, blank .ways-long), (omega (arith, slice-aggregate-tests5-7 p), omega (arith, slice-aggregate-tests5-7-2 l), few))
 
-unprepared-requires : tie.Need-unprepared-requires
-unprepared-requires c κs = search needs
-
-same-length : tie.Need-same-length
-same-length c = search needs
-
 returns : tie.Need-returns
 returns c t rows =
     let p = c .before .before .before .before in
     laws.refusal _ t _ (p .tests5-7 .result) (ways p) _ (laws.tested rows (p .tests5-7 .ensures)) (c .before .if1 .taken) (c .unprepared .ensures)
-
-meetings-requires : tie.Need-meetings-requires
-meetings-requires c κs = search needs
 
 draw-requires : tie.Need-draw-requires
 draw-requires c κs =
@@ -63,12 +54,6 @@ draw-requires c κs =
       laws.known rows (laws.tested rows (p .tests5-7 .ensures)) (u .if1 .left),
       omega (arith, ap length (begun p .pre .2 .none-met), v .meetings2 .given),
     )
-
-same-length-2 : tie.Need-same-length-2
-same-length-2 c = search needs
-
-same-length-3 : tie.Need-same-length-3
-same-length-3 c = search needs
 
 returns-2 : tie.Need-returns-2
 returns-2 c t rows =
@@ -85,11 +70,11 @@ prepare-spec =
     slice-aggregate-tests5-7
     slice-aggregate-tests5-7-2
     tests5-7-requires
-    unprepared-requires
-    same-length
+    (λ c κs. search needs)
+    (λ c. search needs)
     returns
-    meetings-requires
+    (λ c κs. search needs)
     draw-requires
-    same-length-2
-    same-length-3
+    (λ c. search needs)
+    (λ c. search needs)
     returns-2)

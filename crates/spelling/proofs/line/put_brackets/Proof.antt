@@ -21,15 +21,6 @@ Inv-loop out₀ at l m p₀ k₀ bracket out p k =
 abbrev μ-loop : tie.MeasureT-loop
 μ-loop out₀ at l m p₀ k₀ bracket out p k = l - k
 
-slice-aggregate-put-bytes : tie.Need-slice-aggregate-put-bytes Inv-loop μ-loop
-slice-aggregate-put-bytes c = search needs
-
-put-bytes-requires : tie.Need-put-bytes-requires Inv-loop μ-loop
-put-bytes-requires c κs = search needs
-
-same-length : tie.Need-same-length Inv-loop μ-loop
-same-length c = search needs
-
 returns : tie.Need-returns Inv-loop μ-loop
 returns c =
     let t = c .before .before in
@@ -43,18 +34,6 @@ loop-holds c =
     let left = left-all (a .out .now) (a .at) (closings (a .l - a .m)) in
     (omega arith, c .if1 .left, omega arith, refl, left .long, left)
 
-slice-aggregate-put-bytes-2 : tie.Need-slice-aggregate-put-bytes-2 Inv-loop μ-loop
-slice-aggregate-put-bytes-2 c = search needs
-
-put-bytes-requires-2 : tie.Need-put-bytes-requires-2 Inv-loop μ-loop
-put-bytes-requires-2 c κs = search needs
-
-add-k : tie.Need-add-k Inv-loop μ-loop
-add-k c = search needs
-
-loop-less : tie.Need-loop-less Inv-loop μ-loop
-loop-less c = search needs
-
 loop-again : tie.Need-loop-again Inv-loop μ-loop
 loop-again c =
     let t = c .before .before in
@@ -64,9 +43,6 @@ loop-again c =
     let next = closings-next (a .l) k (t .before .before .before .loop-test .taken) in
     let left = left-less (l .loop .inv .5) (closings (a .l - (k + 1))) next (t .put-bytes2 .ensures) in
     (omega arith, omega arith, omega (arith, t .put-bytes2 .ensures .ends), l .loop .inv .3, left .long, left)
-
-same-length-2 : tie.Need-same-length-2 Inv-loop μ-loop
-same-length-2 c = search needs
 
 returns-2 : tie.Need-returns-2 Inv-loop μ-loop
 returns-2 c =
@@ -81,15 +57,15 @@ put-brackets-spec =
     (tie.spec
     Inv-loop
     μ-loop
-    slice-aggregate-put-bytes
-    put-bytes-requires
-    same-length
+    (λ c. search needs)
+    (λ c κs. search needs)
+    (λ c. search needs)
     returns
     loop-holds
-    slice-aggregate-put-bytes-2
-    put-bytes-requires-2
-    add-k
-    loop-less
+    (λ c. search needs)
+    (λ c κs. search needs)
+    (λ c. search needs)
+    (λ c. search needs)
     loop-again
-    same-length-2
+    (λ c. search needs)
     returns-2)

@@ -65,20 +65,11 @@ next-level w =
     level-in (a .f) (a .shape .now) (a .entries) (s .pre) (l .loop .e) (r .before .loop-test .taken) (now (r .record2 .result)) (next-is r)
     (w .wide3 .result) (w .wide3 .ensures .0)
 
-entry-bytes-requires : tie.Need-entry-bytes-requires Inv-loop μ-loop
-entry-bytes-requires c κs = search needs
-
 record-requires : tie.Need-record-requires Inv-loop μ-loop
 record-requires c κs =
     let s = begun c in
     let a = s .args in
     entry-in (a .f) (a .shape .now) (a .entries) (s .pre) 0 (fits s .0) (c .entry-bytes .result) (c .entry-bytes .ensures)
-
-shared-slice-read-wide : tie.Need-shared-slice-read-wide Inv-loop μ-loop
-shared-slice-read-wide c = search needs
-
-wide-requires : tie.Need-wide-requires Inv-loop μ-loop
-wide-requires c κs = search needs
 
 put-path-requires : tie.Need-put-path-requires Inv-loop μ-loop
 put-path-requires c κs =
@@ -89,12 +80,6 @@ put-path-requires c κs =
     let size = size-in (a .f) (a .shape .now) (a .entries) (s .pre) 0 some (now (r .«record» .result)) (first-is r) (c .wide .result) (c .wide .ensures .0) in
     let long = r .«record» .ensures .1 ∙ r .before .entry-bytes .ensures in
     (s .pre .served, long, size .1, omega arith)
-
-shared-slice-read-wide-2 : tie.Need-shared-slice-read-wide-2 Inv-loop μ-loop
-shared-slice-read-wide-2 c = search needs
-
-wide-requires-2 : tie.Need-wide-requires-2 Inv-loop μ-loop
-wide-requires-2 c κs = search needs
 
 loop-holds : tie.Need-loop-holds Inv-loop μ-loop
 loop-holds c =
@@ -115,12 +100,6 @@ record-requires-2 c κs =
     let w = opened (l .before) .before .entry-bytes in
     entry-in (a .f) (a .shape .now) (a .entries) (s .pre) (l .loop .e) (c .loop-test .taken) (w .result) (w .ensures)
 
-shared-slice-read-wide-3 : tie.Need-shared-slice-read-wide-3 Inv-loop μ-loop
-shared-slice-read-wide-3 c = search needs
-
-wide-requires-3 : tie.Need-wide-requires-3 Inv-loop μ-loop
-wide-requires-3 c κs = search needs
-
 put-brackets-requires : tie.Need-put-brackets-requires Inv-loop μ-loop
 put-brackets-requires c κs =
     let w = c .before in
@@ -133,12 +112,6 @@ put-byte-requires c κs =
     let w = c .before .before .before in
     let few = fits (start (w .before .before .before .before)) .1 in
     search needs
-
-shared-slice-read-wide-4 : tie.Need-shared-slice-read-wide-4 Inv-loop μ-loop
-shared-slice-read-wide-4 c = search needs
-
-wide-requires-4 : tie.Need-wide-requires-4 Inv-loop μ-loop
-wide-requires-4 c κs = search needs
 
 put-path-requires-2 : tie.Need-put-path-requires-2 Inv-loop μ-loop
 put-path-requires-2 c κs =
@@ -160,9 +133,6 @@ add-e c =
     let w = g .before .before .before .before in
     let few = fits (start (w .before .before .before .before)) .1 in
     search needs
-
-loop-less : tie.Need-loop-less Inv-loop μ-loop
-loop-less c = search needs
 
 loop-again : tie.Need-loop-again Inv-loop μ-loop
 loop-again c =
@@ -210,24 +180,24 @@ put-line-spec =
     (tie.spec
     Inv-loop
     μ-loop
-    entry-bytes-requires
+    (λ c κs. search needs)
     record-requires
-    shared-slice-read-wide
-    wide-requires
+    (λ c. search needs)
+    (λ c κs. search needs)
     put-path-requires
-    shared-slice-read-wide-2
-    wide-requires-2
+    (λ c. search needs)
+    (λ c κs. search needs)
     loop-holds
     record-requires-2
-    shared-slice-read-wide-3
-    wide-requires-3
+    (λ c. search needs)
+    (λ c κs. search needs)
     put-brackets-requires
     put-byte-requires
-    shared-slice-read-wide-4
-    wide-requires-4
+    (λ c. search needs)
+    (λ c κs. search needs)
     put-path-requires-2
     add-e
-    loop-less
+    (λ c. search needs)
     loop-again
     put-brackets-requires-2
     returns)

@@ -36,21 +36,6 @@ loop-holds c =
     let left = left-all (a .out .now) (a .at) (pathText (labels (a .entry .now) (a .f) (a .n))) in
     (omega arith, omega arith, left .long, left)
 
-put-byte-requires : tie.Need-put-byte-requires Inv-loop μ-loop
-put-byte-requires c κs = search needs
-
-component-requires : tie.Need-component-requires Inv-loop μ-loop
-component-requires c κs = search needs
-
-put-name-requires : tie.Need-put-name-requires Inv-loop μ-loop
-put-name-requires c κs = search needs
-
-add-k : tie.Need-add-k Inv-loop μ-loop
-add-k c = search needs
-
-loop-less : tie.Need-loop-less Inv-loop μ-loop
-loop-less c = search needs
-
 loop-again : tie.Need-loop-again Inv-loop μ-loop
 loop-again c =
     let n = c .before .before in
@@ -69,9 +54,6 @@ loop-again c =
     let short = part-short (x .component .result) (x .component .ensures .1) in
     (omega arith, omega (arith, n .put-name .ensures .0 .ends, b .put-byte .ensures .ends, short), left .long, left)
 
-same-length : tie.Need-same-length Inv-loop μ-loop
-same-length c = search needs
-
 returns : tie.Need-returns Inv-loop μ-loop
 returns c =
     let l = c .before in
@@ -88,11 +70,11 @@ put-path-spec =
     Inv-loop
     μ-loop
     loop-holds
-    put-byte-requires
-    component-requires
-    put-name-requires
-    add-k
-    loop-less
+    (λ c κs. search needs)
+    (λ c κs. search needs)
+    (λ c κs. search needs)
+    (λ c. search needs)
+    (λ c. search needs)
     loop-again
-    same-length
+    (λ c. search needs)
     returns)

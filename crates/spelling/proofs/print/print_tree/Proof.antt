@@ -31,12 +31,6 @@ passes e =
     let r = x .examine-shape .result in
     examined-given (a .f) (a .shape .now) (r .number) (r .place) (r .entries) (x .examine-shape .ensures) (e .if1 .left)
 
-examine-shape-requires : tie.Need-examine-shape-requires
-examine-shape-requires c κs = search needs
-
-refused-requires : tie.Need-refused-requires
-refused-requires c κs = search needs
-
 returns : tie.Need-returns
 returns c =
     let x = c .before .before in
@@ -59,9 +53,6 @@ put-line-requires c κs =
       counted = counted (a .f) (a .shape .now) (r .number) (r .place) (r .entries) (x .examine-shape .ensures) (e .if1 .left);
       passes = passes e;
     }
-
-refused-requires-2 : tie.Need-refused-requires-2
-refused-requires-2 c κs = search needs
 
 returns-2 : tie.Need-returns-2
 returns-2 c =
@@ -89,9 +80,6 @@ put-requires c κs =
     let front = front-is (p .put-line .ensures .0) (p .put-line .ensures .1) in
     omega (arith, front .0, ap length (front .1), i .if2 .left)
 
-same-length : tie.Need-same-length
-same-length c = search needs
-
 returns-3 : tie.Need-returns-3
 returns-3 c =
     let u = c .before .before in
@@ -107,14 +95,14 @@ pub print-tree-spec : {M : Type 1} → statement M
 print-tree-spec =
     tie.close
     (tie.spec
-    examine-shape-requires
-    refused-requires
+    (λ c κs. search needs)
+    (λ c κs. search needs)
     returns
     put-line-requires
-    refused-requires-2
+    (λ c κs. search needs)
     returns-2
     array-share-prefix-line
     slice-aggregate-put
     put-requires
-    same-length
+    (λ c. search needs)
     returns-3)

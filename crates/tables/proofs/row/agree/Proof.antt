@@ -36,12 +36,6 @@ returns c =
     walk-stop (a .f) (a .x .now) (a .y .now) (s .pre .1 .0) (s .pre .1 .1) (a .n) (l .loop .k) (x .component .result) (y .component2 .result)
     (l .loop .inv) (x .before .loop-test .taken) (x .component .ensures .0) (y .component2 .ensures .0) (c .if1 .taken)
 
-add-k : tie.Need-add-k Inv-loop μ-loop
-add-k c = search needs
-
-loop-less : tie.Need-loop-less Inv-loop μ-loop
-loop-less c = search needs
-
 loop-again : tie.Need-loop-again Inv-loop μ-loop
 loop-again c =
     let y = c .before in
@@ -69,7 +63,7 @@ agree-spec =
     component-requires
     component-requires-2
     returns
-    add-k
-    loop-less
+    (λ c. search needs)
+    (λ c. search needs)
     loop-again
     returns-2)

@@ -6,19 +6,10 @@ use borrow.Author.Needs.{needs}
 use Rattle.tables.proofs.row.component.Statement.{statement}
 use Rattle.tables.proofs.row.component.Tie as tie
 
-mul-word : tie.Need-mul-word
-mul-word c = search needs
-
-add-word : tie.Need-add-word
-add-word c = search needs
-
-word-requires : tie.Need-word-requires
-word-requires c κs = search needs
-
 returns : tie.Need-returns
 returns c =
     let a = c .before .before .args in
     (c .word .ensures .0 ∙ sym (words-at (a .f .levels) (a .row .now) 4 (a .k) (omega arith)), c .word .ensures .1)
 
 pub component-spec : {M : Type 1} → statement M
-component-spec = tie.close (tie.spec mul-word add-word word-requires returns)
+component-spec = tie.close (tie.spec (λ c. search needs) (λ c. search needs) (λ c κs. search needs) returns)

@@ -10,15 +10,6 @@ use borrow.Author.Needs.{needs}
 use Rattle.tables.proofs.row.fields_kept.Statement.{statement}
 use Rattle.tables.proofs.row.fields_kept.Tie as tie
 
-shared-slice-read-wide : tie.Need-shared-slice-read-wide
-shared-slice-read-wide c = search needs
-
-wide-requires : tie.Need-wide-requires
-wide-requires c κs = search needs
-
-word-requires : tie.Need-word-requires
-word-requires c κs = search needs
-
 -- the row and the format that are lent
 abbrev lent : tie.After-word → tie.Start
 lent w = w .before .before .before .before
@@ -37,9 +28,6 @@ returns c = let a = lent (c .before) .args in sym (no-level (a .f) (a .row .now)
 returns-2 : tie.Need-returns-2
 returns-2 c = let a = lent (c .before .before .before) .args in sym (too-deep (a .f) (a .row .now) (omega arith))
 
-shared-slice-read-if3 : tie.Need-shared-slice-read-if3
-shared-slice-read-if3 c = search needs
-
 returns-3 : tie.Need-returns-3
 returns-3 c = let a = lent (levelled (c .before .before)) .args in sym (spare-set (a .f) (a .row .now) (c .if3 .taken))
 
@@ -55,9 +43,6 @@ returns-5 c =
     let a = lent w .args in
     sym (no-such-label (a .f) (a .row .now) (omega (arith, w .word .ensures .0)))
 
-zeros-from-requires : tie.Need-zeros-from-requires
-zeros-from-requires c κs = search needs
-
 returns-6 : tie.Need-returns-6
 returns-6 c =
     let some = c .before .before .before in
@@ -71,14 +56,14 @@ pub fields-kept-spec : {M : Type 1} → statement M
 fields-kept-spec =
     tie.close
     (tie.spec
-    shared-slice-read-wide
-    wide-requires
-    word-requires
+    (λ c. search needs)
+    (λ c κs. search needs)
+    (λ c κs. search needs)
     returns
     returns-2
-    shared-slice-read-if3
+    (λ c. search needs)
     returns-3
     returns-4
     returns-5
-    zeros-from-requires
+    (λ c κs. search needs)
     returns-6)

@@ -23,37 +23,13 @@ read w =
       level-y = w .wide2 .ensures .0;
     }
 
-shared-slice-read-wide : tie.Need-shared-slice-read-wide
-shared-slice-read-wide c = search needs
-
-wide-requires : tie.Need-wide-requires
-wide-requires c κs = search needs
-
-shared-slice-read-wide-2 : tie.Need-shared-slice-read-wide-2
-shared-slice-read-wide-2 c = search needs
-
-wide-requires-2 : tie.Need-wide-requires-2
-wide-requires-2 c κs = search needs
-
-add-if1 : tie.Need-add-if1
-add-if1 c = search needs
-
 returns : tie.Need-returns
 returns c = rows-longer (read (c .before)) (c .if1 .taken)
-
-sub-k : tie.Need-sub-k
-sub-k c = search needs
-
-agree-requires : tie.Need-agree-requires
-agree-requires c κs = search needs
 
 returns-2 : tie.Need-returns-2
 returns-2 c =
     let g = c .before in
     rows-apart (read (g .before .before)) (g .before .if1 .left) (sym (g .agree .ensures) ∙ not-true _ (c .if2 .taken))
-
-component-requires : tie.Need-component-requires
-component-requires c κs = search needs
 
 returns-3 : tie.Need-returns-3
 returns-3 c =
@@ -62,12 +38,6 @@ returns-3 c =
     let g = e .before in
     rows-child (read (g .before .before)) (sym (g .agree .ensures) ∙ not-false _ (e .if2 .left)) (g .before .if1 .left) (c .if3 .taken)
     (p .component .result) (p .component .ensures .0)
-
-component-requires-2 : tie.Need-component-requires-2
-component-requires-2 c κs = search needs
-
-add-result : tie.Need-add-result
-add-result c = search needs
 
 returns-4 : tie.Need-returns-4
 returns-4 c =
@@ -81,17 +51,17 @@ pub follows-spec : {M : Type 1} → statement M
 follows-spec =
     tie.close
     (tie.spec
-    shared-slice-read-wide
-    wide-requires
-    shared-slice-read-wide-2
-    wide-requires-2
-    add-if1
+    (λ c. search needs)
+    (λ c κs. search needs)
+    (λ c. search needs)
+    (λ c κs. search needs)
+    (λ c. search needs)
     returns
-    sub-k
-    agree-requires
+    (λ c. search needs)
+    (λ c κs. search needs)
     returns-2
-    component-requires
+    (λ c κs. search needs)
     returns-3
-    component-requires-2
-    add-result
+    (λ c κs. search needs)
+    (λ c. search needs)
     returns-4)

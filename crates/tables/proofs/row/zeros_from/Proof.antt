@@ -18,12 +18,6 @@ Inv-loop row f k i₀ i = all (eqb 0) (drop i (words (f .levels) row 4)) ≡ all
 abbrev μ-loop : tie.MeasureT-loop
 μ-loop row f k i₀ i = f .levels - i
 
-loop-holds : tie.Need-loop-holds Inv-loop μ-loop
-loop-holds c = search needs
-
-component-requires : tie.Need-component-requires Inv-loop μ-loop
-component-requires c κs = search needs
-
 returns : tie.Need-returns Inv-loop μ-loop
 returns c =
     let l = c .before .before .before .before in
@@ -31,12 +25,6 @@ returns c =
     let ws = words (a .f .levels) (a .row .now) 4 in
     let lt : l .loop .i < length ws = omega (arith, length-words (a .f .levels) (a .row .now) 4) in
     sym (zeros-stop ws (l .loop .i) (c .before .component .result) lt (c .before .component .ensures .0) (c .if2 .taken)) ∙ l .loop .inv
-
-add-i : tie.Need-add-i Inv-loop μ-loop
-add-i c = search needs
-
-loop-less : tie.Need-loop-less Inv-loop μ-loop
-loop-less c = search needs
 
 loop-again : tie.Need-loop-again Inv-loop μ-loop
 loop-again c =
@@ -59,10 +47,10 @@ zeros-from-spec =
     (tie.spec
     Inv-loop
     μ-loop
-    loop-holds
-    component-requires
+    (λ c. search needs)
+    (λ c κs. search needs)
     returns
-    add-i
-    loop-less
+    (λ c. search needs)
+    (λ c. search needs)
     loop-again
     returns-2)

@@ -75,9 +75,6 @@ row-kept c =
     let row = r .record3 .ensures .0 ∙ ap (λ w. rec w (l .loop .i) t) (b .row-bytes .ensures) in
     ap₂ (λ x y. rowKept f (dewey (rowOf f x)) (rowOf f y)) (sym (row-before (r .before))) (sym row) ∙ sym (c .row-kept .ensures)
 
-row-bytes-requires : tie.Need-row-bytes-requires Inv-loop μ-loop
-row-bytes-requires c κs = search needs
-
 returns : tie.Need-returns Inv-loop μ-loop
 returns c =
     let f = formatOf (c .before) in
@@ -88,9 +85,6 @@ returns c =
 
 record-requires : tie.Need-record-requires Inv-loop μ-loop
 record-requires c κs = room (c .before) 0 (omega arith)
-
-first-kept-requires : tie.Need-first-kept-requires Inv-loop μ-loop
-first-kept-requires c κs = search needs
 
 returns-2 : tie.Need-returns-2 Inv-loop μ-loop
 returns-2 c =
@@ -134,12 +128,6 @@ returns-3 c =
     let some = search-stop f (a .table .now) (l .loop .i) (l .loop .inv) (omega (arith, begun b .pre .0)) (row-kept k ∙ not-true _ (c .if3 .taken)) in
     (some-place (badRow f (Tables.rows f (a .table .now))) (l .loop .i) (a .rows) (omega arith) some, omega arith)
 
-add-i : tie.Need-add-i Inv-loop μ-loop
-add-i c = omega arith
-
-loop-less : tie.Need-loop-less Inv-loop μ-loop
-loop-less c = omega arith
-
 loop-again : tie.Need-loop-again Inv-loop μ-loop
 loop-again c =
     let k = c .before in
@@ -162,10 +150,10 @@ bad-row-spec =
     (tie.spec
     Inv-loop
     μ-loop
-    row-bytes-requires
+    (λ c κs. search needs)
     returns
     record-requires
-    first-kept-requires
+    (λ c κs. search needs)
     returns-2
     loop-holds
     sub-record
@@ -173,7 +161,7 @@ bad-row-spec =
     record-requires-3
     row-kept-requires
     returns-3
-    add-i
-    loop-less
+    (λ c. omega arith)
+    (λ c. omega arith)
     loop-again
     returns-4)

@@ -26,20 +26,11 @@ short c = omega (arith, c .before .row-bytes .ensures, c .if1 .left)
 whole-rows : (c : tie.Else2) → length (lent (c .before .before)) % rowBytes (format (c .before .before)) ≡ 0
 whole-rows c = subst (λ w. length (lent (c .before .before)) % w ≡ 0) (c .before .before .row-bytes .ensures) (c .if2 .left)
 
-row-bytes-requires : tie.Need-row-bytes-requires
-row-bytes-requires c κs = search needs
-
-mul-if1 : tie.Need-mul-if1
-mul-if1 c = search needs
-
 returns : tie.Need-returns
 returns c =
     let w = c .before in
     let t = lent w in
     examine-refused (format w) t 1 0 (refused-1 (format w) t (omega (arith, w .row-bytes .ensures, c .if1 .taken)))
-
-rem-if2 : tie.Need-rem-if2
-rem-if2 c = search needs
 
 returns-2 : tie.Need-returns-2
 returns-2 c =
@@ -47,9 +38,6 @@ returns-2 c =
     let t = lent w in
     examine-refused (format w) t 2 0
     (refused-2 (format w) t (short (c .before)) (subst (λ w. length t % w ≡ 0 → ⊥) (w .row-bytes .ensures) (c .if2 .taken)))
-
-div-rows : tie.Need-div-rows
-div-rows c = search needs
 
 bad-row-requires : tie.Need-bad-row-requires
 bad-row-requires c κs =
@@ -77,12 +65,12 @@ pub examine-spec : {M : Type 1} → statement M
 examine-spec =
     tie.close
     (tie.spec
-    row-bytes-requires
-    mul-if1
+    (λ c κs. search needs)
+    (λ c. search needs)
     returns
-    rem-if2
+    (λ c. search needs)
     returns-2
-    div-rows
+    (λ c. search needs)
     bad-row-requires
     returns-3
     returns-4)

@@ -17,19 +17,10 @@ kept : (c : tie.Else1) →
     fieldsKept (a .f) (rowOf (a .f) (a .row .now)) ≡ true
 kept c = sym (c .before .fields-kept .ensures) ∙ not-false _ (c .if1 .left)
 
-fields-kept-requires : tie.Need-fields-kept-requires
-fields-kept-requires c κs = search needs
-
 returns : tie.Need-returns
 returns c =
     let a = c .before .before .before .args in
     sym (kept-fields (a .f) [] (rowOf (a .f) (a .row .now)) (sym (c .before .fields-kept .ensures) ∙ not-true _ (c .if1 .taken)))
-
-shared-slice-read-wide : tie.Need-shared-slice-read-wide
-shared-slice-read-wide c = search needs
-
-wide-requires : tie.Need-wide-requires
-wide-requires c κs = search needs
 
 returns-2 : tie.Need-returns-2
 returns-2 c =
@@ -55,10 +46,10 @@ pub first-kept-spec : {M : Type 1} → statement M
 first-kept-spec =
     tie.close
     (tie.spec
-    fields-kept-requires
+    (λ c κs. search needs)
     returns
-    shared-slice-read-wide
-    wide-requires
+    (λ c. search needs)
+    (λ c κs. search needs)
     returns-2
     component-requires
     returns-3)

@@ -28,18 +28,6 @@ accepted c =
     let r = x .examine .result in
     examined-given (begun x .args .f) (begun x .args .table .now) (r .number) (r .place) (r .rows) (x .examine .ensures) (c .if1 .left)
 
-examine-requires : tie.Need-examine-requires
-examine-requires c κs = search needs
-
-sub-result : tie.Need-sub-result
-sub-result c = search needs
-
-part-result-start : tie.Need-part-result-start
-part-result-start c = search needs
-
-part-result-end : tie.Need-part-result-end
-part-result-end c = search needs
-
 returns : tie.Need-returns
 returns c =
     let x = c .before .before in
@@ -49,9 +37,6 @@ returns c =
     let refusal = c .before .if1 .taken in
     nothing-back (a .f) (a .table) (a .i) (r .number) (r .place) refusal
     (lookUp-refused (a .f) t (a .i) (r .number) (r .place) (examined-refused (a .f) t (r .number) (r .place) (r .rows) (x .examine .ensures) refusal))
-
-row-bytes-requires : tie.Need-row-bytes-requires
-row-bytes-requires c κs = search needs
 
 record-requires : tie.Need-record-requires
 record-requires c κs =
@@ -72,15 +57,6 @@ returns-2 c =
     (subst (λ w. OwnFrom (a .table) (w * a .i) (r .result)) (w .row-bytes .ensures) (r .ensures .2))
     (lookUp-row (a .f) t (a .i) g (omega (arith, i .if2 .taken, n)))
 
-sub-result-2 : tie.Need-sub-result-2
-sub-result-2 c = search needs
-
-part-result-start-2 : tie.Need-part-result-start-2
-part-result-start-2 c = search needs
-
-part-result-end-2 : tie.Need-part-result-end-2
-part-result-end-2 c = search needs
-
 returns-3 : tie.Need-returns-3
 returns-3 c =
     let i = c .before in
@@ -92,15 +68,15 @@ pub look-up-spec : {M : Type 1} → statement M
 look-up-spec =
     tie.close
     (tie.spec
-    examine-requires
-    sub-result
-    part-result-start
-    part-result-end
+    (λ c κs. search needs)
+    (λ c. search needs)
+    (λ c. search needs)
+    (λ c. search needs)
     returns
-    row-bytes-requires
+    (λ c κs. search needs)
     record-requires
     returns-2
-    sub-result-2
-    part-result-start-2
-    part-result-end-2
+    (λ c. search needs)
+    (λ c. search needs)
+    (λ c. search needs)
     returns-3)

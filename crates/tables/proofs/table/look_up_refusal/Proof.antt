@@ -9,9 +9,6 @@ use borrow.Author.Needs.{needs}
 use Rattle.tables.proofs.table.look_up_refusal.Statement.{statement}
 use Rattle.tables.proofs.table.look_up_refusal.Tie as tie
 
-examine-requires : tie.Need-examine-requires
-examine-requires c κs = search needs
-
 returns : tie.Need-returns
 returns c =
     let x = c .before in
@@ -41,4 +38,4 @@ returns-3 c =
     (sym (ap (λ (r : Reply (List ℕ)). r .number) e), sym (ap (λ (r : Reply (List ℕ)). r .place) e))
 
 pub look-up-refusal-spec : {M : Type 1} → statement M
-look-up-refusal-spec = tie.close (tie.spec examine-requires returns returns-2 returns-3)
+look-up-refusal-spec = tie.close (tie.spec (λ c κs. search needs) returns returns-2 returns-3)

@@ -9,9 +9,6 @@ use borrow.Author.Needs.{needs}
 use Rattle.tables.proofs.table.row_kept.Statement.{statement}
 use Rattle.tables.proofs.table.row_kept.Tie as tie
 
-fields-kept-requires : tie.Need-fields-kept-requires
-fields-kept-requires c κs = search needs
-
 returns : tie.Need-returns
 returns c =
     let a = c .before .before .before .before .args in
@@ -33,4 +30,4 @@ returns-2 c =
     c .follows .ensures ∙ sym (kept-follows (a .f) (dewey (rowOf (a .f) (a .before .now))) (rowOf (a .f) (a .row .now)) kept)
 
 pub row-kept-spec : {M : Type 1} → statement M
-row-kept-spec = tie.close (tie.spec fields-kept-requires returns follows-requires returns-2)
+row-kept-spec = tie.close (tie.spec (λ c κs. search needs) returns follows-requires returns-2)

@@ -82,12 +82,6 @@ returns-2 c =
     (t .before .before .loop-test .taken) (matched t true (c .before .if2 .taken)) (c .if3 .taken) in
     (λ n h. for-name (begun l) mostTypes n h (small l) twice, omega arith)
 
-add-k : tie.Need-add-k Inv-loop μ-loop
-add-k c = search needs
-
-loop-less : tie.Need-loop-less Inv-loop μ-loop
-loop-less c = search needs
-
 loop-again : tie.Need-loop-again Inv-loop μ-loop
 loop-again c =
     let t = c .before .before in
@@ -98,12 +92,6 @@ loop-again c =
       seeking-here (a .parents .now) (a .labels .now) (a .count) (held (begun l)) (l .loop .found) (l .loop .k) (l .loop .inv .2)
           (t .before .before .loop-test .taken) (matched t true (c .before .if2 .taken)) (c .if3 .left),
     )
-
-add-k-2 : tie.Need-add-k-2 Inv-loop μ-loop
-add-k-2 c = search needs
-
-loop-less-2 : tie.Need-loop-less-2 Inv-loop μ-loop
-loop-less-2 c = search needs
 
 loop-again-2 : tie.Need-loop-again-2 Inv-loop μ-loop
 loop-again-2 c =
@@ -135,10 +123,10 @@ match-type-spec =
     slice-aggregate-type-matches
     type-matches-requires
     returns-2
-    add-k
-    loop-less
+    (λ c. search needs)
+    (λ c. search needs)
     loop-again
-    add-k-2
-    loop-less-2
+    (λ c. search needs)
+    (λ c. search needs)
     loop-again-2
     returns-3)

@@ -29,21 +29,6 @@ returns c =
     comparing-short (a .parents .now) (a .labels .now) (a .count) (a .name .now) (a .size) (a .whole) (a .k) (l .loop .q) (l .loop .j) (l .loop .inv .1)
     (omega arith) (omega arith) (c .if1 .taken)
 
-mul-if2 : tie.Need-mul-if2 Inv-loop μ-loop
-mul-if2 c = search needs
-
-shared-slice-read-if2 : tie.Need-shared-slice-read-if2 Inv-loop μ-loop
-shared-slice-read-if2 c = search needs
-
-sub-if2 : tie.Need-sub-if2 Inv-loop μ-loop
-sub-if2 c = search needs
-
-mul-if2-2 : tie.Need-mul-if2-2 Inv-loop μ-loop
-mul-if2-2 c = search needs
-
-shared-slice-read-if2-2 : tie.Need-shared-slice-read-if2-2 Inv-loop μ-loop
-shared-slice-read-if2-2 c = search needs
-
 returns-2 : tie.Need-returns-2 Inv-loop μ-loop
 returns-2 c =
     let e = c .before .before .before in
@@ -51,18 +36,6 @@ returns-2 c =
     let a = begun l .args in
     comparing-not (a .parents .now) (a .labels .now) (a .count) (a .name .now) (a .size) (a .whole) (a .k) (l .loop .q) (l .loop .j) (l .loop .inv .1)
     (omega arith) (omega arith) (e .if1 .left) (c .if2 .taken)
-
-shared-slice-read-wide : tie.Need-shared-slice-read-wide Inv-loop μ-loop
-shared-slice-read-wide c = search needs
-
-wide-requires : tie.Need-wide-requires Inv-loop μ-loop
-wide-requires c κs = search needs
-
-sub-j : tie.Need-sub-j Inv-loop μ-loop
-sub-j c = search needs
-
-loop-less : tie.Need-loop-less Inv-loop μ-loop
-loop-less c = search needs
 
 loop-again : tie.Need-loop-again Inv-loop μ-loop
 loop-again c =
@@ -99,16 +72,16 @@ type-matches-spec =
     μ-loop
     loop-holds
     returns
-    mul-if2
-    shared-slice-read-if2
-    sub-if2
-    mul-if2-2
-    shared-slice-read-if2-2
+    (λ c. search needs)
+    (λ c. search needs)
+    (λ c. search needs)
+    (λ c. search needs)
+    (λ c. search needs)
     returns-2
-    shared-slice-read-wide
-    wide-requires
-    sub-j
-    loop-less
+    (λ c. search needs)
+    (λ c κs. search needs)
+    (λ c. search needs)
+    (λ c. search needs)
     loop-again
     returns-3
     returns-4)

@@ -34,9 +34,6 @@ startOf u = begun (levelsAt (typesAt u .before) .before)
 abbrev Left : (s : tie.Start) → TreeRead → Type 0
 Left s r = let a = s .args in Shapes (a .f) (a .walked) (a .parents .now) (a .labels .now) (a .count) (a .shape .now) r (a .shape .now)
 
-refused-requires : tie.Need-refused-requires
-refused-requires c κs = search needs
-
 returns : tie.Need-returns
 returns c =
     let k = c .before .before in
@@ -47,14 +44,8 @@ returns c =
 slice-aggregate-first-from : tie.Need-slice-aggregate-first-from
 slice-aggregate-first-from c = search needs
 
-add-first-from : tie.Need-add-first-from
-add-first-from c = search needs
-
 first-from-requires : tie.Need-first-from-requires
 first-from-requires c κs = omega (arith, c .before .before .before .if1 .left, slice-aggregate-first-from (c .before))
-
-refused-requires-2 : tie.Need-refused-requires-2
-refused-requires-2 c κs = search needs
 
 returns-2 : tie.Need-returns-2
 returns-2 c =
@@ -71,9 +62,6 @@ slice-aggregate-first-from-2 c = search needs
 first-from-requires-2 : tie.Need-first-from-requires-2
 first-from-requires-2 c κs = let l = levelsAt (c .before .before .before) in omega (arith, l .if1 .left, slice-aggregate-first-from-2 c)
 
-refused-requires-3 : tie.Need-refused-requires-3
-refused-requires-3 c κs = search needs
-
 returns-3 : tie.Need-returns-3
 returns-3 c =
     let u = c .before .before in
@@ -85,9 +73,6 @@ returns-3 c =
     unmatched (a .f) ts es (a .shape .now) (a .walked) of (levelsAt d .if1 .left) _ (d .first-from .ensures) (t .if2 .left) (a .count) (listed .told .count-is)
     (listed .told .few) _ (u .first-from2 .ensures) (c .before .if3 .taken))
 
-entry-bytes-requires : tie.Need-entry-bytes-requires
-entry-bytes-requires c κs = search needs
-
 mul-if4 : tie.Need-mul-if4
 mul-if4 c =
     let l = levelsAt (typesAt (c .before .before) .before) in
@@ -96,9 +81,6 @@ mul-if4 c =
     let most : c .entry-bytes .result * begun (l .before) .args .walked .entries ≤ 20 * begun (l .before) .args .walked .entries =
     mul-le-mul-right (begun (l .before) .args .walked .entries) (omega (arith, size, deep)) in
     omega (arith, most, l .if1 .left)
-
-refused-requires-4 : tie.Need-refused-requires-4
-refused-requires-4 c κs = search needs
 
 returns-4 : tie.Need-returns-4
 returns-4 c =
@@ -143,9 +125,6 @@ put-entries-requires c κs =
     ) in
     ((s .pre .0, omega (arith, few, levels-in), omega (arith, few, types-in), omega (arith, size, c .before .before .before .if4 .left)), (s .pre .1, known))
 
-same-length : tie.Need-same-length
-same-length c = search needs
-
 returns-5 : tie.Need-returns-5
 returns-5 c =
     let p = c .before .before in
@@ -167,23 +146,23 @@ pub put-shape-spec : {M : Type 1} → statement M
 put-shape-spec =
     tie.close
     (tie.spec
-    refused-requires
+    (λ c κs. search needs)
     returns
     slice-aggregate-first-from
-    add-first-from
+    (λ c. search needs)
     first-from-requires
-    refused-requires-2
+    (λ c κs. search needs)
     returns-2
     slice-aggregate-first-from-2
     first-from-requires-2
-    refused-requires-3
+    (λ c κs. search needs)
     returns-3
-    entry-bytes-requires
+    (λ c κs. search needs)
     mul-if4
-    refused-requires-4
+    (λ c κs. search needs)
     returns-4
     slice-aggregate-put-entries
     slice-aggregate-put-entries-2
     put-entries-requires
-    same-length
+    (λ c. search needs)
     returns-5)

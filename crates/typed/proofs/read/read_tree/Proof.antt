@@ -87,12 +87,6 @@ listed c =
       short = λ v h. let deep = begun x .pre .0 .shallow in omega (arith, deep, types-fit (format x) (rows (format x) (table x)) (t .kept) v h .most);
     }
 
-examine-requires : tie.Need-examine-requires
-examine-requires c κs = search needs
-
-refused-requires : tie.Need-refused-requires
-refused-requires c κs = search needs
-
 returns : tie.Need-returns
 returns c =
     let x = c .before .before in
@@ -101,17 +95,11 @@ returns c =
     (table-refused (format x) (named x) (table x) (text x) (lent x) (r .number) (r .place)
     (table-laws.examined-refused (format x) (table x) (r .number) (r .place) (r .rows) (x .examine .ensures) (c .before .if1 .taken)))
 
-slice-aggregate-list-types : tie.Need-slice-aggregate-list-types
-slice-aggregate-list-types c = search needs
-
 list-types-requires : tie.Need-list-types-requires
 list-types-requires c κs =
     let u = c .before in
     let (asked, kept) = list-asked (begun (u .before) .pre .0) (tabled u) in
     (asked, (kept, refl))
-
-refused-requires-2 : tie.Need-refused-requires-2
-refused-requires-2 c κs = search needs
 
 returns-2 : tie.Need-returns-2
 returns-2 c =
@@ -123,9 +111,6 @@ returns-2 c =
     (types-refused (format x) (named x) (table x) (text x) (lent x) rs (t .passed) (l .list-types .result .over)
     (l .list-types .ensures .over
     ∙ place-some (l .list-types .result .over) (length rs) (omega (arith, c .before .if2 .taken, t .whole-rows, count-rows (format x) (table x)))))
-
-refused-requires-3 : tie.Need-refused-requires-3
-refused-requires-3 c κs = search needs
 
 returns-3 : tie.Need-returns-3
 returns-3 c =
@@ -143,9 +128,6 @@ walk-text-requires c κs =
     let types-few = listed (e .before) .told .few in
     (begun x .pre .0, omega (arith, e .if3 .left), (search needs, search needs, types-few))
 
-refused-requires-4 : tie.Need-refused-requires-4
-refused-requires-4 c κs = search needs
-
 returns-4 : tie.Need-returns-4
 returns-4 c =
     let w = c .before .before .before in
@@ -161,9 +143,6 @@ put-shape-requires c κs =
     let e = walkedAt (c .before .before .before .before .before .before .before .before) in
     let types-few = listed e .told .few in
     (begun (examinedAt (listedAt e)) .pre .0, (search needs, search needs, types-few))
-
-same-length : tie.Need-same-length
-same-length c = search needs
 
 returns-5 : tie.Need-returns-5
 returns-5 c =
@@ -184,18 +163,18 @@ pub read-tree-spec : {M : Type 1} → statement M
 read-tree-spec =
     tie.close
     (tie.spec
-    examine-requires
-    refused-requires
+    (λ c κs. search needs)
+    (λ c κs. search needs)
     returns
-    slice-aggregate-list-types
+    (λ c. search needs)
     list-types-requires
-    refused-requires-2
+    (λ c κs. search needs)
     returns-2
-    refused-requires-3
+    (λ c κs. search needs)
     returns-3
     walk-text-requires
-    refused-requires-4
+    (λ c κs. search needs)
     returns-4
     put-shape-requires
-    same-length
+    (λ c. search needs)
     returns-5)

@@ -45,9 +45,6 @@ room i =
 abbrev inside : tie.After-entry-record Inv-loop μ-loop → tie.In-loop Inv-loop μ-loop
 inside r = r .before .before .before .before
 
-entry-bytes-requires : tie.Need-entry-bytes-requires Inv-loop μ-loop
-entry-bytes-requires c κs = search needs
-
 loop-holds : tie.Need-loop-holds Inv-loop μ-loop
 loop-holds c =
     let a = c .before .before .before .before .before .before .args in (
@@ -56,25 +53,10 @@ loop-holds c =
       putting-start (a .f) (a .parents .now) (a .labels .now) (a .count) (a .levels .now) (a .types .now) (a .entries) (c .entry-bytes .result) (a .new .now),
     )
 
-mul-entry-record : tie.Need-mul-entry-record Inv-loop μ-loop
-mul-entry-record c = search needs
-
-shared-slice-read-entry-record : tie.Need-shared-slice-read-entry-record Inv-loop μ-loop
-shared-slice-read-entry-record c = search needs
-
 cast-entry-record : tie.Need-cast-entry-record Inv-loop μ-loop
 cast-entry-record c =
     let s = begun (c .before .before) in
     omega (arith, known (c .before) .0, s .pre .0 .0 .shallow)
-
-mul-wide16 : tie.Need-mul-wide16 Inv-loop μ-loop
-mul-wide16 c = search needs
-
-shared-slice-read-wide16 : tie.Need-shared-slice-read-wide16 Inv-loop μ-loop
-shared-slice-read-wide16 c = search needs
-
-wide16-requires : tie.Need-wide16-requires Inv-loop μ-loop
-wide16-requires c κs = search needs
 
 entry-record-requires : tie.Need-entry-record-requires Inv-loop μ-loop
 entry-record-requires c κs =
@@ -85,26 +67,11 @@ entry-record-requires c κs =
 mul-put : tie.Need-mul-put Inv-loop μ-loop
 mul-put c = let fits = room (inside (c .before)) in search needs
 
-sub-put : tie.Need-sub-put Inv-loop μ-loop
-sub-put c = search needs
-
-part-put-start : tie.Need-part-put-start Inv-loop μ-loop
-part-put-start c = search needs
-
-part-put-end : tie.Need-part-put-end Inv-loop μ-loop
-part-put-end c = search needs
-
 put-requires : tie.Need-put-requires Inv-loop μ-loop
 put-requires c κs =
     let r = c .before .before .before in
     let w = inside r .before .before .entry-bytes .result in
     omega (arith, room (inside r), length-take (w - 0) (r .entry-record .result))
-
-add-e : tie.Need-add-e Inv-loop μ-loop
-add-e c = search needs
-
-loop-less : tie.Need-loop-less Inv-loop μ-loop
-loop-less c = search needs
 
 loop-again : tie.Need-loop-again Inv-loop μ-loop
 loop-again c =
@@ -127,9 +94,6 @@ loop-again c =
           (l .loop .e) (l .loop .inv .2) (w .ensures) (i .loop-test .taken) (s .pre .0 .1) (s .pre .0 .2) (known i .1) own is put,
     )
 
-same-length : tie.Need-same-length Inv-loop μ-loop
-same-length c = search needs
-
 returns : tie.Need-returns Inv-loop μ-loop
 returns c =
     let l = c .before in
@@ -143,22 +107,22 @@ put-entries-spec =
     (tie.spec
     Inv-loop
     μ-loop
-    entry-bytes-requires
+    (λ c κs. search needs)
     loop-holds
-    mul-entry-record
-    shared-slice-read-entry-record
+    (λ c. search needs)
+    (λ c. search needs)
     cast-entry-record
-    mul-wide16
-    shared-slice-read-wide16
-    wide16-requires
+    (λ c. search needs)
+    (λ c. search needs)
+    (λ c κs. search needs)
     entry-record-requires
     mul-put
-    sub-put
-    part-put-start
-    part-put-end
+    (λ c. search needs)
+    (λ c. search needs)
+    (λ c. search needs)
     put-requires
-    add-e
-    loop-less
+    (λ c. search needs)
+    (λ c. search needs)
     loop-again
-    same-length
+    (λ c. search needs)
     returns)

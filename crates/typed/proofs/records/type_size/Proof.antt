@@ -28,18 +28,6 @@ returns c =
     let a = begun l .args in
     (omega arith, counting-end (a .parents .now) (a .count) (a .k) (l .loop .q) (l .loop .n) (l .loop .inv .1) (c .if1 .taken))
 
-shared-slice-read-wide : tie.Need-shared-slice-read-wide Inv-loop μ-loop
-shared-slice-read-wide c = search needs
-
-wide-requires : tie.Need-wide-requires Inv-loop μ-loop
-wide-requires c κs = search needs
-
-add-n : tie.Need-add-n Inv-loop μ-loop
-add-n c = search needs
-
-loop-less : tie.Need-loop-less Inv-loop μ-loop
-loop-less c = search needs
-
 loop-again : tie.Need-loop-again Inv-loop μ-loop
 loop-again c =
     let e = c .before .before in
@@ -65,9 +53,9 @@ type-size-spec =
     μ-loop
     loop-holds
     returns
-    shared-slice-read-wide
-    wide-requires
-    add-n
-    loop-less
+    (λ c. search needs)
+    (λ c κs. search needs)
+    (λ c. search needs)
+    (λ c. search needs)
     loop-again
     returns-2)

@@ -17,20 +17,11 @@ only-no not-so b = (λ e. absurd (true≢false (sym e ∙ not-so)), λ _. b)
 only-so : {t : Bool} {A B : Type 0} → t ≡ true → A → (t ≡ true → A) × (t ≡ false → B)
 only-so so a = (λ _. a, λ e. absurd (true≢false (sym so ∙ e)))
 
-no-entry-requires : tie.Need-no-entry-requires
-no-entry-requires c κs = search needs
-
 returns : tie.Need-returns
 returns c = let a = c .before .before .args in only-no (ap (λ n. mayEnd (stageOf n) (a .depth)) (c .before .if1 .taken)) (c .no-entry .ensures)
 
-no-entry-requires-2 : tie.Need-no-entry-requires-2
-no-entry-requires-2 c κs = search needs
-
 returns-2 : tie.Need-returns-2
 returns-2 c = let a = c .before .before .before .args in only-no (ap (λ n. mayEnd (stageOf n) (a .depth)) (c .before .if2 .taken)) (c .no-entry2 .ensures)
-
-no-entry-requires-3 : tie.Need-no-entry-requires-3
-no-entry-requires-3 c κs = search needs
 
 returns-3 : tie.Need-returns-3
 returns-3 c =
@@ -49,10 +40,10 @@ pub ended-spec : {M : Type 1} → statement M
 ended-spec =
     tie.close
     (tie.spec
-    no-entry-requires
+    (λ c κs. search needs)
     returns
-    no-entry-requires-2
+    (λ c κs. search needs)
     returns-2
-    no-entry-requires-3
+    (λ c κs. search needs)
     returns-3
     returns-4)

@@ -49,12 +49,6 @@ put c =
     ))
     (c .if2 .came)
 
-read-word-requires : tie.Need-read-word-requires
-read-word-requires c κs = search needs
-
-no-entry-requires : tie.Need-no-entry-requires
-no-entry-requires c κs = search needs
-
 returns : tie.Need-returns
 returns c =
     let r = c .before .before .before in
@@ -69,33 +63,6 @@ returns c =
       level-put = λ t. absurd (true≢false (sym t ∙ wrong));
       type-put = λ t. absurd (true≢false (sym t ∙ wrong));
     }
-
-add-levels : tie.Need-add-levels
-add-levels c = search needs
-
-cast-levels : tie.Need-cast-levels
-cast-levels c = search needs
-
-mul-levels : tie.Need-mul-levels
-mul-levels c = search needs
-
-array-write-levels : tie.Need-array-write-levels
-array-write-levels c = search needs
-
-match-type-requires : tie.Need-match-type-requires
-match-type-requires c κs = search needs
-
-cast-types : tie.Need-cast-types
-cast-types c = search needs
-
-mul-types : tie.Need-mul-types
-mul-types c = search needs
-
-array-write-types : tie.Need-array-write-types
-array-write-types c = search needs
-
-add-t20 : tie.Need-add-t20
-add-t20 c = search needs
 
 returns-2 : tie.Need-returns-2
 returns-2 c =
@@ -114,16 +81,16 @@ pub keep-word-spec : {M : Type 1} → statement M
 keep-word-spec =
     tie.close
     (tie.spec
-    read-word-requires
-    no-entry-requires
+    (λ c κs. search needs)
+    (λ c κs. search needs)
     returns
-    add-levels
-    cast-levels
-    mul-levels
-    array-write-levels
-    match-type-requires
-    cast-types
-    mul-types
-    array-write-types
-    add-t20
+    (λ c. search needs)
+    (λ c. search needs)
+    (λ c. search needs)
+    (λ c. search needs)
+    (λ c κs. search needs)
+    (λ c. search needs)
+    (λ c. search needs)
+    (λ c. search needs)
+    (λ c. search needs)
     returns-2)

@@ -75,9 +75,6 @@ long : (k : tie.After-keep-word Inv-loop μ-loop) →
     (length (r .levels) ≡ mostEntries) × (length (r .types) ≡ mostEntries)
 long k = let ok = k .keep-word .ok in search needs
 
-no-entry-requires : tie.Need-no-entry-requires Inv-loop μ-loop
-no-entry-requires c κs = search needs
-
 loop-holds : tie.Need-loop-holds Inv-loop μ-loop
 loop-holds c =
     let s = c .before .before .before .before in
@@ -90,15 +87,6 @@ loop-holds c =
       search needs,
       going-start (a .f) (a .text .now) (a .parents .now) (a .labels .now) (a .count) (c .no-entry .result) right none (s .pre .1),
     )
-
-shared-slice-read-b : tie.Need-shared-slice-read-b Inv-loop μ-loop
-shared-slice-read-b c = search needs
-
-add-p : tie.Need-add-p Inv-loop μ-loop
-add-p c = search needs
-
-loop-less : tie.Need-loop-less Inv-loop μ-loop
-loop-less c = search needs
 
 loop-again : tie.Need-loop-again Inv-loop μ-loop
 loop-again c =
@@ -115,12 +103,6 @@ loop-again c =
           (v .w) (v .stage) (v .depth) (v .p) (v .inv .5) (b .before .loop-test .taken) (c .if1 .taken),
     )
 
-may-stand-requires : tie.Need-may-stand-requires Inv-loop μ-loop
-may-stand-requires c κs = search needs
-
-no-entry-requires-2 : tie.Need-no-entry-requires-2 Inv-loop μ-loop
-no-entry-requires-2 c κs = search needs
-
 returns : tie.Need-returns Inv-loop μ-loop
 returns c =
     let m = c .before .before in
@@ -132,15 +114,6 @@ returns c =
     (going-stop (a .f) (a .text .now) (a .parents .now) (a .labels .now) (a .count)
     (v .w) (v .stage) (v .depth) (v .p) (v .inv .5) (b .before .loop-test .taken) (m .before .if1 .left)
     (sym (m .may-stand .ensures) ∙ not-true _ (c .before .if2 .taken)))
-
-add-depth : tie.Need-add-depth Inv-loop μ-loop
-add-depth c = search needs
-
-add-p-2 : tie.Need-add-p-2 Inv-loop μ-loop
-add-p-2 c = search needs
-
-loop-less-2 : tie.Need-loop-less-2 Inv-loop μ-loop
-loop-less-2 c = search needs
 
 loop-again-2 : tie.Need-loop-again-2 Inv-loop μ-loop
 loop-again-2 c =
@@ -162,12 +135,6 @@ loop-again-2 c =
 sub-depth : tie.Need-sub-depth Inv-loop μ-loop
 sub-depth c = let v = turn (read (c .before .before)) .loop in close-deep (stageOf (v .stage)) (v .depth) (closes c)
 
-add-p-3 : tie.Need-add-p-3 Inv-loop μ-loop
-add-p-3 c = search needs
-
-loop-less-3 : tie.Need-loop-less-3 Inv-loop μ-loop
-loop-less-3 c = search needs
-
 loop-again-3 : tie.Need-loop-again-3 Inv-loop μ-loop
 loop-again-3 c =
     let b = read (c .before .before) in
@@ -182,9 +149,6 @@ loop-again-3 c =
       going-close (a .f) (a .text .now) (a .parents .now) (a .labels .now) (a .count)
           (v .w) (v .stage) (v .depth) (v .p) (v .inv .5) (b .before .loop-test .taken) (c .if4 .taken) (closes c),
     )
-
-word-end-requires : tie.Need-word-end-requires Inv-loop μ-loop
-word-end-requires c κs = search needs
 
 sub-keep-word : tie.Need-sub-keep-word Inv-loop μ-loop
 sub-keep-word c = let later = ends-later c in search needs
@@ -204,9 +168,6 @@ keep-word-requires c κs =
     let t = begun l .args .text .now in
     let size = length-take (w .word-end .result - v .p) (drop (v .p) t) in
     (served, omega (arith, size, length-drop (v .p) t, short), omega (arith, v .inv .0, v .inv .1, short), omega (arith, v .inv .0, v .inv .2, short), lists)
-
-no-entry-requires-3 : tie.Need-no-entry-requires-3 Inv-loop μ-loop
-no-entry-requires-3 c κs = search needs
 
 returns-2 : tie.Need-returns-2 Inv-loop μ-loop
 returns-2 c =
@@ -248,9 +209,6 @@ loop-again-4 c =
           (k .keep-word .result) (k .keep-word .ensures) yet (w .word-end .result) (w .word-end .ensures .0),
     )
 
-ended-requires : tie.Need-ended-requires Inv-loop μ-loop
-ended-requires c κs = search needs
-
 returns-3 : tie.Need-returns-3 Inv-loop μ-loop
 returns-3 c =
     let l = c .before .before in
@@ -265,31 +223,31 @@ walk-text-spec =
     (tie.spec
     Inv-loop
     μ-loop
-    no-entry-requires
+    (λ c κs. search needs)
     loop-holds
-    shared-slice-read-b
-    add-p
-    loop-less
+    (λ c. search needs)
+    (λ c. search needs)
+    (λ c. search needs)
     loop-again
-    may-stand-requires
-    no-entry-requires-2
+    (λ c κs. search needs)
+    (λ c κs. search needs)
     returns
-    add-depth
-    add-p-2
-    loop-less-2
+    (λ c. search needs)
+    (λ c. search needs)
+    (λ c. search needs)
     loop-again-2
     sub-depth
-    add-p-3
-    loop-less-3
+    (λ c. search needs)
+    (λ c. search needs)
     loop-again-3
-    word-end-requires
+    (λ c κs. search needs)
     sub-keep-word
     part-keep-word-start
     part-keep-word-end
     keep-word-requires
-    no-entry-requires-3
+    (λ c κs. search needs)
     returns-2
     loop-less-4
     loop-again-4
-    ended-requires
+    (λ c κs. search needs)
     returns-3)

@@ -32,12 +32,6 @@ ends b e =
     let t = l .before .args .text .now in
     (omega (arith, l .loop .inv .1, run-stop t (l .loop .q) (b .before .loop-test .taken) e), l .loop .inv .0)
 
-loop-holds : tie.Need-loop-holds Inv-loop μ-loop
-loop-holds c = search needs
-
-shared-slice-read-b : tie.Need-shared-slice-read-b Inv-loop μ-loop
-shared-slice-read-b c = search needs
-
 returns : tie.Need-returns Inv-loop μ-loop
 returns c = ends (c .before .before) (ap plain (c .if2 .taken))
 
@@ -46,12 +40,6 @@ returns-2 c = ends (c .before .before .before) (ap plain (c .if3 .taken))
 
 returns-3 : tie.Need-returns-3 Inv-loop μ-loop
 returns-3 c = ends (c .before .before .before .before) (ap plain (c .if4 .taken))
-
-add-q : tie.Need-add-q Inv-loop μ-loop
-add-q c = search needs
-
-loop-less : tie.Need-loop-less Inv-loop μ-loop
-loop-less c = search needs
 
 -- Behind the tests the byte is plain: each was answered no, or it lies above the brackets.
 goes-on : (c : tie.Joined1 Inv-loop μ-loop) →
@@ -81,12 +69,12 @@ word-end-spec =
     (tie.spec
     Inv-loop
     μ-loop
-    loop-holds
-    shared-slice-read-b
+    (λ c. search needs)
+    (λ c. search needs)
     returns
     returns-2
     returns-3
-    add-q
-    loop-less
+    (λ c. search needs)
+    (λ c. search needs)
     loop-again
     returns-4)

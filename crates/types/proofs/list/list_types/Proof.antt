@@ -49,14 +49,8 @@ level-within c =
     let fits = l-fits _ _ (s .pre .1 .0) _ (here c) _ _ (level-is c) (label-is c) in
     (l-pos _ _ (s .pre .1 .0) _ (here c) _ _ (level-is c) (label-is c), omega (arith, fits, s .pre .0 .2))
 
-array-write-stack : tie.Need-array-write-stack Inv-loop μ-loop
-array-write-stack c = search needs
-
 loop-holds : tie.Need-loop-holds Inv-loop μ-loop
 loop-holds c = (omega arith, walk-start _ _ _ _ _ _ _ refl (c .before .before .pre .1 .1) refl refl refl refl, omega arith)
-
-row-bytes-requires : tie.Need-row-bytes-requires Inv-loop μ-loop
-row-bytes-requires c κs = search needs
 
 record-requires : tie.Need-record-requires Inv-loop μ-loop
 record-requires c κs =
@@ -64,80 +58,14 @@ record-requires c κs =
     row-in (c .row-bytes .result) (l .loop .i) (begun l .args .table .now)
     (rw (c .row-bytes .ensures) (omega (arith, begun l .pre .0 .0, c .before .loop-test .taken)))
 
-shared-slice-read-wide : tie.Need-shared-slice-read-wide Inv-loop μ-loop
-shared-slice-read-wide c = search needs
-
-wide-requires : tie.Need-wide-requires Inv-loop μ-loop
-wide-requires c κs = search needs
-
-word-requires : tie.Need-word-requires Inv-loop μ-loop
-word-requires c κs = search needs
-
-cast-a : tie.Need-cast-a Inv-loop μ-loop
-cast-a c = search needs
-
 sub-p : tie.Need-sub-p Inv-loop μ-loop
 sub-p c = omega (arith, level-within c .0)
 
 array-read-p : tie.Need-array-read-p Inv-loop μ-loop
 array-read-p c = omega (arith, level-within c)
 
-wide-requires-2 : tie.Need-wide-requires-2 Inv-loop μ-loop
-wide-requires-2 c κs = search needs
-
-mul-at : tie.Need-mul-at Inv-loop μ-loop
-mul-at c = search needs
-
-wide16-requires : tie.Need-wide16-requires Inv-loop μ-loop
-wide16-requires c κs = search needs
-
-add-at : tie.Need-add-at Inv-loop μ-loop
-add-at c = search needs
-
-array-read-wide : tie.Need-array-read-wide Inv-loop μ-loop
-array-read-wide c = search needs
-
-wide-requires-3 : tie.Need-wide-requires-3 Inv-loop μ-loop
-wide-requires-3 c κs = search needs
-
-array-read-wide-2 : tie.Need-array-read-wide-2 Inv-loop μ-loop
-array-read-wide-2 c = search needs
-
-wide-requires-4 : tie.Need-wide-requires-4 Inv-loop μ-loop
-wide-requires-4 c κs = search needs
-
-slice-aggregate-find-near : tie.Need-slice-aggregate-find-near Inv-loop μ-loop
-slice-aggregate-find-near c = search needs
-
-slice-aggregate-find-near-2 : tie.Need-slice-aggregate-find-near-2 Inv-loop μ-loop
-slice-aggregate-find-near-2 c = search needs
-
-find-near-requires : tie.Need-find-near-requires Inv-loop μ-loop
-find-near-requires c κs = search needs
-
-cast-types : tie.Need-cast-types Inv-loop μ-loop
-cast-types c = search needs
-
-slice-write-types : tie.Need-slice-write-types Inv-loop μ-loop
-slice-write-types c = search needs
-
-cast-stack : tie.Need-cast-stack Inv-loop μ-loop
-cast-stack c = search needs
-
 array-write-stack-2 : tie.Need-array-write-stack-2 Inv-loop μ-loop
 array-write-stack-2 c = omega (arith, level-within (read (c .before)) .1)
-
-cast-after : tie.Need-cast-after Inv-loop μ-loop
-cast-after c = search needs
-
-array-write-after : tie.Need-array-write-after Inv-loop μ-loop
-array-write-after c = search needs
-
-add-i : tie.Need-add-i Inv-loop μ-loop
-add-i c = search needs
-
-loop-less : tie.Need-loop-less Inv-loop μ-loop
-loop-less c = search needs
 
 loop-again : tie.Need-loop-again Inv-loop μ-loop
 loop-again c =
@@ -151,9 +79,6 @@ loop-again c =
       omega (arith, c .if1 .taken, v .inv .1 .pass .few),
     )
 
-same-length : tie.Need-same-length Inv-loop μ-loop
-same-length c = search needs
-
 returns : tie.Need-returns Inv-loop μ-loop
 returns c =
     let x = c .before .before in
@@ -162,56 +87,8 @@ returns c =
     walk-full _ _ (s .pre .1 .0) _ (here r) _ _ (level-is r) (label-is r) _ _ _ _ _ _ _ (turn r .loop .inv .1) refl
     (omega (arith, s .pre .0 .0)) (s .pre .0 .2) (x .find-near .ensures .none (omega arith)) (c .if2 .taken)
 
-array-write-parents : tie.Need-array-write-parents Inv-loop μ-loop
-array-write-parents c = search needs
-
-mul-labels : tie.Need-mul-labels Inv-loop μ-loop
-mul-labels c = search needs
-
-array-write-labels : tie.Need-array-write-labels Inv-loop μ-loop
-array-write-labels c = search needs
-
-cast-first : tie.Need-cast-first Inv-loop μ-loop
-cast-first c = search needs
-
-mul-first : tie.Need-mul-first Inv-loop μ-loop
-mul-first c = search needs
-
-array-write-first : tie.Need-array-write-first Inv-loop μ-loop
-array-write-first c = search needs
-
-cast-types-2 : tie.Need-cast-types-2 Inv-loop μ-loop
-cast-types-2 c = search needs
-
-slice-write-types-2 : tie.Need-slice-write-types-2 Inv-loop μ-loop
-slice-write-types-2 c = search needs
-
-cast-stack-2 : tie.Need-cast-stack-2 Inv-loop μ-loop
-cast-stack-2 c = search needs
-
 array-write-stack-3 : tie.Need-array-write-stack-3 Inv-loop μ-loop
 array-write-stack-3 c = omega (arith, level-within (read (c .before .before)) .1)
-
-cast-after-2 : tie.Need-cast-after-2 Inv-loop μ-loop
-cast-after-2 c = search needs
-
-array-write-after-2 : tie.Need-array-write-after-2 Inv-loop μ-loop
-array-write-after-2 c = search needs
-
-cast-near : tie.Need-cast-near Inv-loop μ-loop
-cast-near c = search needs
-
-array-write-near : tie.Need-array-write-near Inv-loop μ-loop
-array-write-near c = search needs
-
-add-count : tie.Need-add-count Inv-loop μ-loop
-add-count c = search needs
-
-add-i-2 : tie.Need-add-i-2 Inv-loop μ-loop
-add-i-2 c = search needs
-
-loop-less-2 : tie.Need-loop-less-2 Inv-loop μ-loop
-loop-less-2 c = search needs
 
 loop-again-2 : tie.Need-loop-again-2 Inv-loop μ-loop
 loop-again-2 c =
@@ -224,9 +101,6 @@ loop-again-2 c =
           (x .find-near .ensures .none (omega arith)) (omega (arith, v .inv .1 .pass .few)),
       omega (arith, v .inv .1 .pass .few),
     )
-
-same-length-2 : tie.Need-same-length-2 Inv-loop μ-loop
-same-length-2 c = search needs
 
 returns-2 : tie.Need-returns-2 Inv-loop μ-loop
 returns-2 c =
@@ -243,55 +117,55 @@ list-types-spec =
     (tie.spec
     Inv-loop
     μ-loop
-    array-write-stack
+    (λ c. search needs)
     loop-holds
-    row-bytes-requires
+    (λ c κs. search needs)
     record-requires
-    shared-slice-read-wide
-    wide-requires
-    word-requires
-    cast-a
+    (λ c. search needs)
+    (λ c κs. search needs)
+    (λ c κs. search needs)
+    (λ c. search needs)
     sub-p
     array-read-p
-    wide-requires-2
-    mul-at
-    wide16-requires
-    add-at
-    array-read-wide
-    wide-requires-3
-    array-read-wide-2
-    wide-requires-4
-    slice-aggregate-find-near
-    slice-aggregate-find-near-2
-    find-near-requires
-    cast-types
-    slice-write-types
-    cast-stack
+    (λ c κs. search needs)
+    (λ c. search needs)
+    (λ c κs. search needs)
+    (λ c. search needs)
+    (λ c. search needs)
+    (λ c κs. search needs)
+    (λ c. search needs)
+    (λ c κs. search needs)
+    (λ c. search needs)
+    (λ c. search needs)
+    (λ c κs. search needs)
+    (λ c. search needs)
+    (λ c. search needs)
+    (λ c. search needs)
     array-write-stack-2
-    cast-after
-    array-write-after
-    add-i
-    loop-less
+    (λ c. search needs)
+    (λ c. search needs)
+    (λ c. search needs)
+    (λ c. search needs)
     loop-again
-    same-length
+    (λ c. search needs)
     returns
-    array-write-parents
-    mul-labels
-    array-write-labels
-    cast-first
-    mul-first
-    array-write-first
-    cast-types-2
-    slice-write-types-2
-    cast-stack-2
+    (λ c. search needs)
+    (λ c. search needs)
+    (λ c. search needs)
+    (λ c. search needs)
+    (λ c. search needs)
+    (λ c. search needs)
+    (λ c. search needs)
+    (λ c. search needs)
+    (λ c. search needs)
     array-write-stack-3
-    cast-after-2
-    array-write-after-2
-    cast-near
-    array-write-near
-    add-count
-    add-i-2
-    loop-less-2
+    (λ c. search needs)
+    (λ c. search needs)
+    (λ c. search needs)
+    (λ c. search needs)
+    (λ c. search needs)
+    (λ c. search needs)
+    (λ c. search needs)
     loop-again-2
-    same-length-2
+    (λ c. search needs)
     returns-2)

@@ -13,9 +13,6 @@ use Rattle.widths.proofs.moves.move_shape.Tie as tie
 abbrev begun : tie.After-examine-shape → tie.Start
 begun x = x .before .before .before
 
-examine-shape-requires : tie.Need-examine-shape-requires
-examine-shape-requires c κs = search needs
-
 returns : tie.Need-returns
 unfolding moveShape
 returns c =
@@ -25,9 +22,6 @@ returns c =
     let s = a .shape .now in
     file-refused (tests5-6 (a .f) s) (entryDeep (a .g)) (shapeTo (a .f) (a .g) s) (a .new .now) (r .number) (r .place)
     (examined-refused (a .f) s (r .number) (r .place) (r .entries) (x .examine-shape .ensures) (c .if1 .taken))
-
-entry-bytes-requires : tie.Need-entry-bytes-requires
-entry-bytes-requires c κs = search needs
 
 move-tested-requires : tie.Need-move-tested-requires
 move-tested-requires c κs =
@@ -40,9 +34,6 @@ move-tested-requires c κs =
     let n = counted (b .args .f) s (r .number) (r .place) (r .entries) (x .examine-shape .ensures) (e .if1 .left) in
     let few = few-entries (b .args .f) s (r .number) (r .place) (r .entries) (x .examine-shape .ensures) (e .if1 .left) in
     ((b .pre .0, b .pre .1, omega (arith, w), omega (arith, w)), (n ∙ ap (λ n. whole n s) (sym w), omega (arith, few)))
-
-same-length : tie.Need-same-length
-same-length c = search needs
 
 returns-2 : tie.Need-returns-2
 returns-2 c =
@@ -60,9 +51,9 @@ pub move-shape-spec : {M : Type 1} → statement M
 move-shape-spec =
     tie.close
     (tie.spec
-    examine-shape-requires
+    (λ c κs. search needs)
     returns
-    entry-bytes-requires
+    (λ c κs. search needs)
     move-tested-requires
-    same-length
+    (λ c. search needs)
     returns-2)

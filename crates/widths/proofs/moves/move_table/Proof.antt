@@ -15,9 +15,6 @@ use Rattle.widths.proofs.moves.move_table.Tie as tie
 abbrev begun : tie.After-examine → tie.Start
 begun x = x .before .before .before
 
-examine-requires : tie.Need-examine-requires
-examine-requires c κs = search needs
-
 returns : tie.Need-returns
 unfolding moveTable
 returns c =
@@ -27,9 +24,6 @@ returns c =
     let t = a .table .now in
     file-refused (tests1-3 (a .f) t) (rowDeep (a .g)) (tableTo (a .f) (a .g) t) (a .new .now) (r .number) (r .place)
     (examined-refused (a .f) t (r .number) (r .place) (r .rows) (x .examine .ensures) (c .if1 .taken))
-
-row-bytes-requires : tie.Need-row-bytes-requires
-row-bytes-requires c κs = search needs
 
 -- the tests are passed
 passed : (c : tie.Else1) →
@@ -52,9 +46,6 @@ move-tested-requires c κs =
       (counted ∙ ap (λ n. whole n t) (sym w), omega (arith, counted, count-rows f t, few-rows f t (passed1-3 f t (rows f t) tests .2))),
     )
 
-same-length : tie.Need-same-length
-same-length c = search needs
-
 returns-2 : tie.Need-returns-2
 returns-2 c =
     let m = c .before .before in
@@ -67,9 +58,9 @@ pub move-table-spec : {M : Type 1} → statement M
 move-table-spec =
     tie.close
     (tie.spec
-    examine-requires
+    (λ c κs. search needs)
     returns
-    row-bytes-requires
+    (λ c κs. search needs)
     move-tested-requires
-    same-length
+    (λ c. search needs)
     returns-2)

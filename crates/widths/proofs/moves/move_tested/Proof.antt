@@ -21,23 +21,11 @@ begun x = x .before .before .before
 abbrev looked : tie.After-moved-bytes → tie.After-first-deep
 looked m = m .before .before .before .before
 
-first-deep-requires : tie.Need-first-deep-requires
-first-deep-requires c κs = search needs
-
 returns : tie.Need-returns
 returns c =
     let x = c .before in
     let a = begun x .args in
     tested-deep (a .f) (a .g) (a .w) (a .count) (a .b .now) (a .new .now) (x .first-deep .result) (x .first-deep .ensures) (c .if1 .taken)
-
-entry-bytes-requires : tie.Need-entry-bytes-requires
-entry-bytes-requires c κs = search needs
-
-entry-bytes-requires-2 : tie.Need-entry-bytes-requires-2
-entry-bytes-requires-2 c κs = search needs
-
-moved-bytes-requires : tie.Need-moved-bytes-requires
-moved-bytes-requires c κs = search needs
 
 -- so many bytes are asked
 asked : (m : tie.After-moved-bytes) →
@@ -70,9 +58,6 @@ move-records-requires c κs =
     let room = ap (λ n. n * begun (looked m) .args .count) (m .moved-bytes .ensures) in
     search needs
 
-same-length : tie.Need-same-length
-same-length c = search needs
-
 returns-3 : tie.Need-returns-3
 returns-3 c =
     let w = c .before .before in
@@ -90,13 +75,13 @@ pub move-tested-spec : {M : Type 1} → statement M
 move-tested-spec =
     tie.close
     (tie.spec
-    first-deep-requires
+    (λ c κs. search needs)
     returns
-    entry-bytes-requires
-    entry-bytes-requires-2
-    moved-bytes-requires
+    (λ c κs. search needs)
+    (λ c κs. search needs)
+    (λ c κs. search needs)
     mul-if2
     returns-2
     move-records-requires
-    same-length
+    (λ c. search needs)
     returns-3)

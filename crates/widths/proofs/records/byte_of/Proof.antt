@@ -7,9 +7,6 @@ use borrow.Author.Needs.{needs}
 use Rattle.widths.proofs.records.byte_of.Statement.{statement}
 use Rattle.widths.proofs.records.byte_of.Tie as tie
 
-shared-slice-read-result : tie.Need-shared-slice-read-result
-shared-slice-read-result c = search needs
-
 returns : tie.Need-returns
 returns c = let a = c .before .before .args in sym (getD-take (a .from) (a .r .now) (a .k) 0 (c .before .if1 .taken))
 
@@ -19,4 +16,4 @@ returns-2 c =
     sym (List·getD-eq-default (take (a .from) (a .r .now)) 0 {n = a .k} (omega (arith, length-take (a .from) (a .r .now), c .if1 .left)))
 
 pub byte-of-spec : {M : Type 1} → statement M
-byte-of-spec = tie.close (tie.spec shared-slice-read-result returns returns-2)
+byte-of-spec = tie.close (tie.spec (λ c. search needs) returns returns-2)

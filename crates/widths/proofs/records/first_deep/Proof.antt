@@ -25,9 +25,6 @@ loop-holds c = let a = c .before .args in looking-start (recordDeep (a .levels))
 record-requires : tie.Need-record-requires Inv-loop μ-loop
 record-requires c κs = let s = begun (c .before) in row-in (s .args .w) (c .before .loop .i) (s .args .b .now) (omega (arith, s .pre .1, c .loop-test .taken))
 
-is-deep-requires : tie.Need-is-deep-requires Inv-loop μ-loop
-is-deep-requires c κs = search needs
-
 returns : tie.Need-returns Inv-loop μ-loop
 returns c =
     let l = c .before .before .before .before in
@@ -35,12 +32,6 @@ returns c =
     looking-stop (recordDeep (a .levels)) (records (a .w) (a .count) (a .b .now)) (a .count) (l .loop .i) (l .loop .inv) (omega arith)
     (rec (a .w) (l .loop .i) (a .b .now)) (next-record (a .w) (a .count) (a .b .now) (l .loop .i) (omega arith))
     (sym (c .before .is-deep .ensures ∙ ap (recordDeep (a .levels)) (c .before .before .«record» .ensures .0)) ∙ c .if1 .taken)
-
-add-i : tie.Need-add-i Inv-loop μ-loop
-add-i c = omega arith
-
-loop-less : tie.Need-loop-less Inv-loop μ-loop
-loop-less c = omega arith
 
 loop-again : tie.Need-loop-again Inv-loop μ-loop
 loop-again c =
@@ -64,9 +55,9 @@ first-deep-spec =
     μ-loop
     loop-holds
     record-requires
-    is-deep-requires
+    (λ c κs. search needs)
     returns
-    add-i
-    loop-less
+    (λ c. omega arith)
+    (λ c. omega arith)
     loop-again
     returns-2)

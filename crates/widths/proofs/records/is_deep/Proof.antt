@@ -9,24 +9,12 @@ use borrow.Author.Needs.{needs}
 use Rattle.widths.proofs.records.is_deep.Statement.{statement}
 use Rattle.widths.proofs.records.is_deep.Tie as tie
 
-shared-slice-read-wide : tie.Need-shared-slice-read-wide
-shared-slice-read-wide c = search needs
-
-wide-requires : tie.Need-wide-requires
-wide-requires c κs = search needs
-
 returns : tie.Need-returns
 returns c =
     let x = c .before in
     let a = x .before .before .before .args in
     sym (or-left (ltb (a .levels) (getD (a .r .now) 1 0))
     (ap (ltb (a .levels)) (sym (x .wide .ensures .0)) ∙ lt-ltb (a .levels) (x .wide .result) (c .if1 .taken)))
-
-shared-slice-read-wide-2 : tie.Need-shared-slice-read-wide-2
-shared-slice-read-wide-2 c = search needs
-
-wide-requires-2 : tie.Need-wide-requires-2
-wide-requires-2 c κs = search needs
 
 returns-2 : tie.Need-returns-2
 returns-2 c =
@@ -40,9 +28,9 @@ pub is-deep-spec : {M : Type 1} → statement M
 is-deep-spec =
     tie.close
     (tie.spec
-    shared-slice-read-wide
-    wide-requires
+    (λ c. search needs)
+    (λ c κs. search needs)
     returns
-    shared-slice-read-wide-2
-    wide-requires-2
+    (λ c. search needs)
+    (λ c κs. search needs)
     returns-2)

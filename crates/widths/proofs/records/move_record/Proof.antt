@@ -4,27 +4,6 @@ use borrow.Author.Needs.{needs}
 use Rattle.widths.proofs.records.move_record.Statement.{statement}
 use Rattle.widths.proofs.records.move_record.Tie as tie
 
-put-list-requires : tie.Need-put-list-requires
-put-list-requires c κs = search needs
-
-add-put : tie.Need-add-put
-add-put c = search needs
-
-sub-put : tie.Need-sub-put
-sub-put c = search needs
-
-part-put-start : tie.Need-part-put-start
-part-put-start c = search needs
-
-part-put-end : tie.Need-part-put-end
-part-put-end c = search needs
-
-put-requires : tie.Need-put-requires
-put-requires c κs = search needs
-
-same-length : tie.Need-same-length
-same-length c = search needs
-
 returns : tie.Need-returns
 returns c =
     let put = c .before .before in
@@ -36,11 +15,11 @@ pub move-record-spec : {M : Type 1} → statement M
 move-record-spec =
     tie.close
     (tie.spec
-    put-list-requires
-    add-put
-    sub-put
-    part-put-start
-    part-put-end
-    put-requires
-    same-length
+    (λ c κs. search needs)
+    (λ c. search needs)
+    (λ c. search needs)
+    (λ c. search needs)
+    (λ c. search needs)
+    (λ c κs. search needs)
+    (λ c. search needs)
     returns)

@@ -25,9 +25,6 @@ At-loop = tie.At-loop Inv-loop μ-loop
 abbrev begun : At-loop → tie.Start Inv-loop μ-loop
 begun l = l .before .before .before .before
 
-moved-bytes-requires : tie.Need-moved-bytes-requires Inv-loop μ-loop
-moved-bytes-requires c κs = search needs
-
 loop-holds : tie.Need-loop-holds Inv-loop μ-loop
 loop-holds c =
     let a = c .before .before .before .args in
@@ -61,12 +58,6 @@ move-record-requires c κs =
       omega (arith, r .1, room (c .before .before), l .before .moved-bytes .ensures, l .loop .inv .1 .as-long),
     )
 
-add-i : tie.Need-add-i Inv-loop μ-loop
-add-i c = search needs
-
-loop-less : tie.Need-loop-less Inv-loop μ-loop
-loop-less c = search needs
-
 loop-again : tie.Need-loop-again Inv-loop μ-loop
 loop-again c =
     let m = c .before .before in
@@ -81,9 +72,6 @@ loop-again c =
           (fitted-as (a .w) (a .from) (a .to)) (r .before .loop-test .taken) (sym (ap length (own .0)) ∙ own .1) _ put,
     )
 
-same-length : tie.Need-same-length Inv-loop μ-loop
-same-length c = search needs
-
 returns : tie.Need-returns Inv-loop μ-loop
 returns c =
     let l = c .before in
@@ -96,13 +84,13 @@ move-records-spec =
     (tie.spec
     Inv-loop
     μ-loop
-    moved-bytes-requires
+    (λ c κs. search needs)
     loop-holds
     record-requires
     mul-move-record
     move-record-requires
-    add-i
-    loop-less
+    (λ c. search needs)
+    (λ c. search needs)
     loop-again
-    same-length
+    (λ c. search needs)
     returns)

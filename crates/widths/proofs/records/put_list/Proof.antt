@@ -24,21 +24,6 @@ loop-holds c =
     let a = c .before .before .args in
     (omega arith, all-left (a .new .now) (a .at) (padded (a .to) (take (a .from) (a .r .now))) _ (omega arith))
 
-byte-of-requires : tie.Need-byte-of-requires Inv-loop μ-loop
-byte-of-requires c κs = search needs
-
-add-new : tie.Need-add-new Inv-loop μ-loop
-add-new c = search needs
-
-slice-write-new : tie.Need-slice-write-new Inv-loop μ-loop
-slice-write-new c = search needs
-
-add-k : tie.Need-add-k Inv-loop μ-loop
-add-k c = search needs
-
-loop-less : tie.Need-loop-less Inv-loop μ-loop
-loop-less c = search needs
-
 loop-again : tie.Need-loop-again Inv-loop μ-loop
 loop-again c =
     let l = c .before .before in
@@ -52,9 +37,6 @@ loop-again c =
           (padded-at (a .to) first k lt ∙ sym (c .byte-of .ensures))
           (byte-written k list (l .loop .inv .1) (omega (arith, length-padded (a .to) first, lt))),
     )
-
-same-length : tie.Need-same-length Inv-loop μ-loop
-same-length c = search needs
 
 returns : tie.Need-returns Inv-loop μ-loop
 returns c =
@@ -71,11 +53,11 @@ put-list-spec =
     Inv-loop
     μ-loop
     loop-holds
-    byte-of-requires
-    add-new
-    slice-write-new
-    add-k
-    loop-less
+    (λ c κs. search needs)
+    (λ c. search needs)
+    (λ c. search needs)
+    (λ c. search needs)
+    (λ c. search needs)
     loop-again
-    same-length
+    (λ c. search needs)
     returns)
