@@ -79,13 +79,13 @@ module _ (f : Format) (few : f .labels < 65536) (b s : List ℕ) (ps : List Pair
   summarise-converted = RelabelledCalls.summarise-with f ps b s t u accepted
 
   -- THE NEW TABLE is that of before with its labels converted, and the source list is the same; or they are refused as before.
-  pub reshaping-converted : (room : ℕ) → reshaping f t u room ≡ (reshaping old b s room >>= (λ x. given (tableWith f ps (x .0), x .1)))
+  pub reshaping-converted : (room : ℕ) → reshaping f (tests1-4 f t) u room ≡ (reshaping old (tests1-4 old b) s room >>= (λ x. given (tableWith f ps (x .0), x .1)))
   reshaping-converted = RelabelledLines.reshaping-with f ps b s t u accepted
 
   -- THE CALL, with the same bytes and places lent.
   pub reshape-converted : (new sources : List ℕ) → reshape f t u new sources ≡ record {
     reply = reshape old b s new sources .reply;
-    table = after new (reshaping old b s (roomIn f new sources) >>= (λ x. given (tableWith f ps (x .0))));
+    table = after new (reshaping old (tests1-4 old b) s (roomIn f new sources) >>= (λ x. given (tableWith f ps (x .0))));
     sources = reshape old b s new sources .sources;
   }
   reshape-converted = RelabelledLines.reshape-with f ps b s t u accepted

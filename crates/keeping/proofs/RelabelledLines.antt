@@ -83,7 +83,7 @@ lines-written f b s w h small l i =
 -- table and shape are those of b and s with their labels converted
 module _ (f : Format) (ps : List Pair) (b s table shape : List ℕ) (accepted : Accepted f ps b s table shape) where
   -- THE RESHAPE is that of before with the new table's labels converted and the same source list; or it is refused as before.
-  pub reshaping-with : (room : ℕ) → reshaping f table shape room ≡ (reshaping (oldRange f) b s room >>= (λ x. given (tableWith f ps (x .0), x .1)))
+  pub reshaping-with : (room : ℕ) → reshaping f (tests1-4 f table) shape room ≡ (reshaping (oldRange f) (tests1-4 (oldRange f) b) s room >>= (λ x. given (tableWith f ps (x .0), x .1)))
   unfolding reshaping
   reshaping-with room = ap (λ a. a >>= next f) (work-with f ps b s table shape accepted) ∙ go (tests1-7 (oldRange f) b s) refl
     where
@@ -113,11 +113,11 @@ module _ (f : Format) (ps : List Pair) (b s table shape : List ℕ) (accepted : 
   -- converted, at the front of the lent bytes; what lies past it stays as it was.
   pub reshape-with : (new sources : List ℕ) → reshape f table shape new sources ≡ record {
     reply = reshape (oldRange f) b s new sources .reply;
-    table = after new (reshaping (oldRange f) b s (roomIn f new sources) >>= (λ x. given (tableWith f ps (x .0))));
+    table = after new (reshaping (oldRange f) (tests1-4 (oldRange f) b) s (roomIn f new sources) >>= (λ x. given (tableWith f ps (x .0))));
     sources = reshape (oldRange f) b s new sources .sources;
   }
-  unfolding reshape
-  reshape-with new sources = ap left (reshaping-with (roomIn f new sources)) ∙ go (reshaping (oldRange f) b s (roomIn f new sources))
+  unfolding reshape reshapeRows
+  reshape-with new sources = ap left (reshaping-with (roomIn f new sources)) ∙ go (reshaping (oldRange f) (tests1-4 (oldRange f) b) s (roomIn f new sources))
     where
       left : Answer (List ℕ × List ℕ) → Reshaping
       left a = record {

@@ -13,7 +13,7 @@ use Rattle.paper.specs.Closeness.{nodes}
 use Rattle.paper.specs.Shapes.{Entry, Shape, entries, entryKept, badEntry, shapeOver}
 use Rattle.paper.specs.NewTable.{Line, lines, lineRow, newTable, sourceList}
 use Rattle.paper.specs.Figures.{Figures, figures, noFigures}
-use Rattle.paper.specs.Calls.{Answer, refused, given, _>>=_, refuse, reply, after, Work, tests5-6, tests1-7, test8, roomIn, reshaping, Reshaping, reshape, summarise}
+use Rattle.paper.specs.Calls.{Answer, refused, given, _>>=_, refuse, reply, after, Work, tests1-4, tests5-6, tests1-7, test8, roomIn, reshaping, Reshaping, reshapeRows, reshape, summariseRows, summarise}
 use Rattle.paper.specs.Widths.{deeper, recordTo, recordsTo, tableTo, shapeTo, rowTo}
 use Rattle.paper.proofs.Lists.{join-append, join-map, join-same}
 use Rattle.paper.proofs.Kept.{padded-longer}
@@ -125,7 +125,7 @@ module _ (f : Format) (n : ℕ) (b : List ℕ) (even : length b % rowBytes f ≡
 
   -- THE SUMMARY of a widened table by a widened shape is the table's own.
   pub summarise-widened : summarise g wide wideShape ≡ summarise f b s
-  unfolding summarise
+  unfolding summarise summariseRows
   summarise-widened = ap (λ a. reply noFigures (a >>= next g)) (work-widened f n b even s es sound) ∙ go (tests1-7 f b s) refl
     where
       next : Format → Work → Answer Figures
@@ -136,7 +136,7 @@ module _ (f : Format) (n : ℕ) (b : List ℕ) (even : length b % rowBytes f ≡
       go (given w) h = ap (λ a. reply noFigures (a >>= (λ ls. given (figures (w .nodes) (w .shape) ls)))) (test8-widened w h mostLines)
 
   -- THE RESHAPE of a widened table by a widened shape is the table's own, widened line by line, with the same source list; or it is refused alike.
-  pub reshape-widened : (room : ℕ) → reshaping g wide wideShape room ≡ (reshaping f b s room >>= (λ x. given (tableTo f g (x .0), x .1)))
+  pub reshape-widened : (room : ℕ) → reshaping g (tests1-4 g wide) wideShape room ≡ (reshaping f (tests1-4 f b) s room >>= (λ x. given (tableTo f g (x .0), x .1)))
   unfolding reshaping
   reshape-widened room = ap (λ a. a >>= next g) (work-widened f n b even s es sound) ∙ go (tests1-7 f b s) refl
     where
@@ -166,12 +166,12 @@ module _ (f : Format) (n : ℕ) (b : List ℕ) (even : length b % rowBytes f ≡
   pub reshape-left-widened : (new new′ sources : List ℕ) → roomIn g new′ sources ≡ roomIn f new sources
       → reshape g wide wideShape new′ sources ≡ record {
         reply = reshape f b s new sources .reply;
-        table = after new′ (reshaping f b s (roomIn f new sources) >>= (λ x. given (tableTo f g (x .0))));
+        table = after new′ (reshaping f (tests1-4 f b) s (roomIn f new sources) >>= (λ x. given (tableTo f g (x .0))));
         sources = reshape f b s new sources .sources;
       }
-  unfolding reshape
+  unfolding reshape reshapeRows
   reshape-left-widened new new′ sources e =
-      ap (λ k. left (reshaping g wide wideShape k)) e ∙ ap left (reshape-widened (roomIn f new sources)) ∙ go (reshaping f b s (roomIn f new sources))
+      ap (λ k. left (reshaping g (tests1-4 g wide) wideShape k)) e ∙ ap left (reshape-widened (roomIn f new sources)) ∙ go (reshaping f (tests1-4 f b) s (roomIn f new sources))
     where
       left : Answer (List ℕ × List ℕ) → Reshaping
       left a = record {

@@ -16,7 +16,7 @@ use Rattle.paper.specs.Tables.{rows}
 use Rattle.paper.specs.Closeness.{Node, nodes, closestOf, closestNumber}
 use Rattle.paper.specs.Shapes.{Shape, kind, way, parent, children}
 use Rattle.paper.specs.NewTable.{Line, beneath, tops, lines, newTable, sourceList, entryUnit}
-use Rattle.paper.specs.Calls.{given, _>>=_, reply, noJudgement, Work, Reshaping, tests1-7, judge, reshape}
+use Rattle.paper.specs.Calls.{given, _>>=_, reply, noJudgement, Work, Reshaping, tests1-7, judgeRows, judge, reshape}
 use Rattle.paper.specs.Verdict.{judgement}
 use Rattle.paper.specs.Links.{newNodes, sourceRow}
 use Rattle.paper.specs.Edges.{ChildrenShown, ChildrenBetween}
@@ -206,7 +206,7 @@ module _ (f : Format) (b sb : List ℕ) (w : Work) (passed : tests1-7 f b sb ≡
 
   -- judging is accepted
   judge-accepted : judge f b sb .number ≡ 0
-  unfolding judge
+  unfolding judge judgeRows
   judge-accepted = ap (λ a. reply noJudgement (a >>= (λ (w : Work). given (judgement (w .nodes) (w .shape)))) .number) passed
 
   -- A number of closest rows lies between what judging says, and so does the number of lines that equals it.

@@ -16,7 +16,7 @@ use Rattle.paper.specs.Tables.{Row, rows, rowOf, badRow, rowTypes, types
 use Rattle.paper.specs.Closeness.{nodes}
 use Rattle.paper.specs.Shapes.{Entry, entries, entryOf, badEntry, shapeOver}
 use Rattle.paper.specs.NewTable.{Line, lines, newTable, sourceList}
-use Rattle.paper.specs.Calls.{Answer, refused, given, _>>=_, refuse, refuseAt, reply, Work, typeTooMany, typeMissing, tests1-3, tests1-4, tests5-6, tests1-7, test8, examine, roomIn, reshaping, reshape}
+use Rattle.paper.specs.Calls.{Answer, refused, given, _>>=_, refuse, refuseAt, reply, Work, typeTooMany, typeMissing, tests1-3, tests1-4, tests5-6, tests5-7, tests1-7, test8, examine, roomIn, reshaping, reshapeRows, reshape}
 
 -- ---- answers
 module _ {A B : Type 0} where
@@ -202,7 +202,7 @@ pub passed1-7 : (f : Format) (b sb : List ℕ) (w : Work) → tests1-7 f b sb �
     → let rs = rows f b in let es = entries f sb in
     (tests1-3 f b ≡ given rs) × (tests5-6 f sb ≡ given es)
     × (w ≡ record { rows = rs; nodes = nodes rs; shape = shapeOver (types rs) es })
-unfolding tests1-7
+unfolding tests5-7
 passed1-7 f b sb w h =
     let (rs, h₁, k₁) = bind-given (tests1-4 f b) _ w h in
     let (es, h₂, k₂) = bind-given (tests5-6 f sb) _ w k₁ in
@@ -251,13 +251,13 @@ module _ (m : ℕ) (le : m ≤ 4) (f : Format) where
 
   module _ (b : List ℕ) (earlier : Past m (tests1-4 f b)) (sb : List ℕ) where
     pub past1-7 : Past m (tests1-7 f b sb)
-    unfolding tests1-7
+    unfolding tests5-7
     past1-7 =
         bind-past m (tests1-4 f b) _ earlier (λ rs.
         bind-past m (tests5-6 f sb) _ (told5-6 (λ k. m < k) (omega arith) (omega arith) f sb) (λ es.
         bind-past m (refuseAt 7 (typeMissing rs es)) _ (refuseAt-told (λ k. m < k) 7 (typeMissing rs es) (omega arith)) (λ _. tt)))
 
-    past-reshaping : (room : ℕ) → Past m (reshaping f b sb room)
+    past-reshaping : (room : ℕ) → Past m (reshaping f (tests1-4 f b) sb room)
     unfolding reshaping
     past-reshaping room = bind-past m (tests1-7 f b sb) _ past1-7 (λ w. bind-past m (test8 f w room) _ (past8 w room) (λ _. tt))
 
@@ -271,7 +271,7 @@ passed8 f w room ls h =
     (e, subst (λ z. length z ≤ room) e (ltb-false room (length l) (refuse-given 8 (ltb room (length l)) u h₁)))
 
 -- ---- reshaping
-pub passed-reshaping : (f : Format) (b sb : List ℕ) (room : ℕ) (x : List ℕ × List ℕ) → reshaping f b sb room ≡ given x
+pub passed-reshaping : (f : Format) (b sb : List ℕ) (room : ℕ) (x : List ℕ × List ℕ) → reshaping f (tests1-4 f b) sb room ≡ given x
     → (w : Work) × (ls : List Line) × (tests1-7 f b sb ≡ given w) × (test8 f w room ≡ given ls)
     × (_≡_ {A = List ℕ × List ℕ} x (newTable f (w .shape) (w .rows) ls, sourceList ls))
 unfolding reshaping
@@ -280,15 +280,15 @@ passed-reshaping f b sb room x h =
     let (ls, h₂, k₂) = bind-given (test8 f w room) _ x k₁ in
     (w, ls, h₁, h₂, sym (given-same (newTable f (w .shape) (w .rows) ls, sourceList ls) x k₂))
 
-pub numbered-reshaping : (f : Format) (b sb : List ℕ) (room : ℕ) → Past 0 (reshaping f b sb room)
+pub numbered-reshaping : (f : Format) (b sb : List ℕ) (room : ℕ) → Past 0 (reshaping f (tests1-4 f b) sb room)
 numbered-reshaping f b sb room = past-reshaping 0 (omega arith) f b (past1-4 f b) sb room
 
 -- A table that passes 1 to 4 is reshaped, or refused by a number past 4.
 pub reshape-past4 : (f : Format) (b : List ℕ) → tests1-4 f b ≡ given (rows f b) → (sb table sources : List ℕ)
     → let number = reshape f b sb table sources .reply .number in (number ≡ 0) ⊎ (4 < number)
-unfolding reshape
+unfolding reshape reshapeRows
 reshape-past4 f b passes sb table sources =
-    let a = reshaping f b sb (roomIn f table sources) in
+    let a = reshaping f (tests1-4 f b) sb (roomIn f table sources) in
     let passed : Past 4 (tests1-4 f b) = subst (λ a. Past 4 a) (sym passes) tt in
     let count : List ℕ × List ℕ → Answer ℕ = λ x. given (length (x .1)) in
     reply-past 4 0 (a >>= count) (bind-past 4 a count (past-reshaping 4 (omega arith) f b passed sb (roomIn f table sources)) (λ _. tt))

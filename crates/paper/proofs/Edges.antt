@@ -16,7 +16,7 @@ use Rattle.paper.specs.Shapes.{Shape, entries, shapeOver, numbers, kind,
 use Rattle.paper.specs.Partners.{EdgeNumbers, childNumbers, parentNumbers, ofEdges, greatest, edgeNumbers}
 use Rattle.paper.specs.Verdict.{Judgement, missing, full, judgement}
 use Rattle.paper.specs.Edges.{Holds, FirstNone, EdgesAgree}
-use Rattle.paper.specs.Calls.{Answer, given, _>>=_, Work, noJudgement, tests1-7, judge}
+use Rattle.paper.specs.Calls.{Answer, given, _>>=_, Work, noJudgement, tests1-7, judgeRows, judge}
 use Rattle.paper.proofs.Kept.{length-count, count-at, padded-at}
 use Rattle.paper.proofs.Calls.{bind-given, bind-past, reply-given, past1-4, past1-7, passed5-6, passed1-7}
 use Rattle.paper.proofs.Promises.{entries-size, judged, judged-verdict}
@@ -56,7 +56,7 @@ module _ (s : Shape) (figure : ℕ → ℕ) where
 -- ---- over bytes
 -- an accepted judging refuses nothing
 judge-given : (f : Format) (b sb : List ℕ) → judge f b sb .number ≡ 0 → (w : Work) × (tests1-7 f b sb ≡ given w)
-unfolding judge
+unfolding judge judgeRows
 judge-given f b sb accepted =
     let a = tests1-7 f b sb in
     let (j, e, _) = reply-given noJudgement (a >>= next) (bind-past 0 a next (past1-7 0 (omega arith) f b (past1-4 f b) sb) (λ w. tt)) accepted in

@@ -17,7 +17,7 @@ use Rattle.paper.specs.Shapes.{Shape, kind, numbers}
 use Rattle.paper.specs.NewTable.{Line, lines}
 use Rattle.paper.specs.Figures.{Figures, entryLines, appears, differentRows, figures, noFigures}
 use Rattle.paper.specs.Verdict.{kept, verdict}
-use Rattle.paper.specs.Calls.{Answer, given, _>>=_, Work, tests1-7, test8, judge, summarise}
+use Rattle.paper.specs.Calls.{Answer, given, _>>=_, Work, tests1-7, test8, judge, summariseRows, summarise}
 use Rattle.paper.specs.Shown.{FiguresAgree}
 use Rattle.paper.proofs.Lists.{either, keep-has, has-keep, any-has, has-any, map-same, count-has}
 use Rattle.paper.proofs.Kept.{putIf, keep-none, keep-either, keep-fewer, padded-each}
@@ -124,7 +124,7 @@ figures-agree rs s n =
 summary-rest : (f : Format) (b sb : List ℕ) (P : Figures → Type 0) → P noFigures
     → ((w : Work) (passed : tests1-7 f b sb ≡ given w) → P (figures (Promises.t f b sb w passed) (Promises.s f b sb w passed) (Promises.ls f b sb w passed)))
     → P (summarise f b sb .rest)
-unfolding summarise
+unfolding summarise summariseRows
 summary-rest f b sb P zeros past = reply-rest P noFigures (tests1-7 f b sb >>= next) zeros shown
   where
     next : Work → Answer Figures

@@ -11,20 +11,16 @@ use lib.ListN.{length, getD, take, drop, length-append, length-map, length-drop}
 use lib.Seq.{drop-cons, getD-take, take-at}
 use borrow.Author.Tests.{eqb-true, eq-eqb, lt-ltb, le-ltb, ltb-false}
 use Rattle.paper.specs.Lists.{Has, place}
-use Rattle.paper.specs.Format.{Format, mostLines}
-use Rattle.paper.specs.Tables.{Row, rows, dewey, rowTypes, types, typeNumber}
+use Rattle.paper.specs.Format.{Format}
+use Rattle.paper.specs.Tables.{Row, dewey, rowTypes, types, typeNumber}
 use Rattle.paper.specs.Closeness.{Node, nodesFrom, nodes}
-use Rattle.paper.specs.Shapes.{Entry, shapeOver}
-use Rattle.paper.specs.NewTable.{Line, newTable, sourceList}
-use Rattle.paper.specs.Figures.{figures, noFigures}
-use Rattle.paper.specs.Verdict.{judgement}
-use Rattle.paper.specs.Calls.{Answer, refused, given, _>>=_, refuse, refuseAt, reply, after, typeMissing, tests1-3, tests1-4, tests5-6, Work, tests1-7}
-use Rattle.paper.specs.Calls.{test8, noJudgement, judge, summarise, roomIn, reshaping, reshape}
+use Rattle.paper.specs.Calls.{Answer, refused, given, _>>=_, refuse, refuseAt, reply, after, tests1-3, tests1-4, judge, summarise, reshape}
 use Rattle.paper.specs.Index.{lastDescendant, nextOfType, Index, indexOf, tooShort, wrongAt, wrongRow, testsIndex}
-use Rattle.paper.specs.Index.{building, buildIndex, unlessRefused, judgeWith, summariseWith, reshapeWith}
+use Rattle.paper.specs.Index.{building, buildIndex, judgeWith, summariseWith, reshapeWith}
 use Rattle.paper.proofs.Forest.{Numbered, place-bounds}
 use Rattle.paper.proofs.Tables.{nodes-numbered, step, length-ways}
 use Rattle.paper.proofs.Calls.{bind-given, refuse-given, refuseAt-given, passed1-4}
+use Rattle.paper.proofs.Seam.{seam}
 
 -- ---- figures of rows in a list, row by row
 pub figure-at : (i : ℕ) (t : List Node) → Numbered i t → (g : Node → ℕ) (r : Node) → Has r t → getD (map g t) (r .place - i) 0 ≡ g r
@@ -119,19 +115,20 @@ pub record Begins (rs : List Row) (last next : List ℕ) : Type 0 where
   pub lasts : take (length rs) last ≡ indexOf (nodes rs) .last
   pub nexts : take (length rs) next ≡ indexOf (nodes rs) .next
 
-module _ (f : Format) (t last next : List ℕ) (rs : List Row) (table : tests1-4 f t ≡ given rs) where
-  abbrev pub tested : Bool → Option ℕ → Answer (Unit {0})
-  tested short wrong = refuse 14 short >>= (λ _. refuseAt 15 wrong)
+-- 14 and then 15, of rows that were read
+abbrev pub tested : List Row → Bool → Option ℕ → Answer (List Row)
+tested rs short wrong = refuse 14 short >>= (λ _. refuseAt 15 wrong >>= (λ _. given rs))
 
+module _ (f : Format) (t last next : List ℕ) (rs : List Row) (table : tests1-4 f t ≡ given rs) where
   -- once 1 to 4 have passed, 14 and then 15
-  pub tests-are : testsIndex f t last next ≡ (refuse 14 (tooShort rs last next) >>= (λ _. refuseAt 15 (wrongRow (nodes rs) last next)))
+  pub tests-are : testsIndex f t last next ≡ tested rs (tooShort rs last next) (wrongRow (nodes rs) last next)
   unfolding testsIndex
-  tests-are = ap (λ a. a >>= (λ (rs : List Row). tested (tooShort rs last next) (wrongRow (nodes rs) last next))) table
+  tests-are = ap (λ a. a >>= (λ (rs : List Row). tested rs (tooShort rs last next) (wrongRow (nodes rs) last next))) table
 
   -- lists that begin with the table's index are let through
-  pub index-passes : Begins rs last next → testsIndex f t last next ≡ given tt
+  pub index-passes : Begins rs last next → testsIndex f t last next ≡ given rs
   unfolding indexOf Right
-  index-passes b = tests-are ∙ ap₂ tested (ap₂ _||_ (le-ltb (length last) (length rs) (b .long-last)) (le-ltb (length next) (length rs) (b .long-next)))
+  index-passes b = tests-are ∙ ap₂ (tested rs) (ap₂ _||_ (le-ltb (length last) (length rs) (b .long-last)) (le-ltb (length next) (length rs) (b .long-next)))
       (right-none (nodes rs) last next (λ r h. (at (lastDescendant (nodes rs)) last (b .lasts) r h, at (nextOfType (nodes rs)) next (b .nexts) r h)))
     where
       at : (g : Node → ℕ) (l : List ℕ) → take (length rs) l ≡ map g (nodes rs) → (r : Node) → Has r (nodes rs) → getD l (r .place) 0 ≡ g r
@@ -142,7 +139,7 @@ module _ (f : Format) (t last next : List ℕ) (rs : List Row) (table : tests1-4
           ∙ figure-at 0 (nodes rs) (nodes-numbered rs) g r h
 
   -- and no others are
-  pub index-only : testsIndex f t last next ≡ given tt → Begins rs last next
+  pub index-only : testsIndex f t last next ≡ given rs → Begins rs last next
   unfolding indexOf Right
   index-only e = record {
     long-last = short .0;
@@ -151,8 +148,11 @@ module _ (f : Format) (t last next : List ℕ) (rs : List Row) (table : tests1-4
     nexts = fill (nextOfType (nodes rs)) next (short .1) (λ r h. right r h .1);
   }
     where
-      passed : (u : Unit {0}) × (refuse 14 (tooShort rs last next) ≡ given u) × (refuseAt 15 (wrongRow (nodes rs) last next) ≡ given tt)
-      passed = bind-given (refuse 14 (tooShort rs last next)) (λ _. refuseAt 15 (wrongRow (nodes rs) last next)) tt (sym tests-are ∙ e)
+      long-enough : (u : Unit {0}) × (refuse 14 (tooShort rs last next) ≡ given u) × ((refuseAt 15 (wrongRow (nodes rs) last next) >>= (λ _. given rs)) ≡ given rs)
+      long-enough = bind-given (refuse 14 (tooShort rs last next)) _ rs (sym tests-are ∙ e)
+
+      none-wrong : (u : Unit {0}) × (refuseAt 15 (wrongRow (nodes rs) last next) ≡ given u) × (_≡_ {A = Answer (List Row)} (given rs) (given rs))
+      none-wrong = bind-given (refuseAt 15 (wrongRow (nodes rs) last next)) (λ _. given rs) rs (long-enough .2)
 
       neither : (a b : Bool) → a || b ≡ false → (a ≡ false) × (b ≡ false)
       neither true b z = absurd (true≢false z)
@@ -160,11 +160,11 @@ module _ (f : Format) (t last next : List ℕ) (rs : List Row) (table : tests1-4
 
       short : (length rs ≤ length last) × (length rs ≤ length next)
       short =
-          let (a, b) = neither (ltb (length last) (length rs)) (ltb (length next) (length rs)) (refuse-given 14 (tooShort rs last next) (passed .0) (passed .1)) in
+          let (a, b) = neither (ltb (length last) (length rs)) (ltb (length next) (length rs)) (refuse-given 14 (tooShort rs last next) (long-enough .0) (long-enough .1)) in
           (ltb-false (length last) (length rs) a, ltb-false (length next) (length rs) b)
 
       right : Right (nodes rs) last next
-      right = none-right (nodes rs) last next (refuseAt-given 15 (wrongRow (nodes rs) last next) tt (passed .2))
+      right = none-right (nodes rs) last next (refuseAt-given 15 (wrongRow (nodes rs) last next) (none-wrong .0) (none-wrong .1))
 
       fill : (g : Node → ℕ) (l : List ℕ) → length rs ≤ length l → ((r : Node) → Has r (nodes rs) → getD l (r .place) 0 ≡ g r) → take (length rs) l ≡ map g (nodes rs)
       fill g l long each =
@@ -173,8 +173,7 @@ module _ (f : Format) (t last next : List ℕ) (rs : List Row) (table : tests1-4
 -- a table that is refused before its lists are looked at
 pub index-refused : (f : Format) (t last next : List ℕ) (k p : ℕ) → tests1-4 f t ≡ refused k p → testsIndex f t last next ≡ refused k p
 unfolding testsIndex
-index-refused f t last next k p e =
-    ap (λ a. a >>= (λ (rs : List Row). refuse 14 (tooShort rs last next) >>= (λ _. refuseAt 15 (wrongRow (nodes rs) last next)))) e
+index-refused f t last next k p e = ap (λ a. a >>= (λ (rs : List Row). tested rs (tooShort rs last next) (wrongRow (nodes rs) last next))) e
 
 -- ---- what is built
 module _ (f : Format) (t last next : List ℕ) where
@@ -238,63 +237,29 @@ module _ (f : Format) (t last next : List ℕ) where
         next-is = ap (λ a. after next (a >>= (λ (x : Index). given (x .next)))) built-is
 
 -- ---- the calls
-module _ (f : Format) (t : List ℕ) where
-  -- a table that is refused with 1 to 4 is refused so by every call with a shape
-  module _ (k p : ℕ) (e : tests1-4 f t ≡ refused k p) (s : List ℕ) where
-    abbrev on : Answer (List Row) → Answer Work
-    on a = a >>= (λ (rs : List Row). tests5-6 f s >>= (λ (es : List Entry). refuseAt 7 (typeMissing rs es)
-        >>= (λ _. given (record { rows = rs; nodes = nodes rs; shape = shapeOver (types rs) es }))))
+-- with an index that is built of the table, the tests read what 1 to 4 read, so that a call answers as the one without
+module _ (f : Format) (t last next : List ℕ) (accepted : buildIndex f t last next .reply .number ≡ 0) where
+  abbrev last′ : List ℕ
+  last′ = buildIndex f t last next .last
 
-    refused-work : tests1-7 f t s ≡ refused k p
-    unfolding tests1-7
-    refused-work = ap on e
+  abbrev next′ : List ℕ
+  next′ = buildIndex f t last next .next
 
-    pub judge-refused : judge f t s ≡ reply noJudgement (refused k p)
-    unfolding judge
-    judge-refused = ap (λ (a : Answer Work). reply noJudgement (a >>= (λ (w : Work). given (judgement (w .nodes) (w .shape))))) refused-work
+  built-reads : testsIndex f t last′ next′ ≡ tests1-4 f t
+  built-reads = go (tests1-4 f t) refl
+    where
+      go : (a : Answer (List Row)) → tests1-4 f t ≡ a → testsIndex f t last′ next′ ≡ tests1-4 f t
+      go (refused k p) e = index-refused f t last′ next′ k p e ∙ sym e
+      go (given rs) e = index-passes f t last′ next′ rs e (built-begins f t last next accepted rs (passed1-4 f t rs e)) ∙ sym e
 
-    pub summarise-refused : summarise f t s ≡ reply noFigures (refused k p)
-    unfolding summarise
-    summarise-refused = ap (λ (a : Answer Work). reply noFigures (a >>= (λ (w : Work). test8 f w mostLines >>= (λ (ls : List Line). given (figures (w .nodes) (w .shape) ls))))) refused-work
+  pub judge-built : (s : List ℕ) → judgeWith f t s last′ next′ ≡ judge f t s
+  unfolding judgeWith
+  judge-built s = seam f t (testsIndex f t last′ next′) built-reads .judges s
 
-    by-work : (room : ℕ) → reshaping f t s room ≡ refused k p
-    unfolding reshaping
-    by-work room = ap (λ (a : Answer Work). a >>= (λ (w : Work). test8 f w room >>= (λ (ls : List Line). given (newTable f (w .shape) (w .rows) ls, sourceList ls)))) refused-work
+  pub summarise-built : (s : List ℕ) → summariseWith f t s last′ next′ ≡ summarise f t s
+  unfolding summariseWith
+  summarise-built s = seam f t (testsIndex f t last′ next′) built-reads .summarises s
 
-    pub reshape-refused : (table sources : List ℕ) → reshape f t s table sources ≡ record { reply = reply 0 (refused k p); table = table; sources = sources }
-    unfolding reshape
-    reshape-refused table sources = ap (λ (a : Answer (List ℕ × List ℕ)). record {
-      reply = reply 0 (a >>= (λ (x : List ℕ × List ℕ). given (length (x .1))));
-      table = after table (a >>= (λ (x : List ℕ × List ℕ). given (x .0)));
-      sources = after sources (a >>= (λ (x : List ℕ × List ℕ). given (x .1)));
-    }) (by-work (roomIn f table sources))
-
-  -- with an index that is built of the table, a call answers as the one without
-  module _ (last next : List ℕ) (accepted : buildIndex f t last next .reply .number ≡ 0) where
-    abbrev last′ : List ℕ
-    last′ = buildIndex f t last next .last
-
-    abbrev next′ : List ℕ
-    next′ = buildIndex f t last next .next
-
-    with-built : {A : Type 0} (refusal : ℕ → ℕ → A) (plain : A) → ((k p : ℕ) → tests1-4 f t ≡ refused k p → plain ≡ refusal k p)
-        → unlessRefused (testsIndex f t last′ next′) refusal plain ≡ plain
-    with-built refusal plain same = go (tests1-4 f t) refl
-      where
-        go : (a : Answer (List Row)) → tests1-4 f t ≡ a → unlessRefused (testsIndex f t last′ next′) refusal plain ≡ plain
-        go (refused k p) e = ap (λ a. unlessRefused a refusal plain) (index-refused f t last′ next′ k p e) ∙ sym (same k p e)
-        go (given rs) e =
-            ap (λ a. unlessRefused a refusal plain) (index-passes f t last′ next′ rs e (built-begins f t last next accepted rs (passed1-4 f t rs e)))
-
-    pub judge-built : (s : List ℕ) → judgeWith f t s (buildIndex f t last next .last) (buildIndex f t last next .next) ≡ judge f t s
-    unfolding judgeWith
-    judge-built s = with-built (λ k p. reply noJudgement (refused k p)) (judge f t s) (λ k p e. judge-refused k p e s)
-
-    pub summarise-built : (s : List ℕ) → summariseWith f t s (buildIndex f t last next .last) (buildIndex f t last next .next) ≡ summarise f t s
-    unfolding summariseWith
-    summarise-built s = with-built (λ k p. reply noFigures (refused k p)) (summarise f t s) (λ k p e. summarise-refused k p e s)
-
-    pub reshape-built : (s table sources : List ℕ)
-        → reshapeWith f t s (buildIndex f t last next .last) (buildIndex f t last next .next) table sources ≡ reshape f t s table sources
-    unfolding reshapeWith
-    reshape-built s table sources = with-built (λ k p. record { reply = reply 0 (refused k p); table = table; sources = sources }) (reshape f t s table sources) (λ k p e. reshape-refused k p e s table sources)
+  pub reshape-built : (s table sources : List ℕ) → reshapeWith f t s last′ next′ table sources ≡ reshape f t s table sources
+  unfolding reshapeWith
+  reshape-built s table sources = seam f t (testsIndex f t last′ next′) built-reads .reshapes s table sources

@@ -30,3 +30,4 @@ pub mod Sound
 pub mod Needed
 pub mod Figures
 pub mod Index
+pub mod Seam

@@ -19,7 +19,7 @@ use Rattle.paper.specs.Shapes.{Entry, Shape, entries, named, shapeOver, 
 use Rattle.paper.specs.Partners.{childNumbers, parentNumbers, greatest}
 use Rattle.paper.specs.Verdict.{Verdict, kept, missing, isEmpty, overPairs, partners, alone, full, lone, pairFault, verdict}
 use Rattle.paper.specs.Edges.{FirstNone}
-use Rattle.paper.specs.Calls.{given, refuseAt, Work, typeMissing, tests1-4, tests5-6, tests1-7}
+use Rattle.paper.specs.Calls.{given, refuseAt, Work, typeMissing, tests1-4, tests5-6, tests5-7, tests1-7}
 use Rattle.paper.proofs.Lists.{same-eq, any-has, map-has, in-some, getD-has}
 use Rattle.paper.proofs.Kept.{putIf, first-none, range}
 use Rattle.paper.proofs.Closeness.{of-kind}
@@ -32,7 +32,7 @@ use Rattle.paper.proofs.Promises.{kept-entries, ways, entries-size}
 -- ---- each entry's type has a row
 -- 7 refuses types without rows
 passed7 : (f : Format) (b sb : List ℕ) (w : Work) → tests1-7 f b sb ≡ given w → typeMissing (rows f b) (entries f sb) ≡ none
-unfolding tests1-7
+unfolding tests5-7
 passed7 f b sb w h =
     let (rs, h₁, k₁) = bind-given (tests1-4 f b) _ w h in
     let (es, h₂, k₂) = bind-given (tests5-6 f sb) _ w k₁ in

@@ -17,7 +17,7 @@ use Rattle.paper.specs.Closeness.{Node, nodes, shared, closest}
 use Rattle.paper.specs.Shapes.{Entry, Shape, entries, entryOf, named, entryKept, badEntry, shapeOver, kind, way, fork}
 use Rattle.paper.specs.NewTable.{Line, lines, lineRow, newTable, sourceList, entryUnit}
 use Rattle.paper.specs.Verdict.{Verdict, Judgement, kept, missing, verdict, judgement, meetsLeast, sure, alone}
-use Rattle.paper.specs.Calls.{given, _>>=_, reply, noJudgement, Work, Reshaping, tests1-7, judge, reshape, reshaping, roomIn, after}
+use Rattle.paper.specs.Calls.{given, _>>=_, reply, noJudgement, Work, Reshaping, tests1-4, tests1-7, judgeRows, judge, reshaping, reshapeRows, reshape, roomIn, after}
 use Rattle.paper.specs.Links.{newNodes, sourceRow, shownPairs, sourcePairs, LinksKept}
 use Rattle.paper.specs.Faithful.{Faithful}
 use Rattle.paper.specs.MadeUp.{Under}
@@ -210,7 +210,7 @@ module _ (f : Format) (b sb : List ℕ) (w : Work) (passed : tests1-7 f b sb ≡
 
   -- what judging says is what is said of the table's nodes and the shape
   pub judged : judge f b sb .rest ≡ judgement t s
-  unfolding judge
+  unfolding judge judgeRows
   judged =
       ap (λ a. reply noJudgement (a >>= (λ (w : Work). given (judgement (w .nodes) (w .shape)))) .rest) passed
       ∙ ap (λ (w : Work). judgement (w .nodes) (w .shape)) (passed1-7 f b sb w passed .2)
@@ -238,10 +238,10 @@ module _ (f : Format) (b sb table sources : List ℕ) where
     pub places : r .sources ≡ sourceList (ls f b sb work passed) ++ drop (length (sourceList (ls f b sb work passed))) sources
 
   pub reshape-writes : r .reply .number ≡ 0 → Wrote
-  unfolding reshape
+  unfolding reshape reshapeRows
   reshape-writes e =
       let room = roomIn f table sources in
-      let a = reshaping f b sb room in
+      let a = reshaping f (tests1-4 f b) sb room in
       let (v, q, rest) = reply-given 0 (a >>= (λ (x : List ℕ × List ℕ). given (length (x .1))))
       (bind-past 0 a (λ (x : List ℕ × List ℕ). given (length (x .1))) (numbered-reshaping f b sb room) (λ x. tt)) e in
       let (x, ax, kx) = bind-given a (λ (x : List ℕ × List ℕ). given (length (x .1))) v q in

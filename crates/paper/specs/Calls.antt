@@ -95,13 +95,17 @@ pub record Work : Type 0 where
   pub nodes : List Node
   pub shape : Shape
 
--- 1 to 7
-unfoldable pub tests1-7 : Format → List ℕ → List ℕ → Answer Work
-tests1-7 f b sb = do
-  rs ← tests1-4 f b
+-- 5 to 7, for rows that were read: by 1 to 4, or by 1 to 4 and tests of what is lent beside the table
+unfoldable pub tests5-7 : Format → Answer (List Row) → List ℕ → Answer Work
+tests5-7 f read sb = do
+  rs ← read
   es ← tests5-6 f sb
   _ ← refuseAt 7 (typeMissing rs es)
   given (record { rows = rs; nodes = nodes rs; shape = shapeOver (types rs) es })
+
+-- 1 to 7
+abbrev pub tests1-7 : Format → List ℕ → List ℕ → Answer Work
+tests1-7 f b sb = tests5-7 f (tests1-4 f b) sb
 
 -- 8, and the lines
 unfoldable pub test8 : Format → Work → ℕ → Answer (List Line)
@@ -111,6 +115,7 @@ test8 f w room = do
   given ls
 
 -- ---- the calls
+-- Judging, reshaping and summarising are each one definition over rows that were read; the plain call reads them by 1 to 4.
 -- Examining adds the count of rows.
 unfoldable pub examine : Format → List ℕ → Reply ℕ
 examine f b = reply 0 do
@@ -153,10 +158,13 @@ adorn f b before =
 abbrev pub noJudgement : Judgement
 noJudgement = record { verdict = kept; noneApart = false; edges = noEdges }
 
-unfoldable pub judge : Format → List ℕ → List ℕ → Reply Judgement
-judge f b sb = reply noJudgement do
-  w ← tests1-7 f b sb
+unfoldable pub judgeRows : Format → Answer (List Row) → List ℕ → Reply Judgement
+judgeRows f read sb = reply noJudgement do
+  w ← tests5-7 f read sb
   given (judgement (w .nodes) (w .shape))
+
+unfoldable pub judge : Format → List ℕ → List ℕ → Reply Judgement
+judge f b sb = judgeRows f (tests1-4 f b) sb
 
 -- Reshaping adds the count of lines.
 pub record Reshaping : Type 0 where
@@ -168,25 +176,31 @@ pub record Reshaping : Type 0 where
 abbrev pub roomIn : Format → List ℕ → List ℕ → ℕ
 roomIn f table sources = min (whole (rowBytes f) table) (min (length sources) mostLines)
 
--- 1 to 8, and the new table's bytes and the source list
-unfoldable pub reshaping : Format → List ℕ → List ℕ → ℕ → Answer (List ℕ × List ℕ)
-reshaping f b sb room = do
-  w ← tests1-7 f b sb
+-- 5 to 8, and the new table's bytes and the source list
+unfoldable pub reshaping : Format → Answer (List Row) → List ℕ → ℕ → Answer (List ℕ × List ℕ)
+reshaping f read sb room = do
+  w ← tests5-7 f read sb
   ls ← test8 f w room
   given (newTable f (w .shape) (w .rows) ls, sourceList ls)
 
-unfoldable pub reshape : Format → List ℕ → List ℕ → List ℕ → List ℕ → Reshaping
-reshape f b sb table sources =
-    let a = reshaping f b sb (roomIn f table sources) in
+unfoldable pub reshapeRows : Format → Answer (List Row) → List ℕ → List ℕ → List ℕ → Reshaping
+reshapeRows f read sb table sources =
+    let a = reshaping f read sb (roomIn f table sources) in
     record {
       reply = reply 0 (do x ← a; given (length (x .1)));
       table = after table (do x ← a; given (x .0));
       sources = after sources (do x ← a; given (x .1));
     }
 
+unfoldable pub reshape : Format → List ℕ → List ℕ → List ℕ → List ℕ → Reshaping
+reshape f b sb table sources = reshapeRows f (tests1-4 f b) sb table sources
+
 -- Summarising adds the figures of each entry.
-unfoldable pub summarise : Format → List ℕ → List ℕ → Reply Figures
-summarise f b sb = reply noFigures do
-  w ← tests1-7 f b sb
+unfoldable pub summariseRows : Format → Answer (List Row) → List ℕ → Reply Figures
+summariseRows f read sb = reply noFigures do
+  w ← tests5-7 f read sb
   ls ← test8 f w mostLines
   given (figures (w .nodes) (w .shape) ls)
+
+unfoldable pub summarise : Format → List ℕ → List ℕ → Reply Figures
+summarise f b sb = summariseRows f (tests1-4 f b) sb

@@ -9,10 +9,10 @@ use Rattle.paper.specs.Lists.{keep, firstOr, lastOr, firstPlace}
 use Rattle.paper.specs.Format.{Format}
 use Rattle.paper.specs.Tables.{Row}
 use Rattle.paper.specs.Closeness.{Node, nodes, level, meet}
-use Rattle.paper.specs.Figures.{Figures, noFigures}
+use Rattle.paper.specs.Figures.{Figures}
 use Rattle.paper.specs.Verdict.{Judgement}
-use Rattle.paper.specs.Calls.{Answer, refused, given, _>>=_, refuse, refuseAt, Reply, reply, after, tests1-3, tests1-4}
-use Rattle.paper.specs.Calls.{judge, noJudgement, Reshaping, reshape, summarise}
+use Rattle.paper.specs.Calls.{Answer, given, _>>=_, refuse, refuseAt, Reply, reply, after, tests1-3, tests1-4}
+use Rattle.paper.specs.Calls.{judgeRows, Reshaping, reshapeRows, summariseRows}
 
 -- ---- the two lists
 -- what stands for no row
@@ -59,12 +59,13 @@ wrongAt t last next r = not (eqb (getD last (r .place) 0) (lastDescendant t r)) 
 unfoldable pub wrongRow : List Node → List ℕ → List ℕ → Option ℕ
 wrongRow t last next = firstPlace (wrongAt t last next) t
 
--- 1 to 4, then 14 and 15
-unfoldable pub testsIndex : Format → List ℕ → List ℕ → List ℕ → Answer (Unit {0})
+-- 1 to 4, then 14 and 15, and the rows
+unfoldable pub testsIndex : Format → List ℕ → List ℕ → List ℕ → Answer (List Row)
 testsIndex f b last next = do
   rs ← tests1-4 f b
   _ ← refuse 14 (tooShort rs last next)
-  refuseAt 15 (wrongRow (nodes rs) last next)
+  _ ← refuseAt 15 (wrongRow (nodes rs) last next)
+  given rs
 
 -- ---- the builder
 -- 1 to 3, then 14, and the index
@@ -89,18 +90,12 @@ buildIndex f b last next =
       next = after next (do x ← a; given (x .next));
     }
 
--- ---- the calls with an index
--- what the call without an index answers, unless the lists are refused
-abbrev pub unlessRefused : {A : Type 0} → Answer (Unit {0}) → (ℕ → ℕ → A) → A → A
-unlessRefused (refused k p) refusal plain = refusal k p
-unlessRefused (given _) refusal plain = plain
-
+-- ---- the calls with an index: each reads its rows by 1 to 4, 14 and 15
 unfoldable pub judgeWith : Format → List ℕ → List ℕ → List ℕ → List ℕ → Reply Judgement
-judgeWith f b sb last next = unlessRefused (testsIndex f b last next) (λ k p. reply noJudgement (refused k p)) (judge f b sb)
+judgeWith f b sb last next = judgeRows f (testsIndex f b last next) sb
 
 unfoldable pub summariseWith : Format → List ℕ → List ℕ → List ℕ → List ℕ → Reply Figures
-summariseWith f b sb last next = unlessRefused (testsIndex f b last next) (λ k p. reply noFigures (refused k p)) (summarise f b sb)
+summariseWith f b sb last next = summariseRows f (testsIndex f b last next) sb
 
 unfoldable pub reshapeWith : Format → List ℕ → List ℕ → List ℕ → List ℕ → List ℕ → List ℕ → Reshaping
-reshapeWith f b sb last next table sources =
-    unlessRefused (testsIndex f b last next) (λ k p. record { reply = reply 0 (refused k p); table = table; sources = sources }) (reshape f b sb table sources)
+reshapeWith f b sb last next table sources = reshapeRows f (testsIndex f b last next) sb table sources
