@@ -1,9 +1,6 @@
 -- `judging::judge::judge_rows` meets its contract. Assumes nothing.
-use Prim.Native.Nat.{ℕ}
 use mathlib.Core.Path.{sym, _∙_, ap}
-use mathlib.Core.List.{List}
-use Rattle.closest.specs.Rows.{RowsIn}
-use Rattle.shapes.specs.Work.{Work, Ready, workOf}
+use Rattle.shapes.specs.Work.{Ready, workOf}
 use Rattle.judging.specs.Told.{told}
 use Rattle.judging.specs.Judged.{inNumbers}
 use Rattle.judging.proofs.Edges.{Long, edges-are, fulls-are}
@@ -13,48 +10,21 @@ use borrow.Author.Needs.{needs}
 use Rattle.judging.proofs.judge.judge_rows.Statement.{statement}
 use Rattle.judging.proofs.judge.judge_rows.Tie as tie
 
--- where the function begins, and where the shape is prepared
-abbrev begun : tie.After-prepare → tie.Start
-begun p = p .before .before .before .before .before .before
+-- where the arguments are lent, and where the shape is prepared
+abbrev lent : tie.After-meetings → tie.Start
+lent m = m .before .before .before .before
 
 abbrev prepared : tie.Else1 → tie.After-prepare
 prepared u = u .before .before .before
 
--- what is given back, and what the lent lists hold
-abbrev work : tie.After-prepare → Work
-work p =
-    let a = begun p .args in
-    let left = p .prepare .last .1 .1 .1 .1 .1 in
-    workOf (p .prepare .result) (a .levels .now) (a .types .now) (left .0) (left .1 .0)
-
--- the rows are those of a table
-abbrev Of : tie.After-prepare → List ℕ → Type 0
-Of p t = let a = begun p .args in RowsIn (a .f) t (a .read) (a .levels .now) (a .types .now)
-
--- which passes tests 1 to 7 with the shape
-ready : (u : tie.Else1) (t : List ℕ) → Of (prepared u) t → let p = prepared u in Ready (begun p .args .f) t (begun p .args .shape .now) (work p)
-ready u t rows = prepared u .prepare .ensures t rows .ready (u .if1 .left)
-
--- there is one such table
+-- some table has the rows, and passes tests 1 to 7 with the shape
 some-ready : (u : tie.Else1) →
     let p = prepared u in
-    let s = begun p in
-    Ready (s .args .f) (s .pre .1 .0) (s .args .shape .now) (work p)
-some-ready u = let s = begun (prepared u) in ready u (s .pre .1 .0) (s .pre .1 .1)
-
--- where the edges are walked, after the tests
-abbrev tested : tie.After-walk-edges → tie.Else1
-tested e = e .before .before
-
--- where no row is without a partner, and full edges are told
-abbrev told-full : tie.After-meetings3 → tie.After-full-edges
-told-full c = c .before .before
-
-abbrev searched : tie.After-full-edges → tie.After-enum-told
-searched c = c .before .before
-
-abbrev walked : tie.After-enum-told → tie.After-walk-edges
-walked k = k .before .before .before
+    let left = p .prepare .last .1 .1 .1 .1 .1 in
+    let s = lent (p .before .before) in
+    let a = s .args in
+    Ready (a .f) (s .pre .1 .0) (a .shape .now) (workOf (p .prepare .result) (a .levels .now) (a .types .now) (left .0) (left .1 .0))
+some-ready u = let s : tie.Start = search in prepared u .prepare .ensures _ (s .pre .1 .1) .ready (u .if1 .left)
 
 -- each of the four lists has 16 places
 long : (c : tie.After-walk-edges) → Long (c .walk-edges .result)
@@ -69,9 +39,9 @@ long c =
 
 returns : tie.Need-returns
 returns c t rows =
+    let p : tie.After-prepare = search in
+    let s : tie.Start = search in let a = s .args in
     let u = c .before in
-    let p = u .before .before .before in
-    let a = begun p .args in
     c .refused .ensures
     ∙ ap inNumbers (judge-refused (a .f) t (a .shape .now) _ _ (p .prepare .ensures t rows .refused-is (u .if1 .taken)))
 
@@ -79,7 +49,7 @@ walk-edges-requires : tie.Need-walk-edges-requires
 walk-edges-requires c κs = let r = some-ready (c .before) in (r .rows-are, r .shaped .sized)
 
 first-lone-requires : tie.Need-first-lone-requires
-first-lone-requires c κs = let r = some-ready (tested c) in (r .rows-are, r .shaped .sized, c .walk-edges .ensures .all-met)
+first-lone-requires c κs = let u : tie.Else1 = search in let r = some-ready u in (r .rows-are, r .shaped .sized, c .walk-edges .ensures .all-met)
 
 slice-aggregate-first-fault : tie.Need-slice-aggregate-first-fault
 slice-aggregate-first-fault c = search needs
@@ -89,7 +59,7 @@ slice-aggregate-first-fault-2 c = search needs
 
 first-fault-requires : tie.Need-first-fault-requires
 first-fault-requires c κs =
-    let u = tested (walked (searched (told-full c))) in
+    let u : tie.Else1 = search in
     (room (some-ready u) (sym (slice-aggregate-first-fault (c .before))), sym (slice-aggregate-first-fault-2 c))
 
 slice-aggregate-none-apart-beside : tie.Need-slice-aggregate-none-apart-beside
@@ -100,9 +70,9 @@ slice-aggregate-none-apart-beside-2 c = search needs
 
 none-apart-beside-requires : tie.Need-none-apart-beside-requires
 none-apart-beside-requires c κs =
-    let v = c .before .before in
-    let g = told-full (v .before) in
-    let u = tested (walked (searched g)) in (
+    let v : tie.After-first-fault = search in
+    let g : tie.After-full-edges = search in
+    let u : tie.Else1 = search in (
       room (some-ready u) (sym (slice-aggregate-none-apart-beside (c .before))),
       sym (slice-aggregate-none-apart-beside-2 c),
       (g .full-edges .result, v .first-fault .ensures),
@@ -116,17 +86,19 @@ slice-aggregate-none-apart-2 c = search needs
 
 none-apart-requires : tie.Need-none-apart-requires
 none-apart-requires c κs =
-    let u = tested (c .before .before .before .before) in
+    let u : tie.Else1 = search in
     (room (some-ready u) (sym (slice-aggregate-none-apart (c .before))), sym (slice-aggregate-none-apart-2 c))
 
 returns-2 : tie.Need-returns-2
 returns-2 c t rows =
+    let v : tie.After-first-fault = search in
+    let g : tie.After-full-edges = search in
+    let k : tie.After-enum-told = search in
+    let e : tie.After-walk-edges = search in
+    let u : tie.Else1 = search in
+    let p : tie.After-prepare = search in
     let o = c .before in
-    let v = o .before .before .before in
-    let g = told-full (v .before) in
-    let k = searched g in
-    let e = walked k in
-    let y = ready (tested e) t rows in
+    let y = p .prepare .ensures t rows .ready (u .if1 .left) in
     let found = e .walk-edges .result in
     answered (c .given .result) (v .first-fault .result) (o .none-apart-beside .result) found _ (c .given .ensures)
     (judge-given y _ _ _
@@ -137,11 +109,13 @@ returns-2 c t rows =
 
 returns-3 : tie.Need-returns-3
 returns-3 c t rows =
+    let m : tie.At-match-keys2 = search in
+    let l : tie.After-first-lone = search in
+    let e : tie.After-walk-edges = search in
+    let u : tie.Else1 = search in
+    let p : tie.After-prepare = search in
     let o = c .before in
-    let m = o .before .before .before in
-    let l = m .before in
-    let e = l .before in
-    let y = ready (tested e) t rows in
+    let y = p .prepare .ensures t rows .ready (u .if1 .left) in
     let found = e .walk-edges .result in
     answered (c .given2 .result) (l .first-lone .result) (o .none-apart .result) found _ (c .given2 .ensures)
     (judge-given y _ _ _

@@ -42,13 +42,12 @@ abbrev μ-entries : tie.MeasureT-entries
 abbrev begun : tie.At-entries Inv-loop μ-loop Inv-rows μ-rows Inv-entries μ-entries → tie.Start Inv-loop μ-loop Inv-rows μ-rows Inv-entries μ-entries
 begun e = e .before .before .before
 
--- the entry whose rows are searched
-abbrev entry : tie.After-run-bound Inv-loop μ-loop Inv-rows μ-rows Inv-entries μ-entries → tie.In-entries Inv-loop μ-loop Inv-rows μ-rows Inv-entries μ-entries
-entry p = p .before .before .before .before .before .before
+-- the parent of the entry whose rows are searched, and the entry
+abbrev widened : tie.After-run-bound Inv-loop μ-loop Inv-rows μ-rows Inv-entries μ-entries → tie.After-wide Inv-loop μ-loop Inv-rows μ-rows Inv-entries μ-entries
+widened p = p .before .before .before
 
--- a row whose candidates are walked
-abbrev row : tie.At-loop Inv-loop μ-loop Inv-rows μ-rows Inv-entries μ-entries → tie.In-rows Inv-loop μ-loop Inv-rows μ-rows Inv-entries μ-entries
-row l = l .before .before .before .before
+abbrev entry : tie.After-run-bound Inv-loop μ-loop Inv-rows μ-rows Inv-entries μ-entries → tie.In-entries Inv-loop μ-loop Inv-rows μ-rows Inv-entries μ-entries
+entry p = widened p .before .before .before
 
 -- ---- what is known there
 -- what is asked for the entry
@@ -56,14 +55,15 @@ asked : (p : tie.After-run-bound Inv-loop μ-loop Inv-rows μ-rows Inv-entries �
     → let e = entry p .before in
     let a = begun e .args in
     Asked (a .levels .now) (a .types .now) (a .rows) (a .t4) (e .entries .c) (typeOf (a .t4) (e .entries .c))
-    (typeOf (a .t4) (p .before .before .before .wide .result)) (p .run-bound .result)
+    (typeOf (a .t4) (widened p .wide .result)) (p .run-bound .result)
 asked p =
-    let i = entry p in
+    let i : tie.In-entries Inv-loop μ-loop Inv-rows μ-rows Inv-entries μ-entries = search in
+    let s : tie.Start Inv-loop μ-loop Inv-rows μ-rows Inv-entries μ-entries = search in
     record {
       bytes = λ j. i .before .before .before .shared-slice-known .given j .fits;
       before = i .entries-test .taken;
       own-is = refl;
-      other-is = ap (typeOf (begun (i .before) .args .t4)) (p .before .before .before .wide .ensures .0);
+      other-is = ap (typeOf (s .args .t4)) (widened p .wide .ensures .0);
       bounds = p .run-bound .ensures;
     }
 
@@ -79,7 +79,7 @@ stood : (k : tie.After-candidate-from Inv-loop μ-loop Inv-rows μ-rows Inv-entr
     Stands (a .levels .now) (a .types .now) (a .rows) (edgeOf (a .t4) (e .entries .c)) (typeOf (a .t4) (parentOf (a .t4) (e .entries .c)))
     (w .rows .r) (k .candidate-from .result)
 stood k =
-    let w = k .before .before in
+    let w : tie.At-rows Inv-loop μ-loop Inv-rows μ-rows Inv-entries μ-entries = search in
     standing (asked (w .before)) (wanted (w .before)) (w .rows .j) (w .rows .r) (w .rows .inv .1) (k .before .rows-test .taken)
     (k .candidate-from .result) (k .candidate-from .ensures)
 
@@ -101,8 +101,9 @@ element-copy-out-wide c = search needs
 element-copy-out-other :
     tie.Need-element-copy-out-other Inv-loop μ-loop Inv-rows μ-rows Inv-entries μ-entries
 element-copy-out-other c =
-    let i = c .before .before .before in
-    let z = begun (i .before) .pre .1 in
+    let i : tie.In-entries Inv-loop μ-loop Inv-rows μ-rows Inv-entries μ-entries = search in
+    let s : tie.Start Inv-loop μ-loop Inv-rows μ-rows Inv-entries μ-entries = search in
+    let z = s .pre .1 in
     omega (arith, c .wide .ensures .0, z .under (i .before .entries .c) (i .before .entries .inv .0) (i .entries-test .taken), z .few)
 
 element-copy-out-run-bound :
@@ -115,7 +116,7 @@ run-bound-requires c κs = search needs
 
 rows-holds : tie.Need-rows-holds Inv-loop μ-loop Inv-rows μ-rows Inv-entries μ-entries
 rows-holds c =
-    let i = entry c in
+    let i : tie.In-entries Inv-loop μ-loop Inv-rows μ-rows Inv-entries μ-entries = search in
     let e = i .before .entries in
     (e .inv .2, done-before (asked c) (wanted c) (e .r) (e .inv .4 (i .entries-test .taken)) (e .inv .3))
 
@@ -129,8 +130,8 @@ shared-slice-read-if1 c = search needs
 
 loop-holds : tie.Need-loop-holds Inv-loop μ-loop Inv-rows μ-rows Inv-entries μ-entries
 loop-holds c =
-    let k = c .before .before in
-    let p = k .before .before .before in
+    let k : tie.After-candidate-from Inv-loop μ-loop Inv-rows μ-rows Inv-entries μ-entries = search in
+    let p : tie.After-run-bound Inv-loop μ-loop Inv-rows μ-rows Inv-entries μ-entries = search in
     (refl, candidates-here (asked p) (wanted p) (k .before .before .rows .r) (k .candidate-from .result) (stood k))
 
 shared-slice-read-if2 :
@@ -139,9 +140,9 @@ shared-slice-read-if2 c = search needs
 
 rows-again : tie.Need-rows-again Inv-loop μ-loop Inv-rows μ-rows Inv-entries μ-entries
 rows-again c =
-    let l = c .before .before .before in
-    let d = row l in
-    let w = d .before in
+    let l : tie.At-loop Inv-loop μ-loop Inv-rows μ-rows Inv-entries μ-entries = search in
+    let d : tie.In-rows Inv-loop μ-loop Inv-rows μ-rows Inv-entries μ-entries = search in
+    let w : tie.At-rows Inv-loop μ-loop Inv-rows μ-rows Inv-entries μ-entries = search in
     rw (l .loop .inv .0) (
       w .rows .inv .0,
       done-partnered (asked (w .before)) (wanted (w .before)) (w .rows .j) (w .rows .r) (w .rows .inv .1) (d .rows-test .taken) (l .before .if1 .taken)
@@ -154,15 +155,15 @@ next-in-run-requires c κs = search needs
 
 loop-less : tie.Need-loop-less Inv-loop μ-loop Inv-rows μ-rows Inv-entries μ-entries
 loop-less c =
-    let i = c .before .before .before in
+    let i : tie.In-loop Inv-loop μ-loop Inv-rows μ-rows Inv-entries μ-entries = search in
     ⊎-elim (λ x. omega (arith, x .0, i .loop-test .taken)) (λ x. omega (arith, x .0, i .loop-test .taken)) (c .next-in-run .ensures)
 
 loop-again : tie.Need-loop-again Inv-loop μ-loop Inv-rows μ-rows Inv-entries μ-entries
 loop-again c =
-    let o = c .before in
-    let i = o .before .before in
-    let l = i .before in
-    let w = row l .before in (
+    let i : tie.In-loop Inv-loop μ-loop Inv-rows μ-rows Inv-entries μ-entries = search in
+    let l : tie.At-loop Inv-loop μ-loop Inv-rows μ-rows Inv-entries μ-entries = search in
+    let w : tie.At-rows Inv-loop μ-loop Inv-rows μ-rows Inv-entries μ-entries = search in
+    let o = c .before in (
       l .loop .inv .0,
       candidates-on (asked (w .before)) (wanted (w .before)) (w .rows .r) (l .loop .j) (c .next-in-run .result) (l .loop .inv .1)
           (i .loop-test .taken) (o .if2 .left) (c .next-in-run .ensures),
@@ -170,9 +171,9 @@ loop-again c =
 
 rows-again-2 : tie.Need-rows-again-2 Inv-loop μ-loop Inv-rows μ-rows Inv-entries μ-entries
 rows-again-2 c =
-    let k = c .before .before in
-    let d = k .before in
-    let w = d .before in (
+    let k : tie.After-candidate-from Inv-loop μ-loop Inv-rows μ-rows Inv-entries μ-entries = search in
+    let d : tie.In-rows Inv-loop μ-loop Inv-rows μ-rows Inv-entries μ-entries = search in
+    let w : tie.At-rows Inv-loop μ-loop Inv-rows μ-rows Inv-entries μ-entries = search in (
       w .rows .inv .0,
       done-other (asked (w .before)) (wanted (w .before)) (w .rows .j) (w .rows .r) (w .rows .inv .1) (d .rows-test .taken) (k .candidate-from .result)
           (stood k) (c .if1 .left),
@@ -180,8 +181,8 @@ rows-again-2 c =
 
 entries-again : tie.Need-entries-again Inv-loop μ-loop Inv-rows μ-rows Inv-entries μ-entries
 entries-again c =
-    let w = c .before in
-    let i = entry (w .before) in (
+    let i : tie.In-entries Inv-loop μ-loop Inv-rows μ-rows Inv-entries μ-entries = search in
+    let w = c .before in (
       omega arith,
       omega (arith, i .entries-test .taken),
       w .rows .inv .0,
@@ -191,16 +192,16 @@ entries-again c =
 
 returns : tie.Need-returns Inv-loop μ-loop Inv-rows μ-rows Inv-entries μ-entries
 returns c =
+    let s : tie.Start Inv-loop μ-loop Inv-rows μ-rows Inv-entries μ-entries = search in let a = s .args in
     let e = c .before in
-    let a = begun e .args in
     ap told (e .entries .inv .2)
     ∙ sym (entry-none (a .levels .now) (a .types .now) (a .rows) (a .t4) (e .entries .c) (c .entries-test .left)) ∙ e .entries .inv .3
 
 returns-2 : tie.Need-returns-2 Inv-loop μ-loop Inv-rows μ-rows Inv-entries μ-entries
 returns-2 c =
+    let d : tie.In-rows Inv-loop μ-loop Inv-rows μ-rows Inv-entries μ-entries = search in
+    let w : tie.At-rows Inv-loop μ-loop Inv-rows μ-rows Inv-entries μ-entries = search in
     let l = c .before in
-    let d = row l in
-    let w = d .before in
     rw (l .loop .inv .0)
     (done-alone (asked (w .before)) (wanted (w .before)) (w .rows .j) (w .rows .r) (w .rows .inv .1) (d .rows-test .taken) (l .before .if1 .taken)
     (l .loop .j) (l .loop .inv .1) (c .loop-test .left))

@@ -25,76 +25,77 @@ Inv-loop shape ways full meetings levels edges types e₀ e = Outer (firstOr kep
 abbrev μ-loop : tie.MeasureT-loop
 μ-loop shape ways full meetings levels edges types e₀ e = shape .entries - e
 
--- where the walk begins
-abbrev begun : tie.At-loop Inv-loop2 μ-loop2 Inv-loop μ-loop → tie.Start Inv-loop2 μ-loop2 Inv-loop μ-loop
-begun w = w .before .before .before .before .before .before
-
 -- what each pair of entries earns, where it is a fault
-abbrev faults : (w : tie.At-loop Inv-loop2 μ-loop2 Inv-loop μ-loop) → ℕ → ℕ → List Verdict
-faults w = let a = begun w .args in faultsOf (a .shape) (a .ways .now) (a .full) (a .meetings .now)
+abbrev faults : tie.Start Inv-loop2 μ-loop2 Inv-loop μ-loop → ℕ → ℕ → List Verdict
+faults s = let a = s .args in faultsOf (a .shape) (a .ways .now) (a .full) (a .meetings .now)
 
-abbrev entries : (w : tie.At-loop Inv-loop2 μ-loop2 Inv-loop μ-loop) → ℕ
-entries w = begun w .args .shape .entries
+abbrev entries : tie.Start Inv-loop2 μ-loop2 Inv-loop μ-loop → ℕ
+entries s = s .args .shape .entries
 
 loop-holds : tie.Need-loop-holds Inv-loop2 μ-loop2 Inv-loop μ-loop
 loop-holds c =
-    let a = c .before .before .before .before .before .args in
+    let s : tie.Start Inv-loop2 μ-loop2 Inv-loop μ-loop = search in let a = s .args in
     outer-start (firstOr kept) (faultsOf (a .shape) (a .ways .now) (a .full) (a .meetings .now)) (a .shape .entries)
 
 loop2-holds : tie.Need-loop2-holds Inv-loop2 μ-loop2 Inv-loop μ-loop
 loop2-holds c =
-    let w = c .before .before in
-    inner-start (firstOr kept) (faults w) (entries w) (w .loop .e) (c .if1 .taken) (w .loop .inv)
+    let w : tie.At-loop Inv-loop2 μ-loop2 Inv-loop μ-loop = search in
+    let s : tie.Start Inv-loop2 μ-loop2 Inv-loop μ-loop = search in
+    inner-start (firstOr kept) (faults s) (entries s) (w .loop .e) (c .if1 .taken) (w .loop .inv)
 
 meeting-requires : tie.Need-meeting-requires Inv-loop2 μ-loop2 Inv-loop μ-loop
 meeting-requires c κs =
-    let d = c .before .before in
-    let w = d .before .before .before in
-    let p = begun w .pre in
+    let d : tie.At-loop2 Inv-loop2 μ-loop2 Inv-loop μ-loop = search in
+    let w : tie.At-loop Inv-loop2 μ-loop2 Inv-loop μ-loop = search in
+    let s : tie.Start Inv-loop2 μ-loop2 Inv-loop μ-loop = search in
+    let p = s .pre in
     let z = p .0 .sized in
     let le = d .before .if1 .taken in
     (p .1, omega (arith, z .few, le), omega (arith, z .few, c .if2 .taken), z .typed (w .loop .e) le, z .typed (d .loop2 .f) (c .if2 .taken))
 
 pair-verdict-requires : tie.Need-pair-verdict-requires Inv-loop2 μ-loop2 Inv-loop μ-loop
 pair-verdict-requires c κs =
-    let d = c .before .before .before in
-    let w = d .before .before .before in
-    let room = begun w .pre .0 in
+    let d : tie.At-loop2 Inv-loop2 μ-loop2 Inv-loop μ-loop = search in
+    let w : tie.At-loop Inv-loop2 μ-loop2 Inv-loop μ-loop = search in
+    let s : tie.Start Inv-loop2 μ-loop2 Inv-loop μ-loop = search in
+    let room = s .pre .0 in
     (way-fits room (w .loop .e) (d .before .if1 .taken), way-fits room (d .loop2 .f) (c .before .if2 .taken))
 
 loop2-again : tie.Need-loop2-again Inv-loop2 μ-loop2 Inv-loop μ-loop
 loop2-again c =
-    let v = c .before .before in
-    let d = v .before .before .before .before in
-    let w = d .before .before .before in
-    let a = begun w .args in
-    inner-step (firstOr kept) (faults w) (entries w) (w .loop .e) (d .loop2 .f) (d .loop2 .inv) (v .before .before .if2 .taken)
+    let v : tie.After-pair-verdict Inv-loop2 μ-loop2 Inv-loop μ-loop = search in
+    let d : tie.At-loop2 Inv-loop2 μ-loop2 Inv-loop μ-loop = search in
+    let w : tie.At-loop Inv-loop2 μ-loop2 Inv-loop μ-loop = search in
+    let s : tie.Start Inv-loop2 μ-loop2 Inv-loop μ-loop = search in let a = s .args in
+    inner-step (firstOr kept) (faults s) (entries s) (w .loop .e) (d .loop2 .f) (d .loop2 .inv) (v .before .before .if2 .taken)
     (faults-none (a .shape) (a .ways .now) (a .full) (a .meetings .now) (w .loop .e) (d .loop2 .f) (v .before .meeting .result)
     (v .before .meeting .ensures .0) (v .pair-verdict .result) (v .pair-verdict .ensures) (c .enum-told .given .1))
 
 returns : tie.Need-returns Inv-loop2 μ-loop2 Inv-loop μ-loop
 unfolding firstFault
 returns c =
+    let d : tie.At-loop2 Inv-loop2 μ-loop2 Inv-loop μ-loop = search in
+    let w : tie.At-loop Inv-loop2 μ-loop2 Inv-loop μ-loop = search in
+    let s : tie.Start Inv-loop2 μ-loop2 Inv-loop μ-loop = search in let a = s .args in
     let v = c .before in
-    let d = v .before .before .before .before in
-    let w = d .before .before .before in
-    let a = begun w .args in
-    inner-found (firstOr kept) (faults w) (entries w) (w .loop .e) (d .loop2 .f) (d .loop2 .inv) (v .before .before .if2 .taken)
+    inner-found (firstOr kept) (faults s) (entries s) (w .loop .e) (d .loop2 .f) (d .loop2 .inv) (v .before .before .if2 .taken)
     (told (v .pair-verdict .result))
     (faults-one (a .shape) (a .ways .now) (a .full) (a .meetings .now) (w .loop .e) (d .loop2 .f) (v .before .meeting .result)
     (v .before .meeting .ensures .0) (v .pair-verdict .result) (v .pair-verdict .ensures) (c .match .keys2))
 
 loop-again : tie.Need-loop-again Inv-loop2 μ-loop2 Inv-loop μ-loop
 loop-again c =
-    let d = c .before .before in
-    let w = d .before .before .before in
-    inner-end (firstOr kept) (faults w) (entries w) (w .loop .e) (d .loop2 .f) (d .loop2 .inv) (c .if2 .left)
+    let d : tie.At-loop2 Inv-loop2 μ-loop2 Inv-loop μ-loop = search in
+    let w : tie.At-loop Inv-loop2 μ-loop2 Inv-loop μ-loop = search in
+    let s : tie.Start Inv-loop2 μ-loop2 Inv-loop μ-loop = search in
+    inner-end (firstOr kept) (faults s) (entries s) (w .loop .e) (d .loop2 .f) (d .loop2 .inv) (c .if2 .left)
 
 returns-2 : tie.Need-returns-2 Inv-loop2 μ-loop2 Inv-loop μ-loop
 unfolding firstFault
 returns-2 c =
-    let w = c .before .before in
-    outer-end (firstOr kept) (faults w) (entries w) (w .loop .e) (c .if1 .left) (w .loop .inv)
+    let w : tie.At-loop Inv-loop2 μ-loop2 Inv-loop μ-loop = search in
+    let s : tie.Start Inv-loop2 μ-loop2 Inv-loop μ-loop = search in
+    outer-end (firstOr kept) (faults s) (entries s) (w .loop .e) (c .if1 .left) (w .loop .inv)
 
 pub first-fault-spec : {M : Type 1} → statement M
 first-fault-spec =

@@ -23,82 +23,76 @@ Inv-loop shape ways meetings levels edges types e₀ e = Outer isEmpty (apartPai
 abbrev μ-loop : tie.MeasureT-loop
 μ-loop shape ways meetings levels edges types e₀ e = shape .entries - e
 
--- where the walk begins
-abbrev begun : tie.At-loop Inv-loop2 μ-loop2 Inv-loop μ-loop → tie.Start Inv-loop2 μ-loop2 Inv-loop μ-loop
-begun w = w .before .before .before .before .before .before
-
 -- the 2 that each pair of entries earns
-abbrev pairs : (w : tie.At-loop Inv-loop2 μ-loop2 Inv-loop μ-loop) → ℕ → ℕ → List Verdict
-pairs w = let a = begun w .args in apartPair (a .shape) (a .ways .now) (a .meetings .now)
+abbrev pairs : tie.Start Inv-loop2 μ-loop2 Inv-loop μ-loop → ℕ → ℕ → List Verdict
+pairs s = let a = s .args in apartPair (a .shape) (a .ways .now) (a .meetings .now)
 
-abbrev entries : (w : tie.At-loop Inv-loop2 μ-loop2 Inv-loop μ-loop) → ℕ
-entries w = begun w .args .shape .entries
-
--- where a pair is asked for, and the entry before it
-abbrev asked : tie.After-walk-path Inv-loop2 μ-loop2 Inv-loop μ-loop → tie.At-loop2 Inv-loop2 μ-loop2 Inv-loop μ-loop
-asked v = v .before .before .before .before
-
-abbrev outer : tie.At-loop2 Inv-loop2 μ-loop2 Inv-loop μ-loop → tie.At-loop Inv-loop2 μ-loop2 Inv-loop μ-loop
-outer d = d .before .before .before
+abbrev entries : tie.Start Inv-loop2 μ-loop2 Inv-loop μ-loop → ℕ
+entries s = s .args .shape .entries
 
 loop-holds : tie.Need-loop-holds Inv-loop2 μ-loop2 Inv-loop μ-loop
 loop-holds c =
-    let a = c .before .before .before .before .before .args in
+    let s : tie.Start Inv-loop2 μ-loop2 Inv-loop μ-loop = search in let a = s .args in
     outer-start isEmpty (apartPair (a .shape) (a .ways .now) (a .meetings .now)) (a .shape .entries)
 
 loop2-holds : tie.Need-loop2-holds Inv-loop2 μ-loop2 Inv-loop μ-loop
 loop2-holds c =
-    let w = c .before .before in
-    inner-start isEmpty (pairs w) (entries w) (w .loop .e) (c .if1 .taken) (w .loop .inv)
+    let w : tie.At-loop Inv-loop2 μ-loop2 Inv-loop μ-loop = search in
+    let s : tie.Start Inv-loop2 μ-loop2 Inv-loop μ-loop = search in
+    inner-start isEmpty (pairs s) (entries s) (w .loop .e) (c .if1 .taken) (w .loop .inv)
 
 meeting-requires : tie.Need-meeting-requires Inv-loop2 μ-loop2 Inv-loop μ-loop
 meeting-requires c κs =
-    let d = c .before .before in
-    let w = outer d in
-    let p = begun w .pre in
+    let d : tie.At-loop2 Inv-loop2 μ-loop2 Inv-loop μ-loop = search in
+    let w : tie.At-loop Inv-loop2 μ-loop2 Inv-loop μ-loop = search in
+    let s : tie.Start Inv-loop2 μ-loop2 Inv-loop μ-loop = search in
+    let p = s .pre in
     let z = p .0 .sized in
     let le = d .before .if1 .taken in
     (p .1, omega (arith, z .few, le), omega (arith, z .few, c .if2 .taken), z .typed (w .loop .e) le, z .typed (d .loop2 .f) (c .if2 .taken))
 
 walk-path-requires : tie.Need-walk-path-requires Inv-loop2 μ-loop2 Inv-loop μ-loop
 walk-path-requires c κs =
-    let d = c .before .before .before in
-    let w = outer d in
-    let room = begun w .pre .0 in
+    let d : tie.At-loop2 Inv-loop2 μ-loop2 Inv-loop μ-loop = search in
+    let w : tie.At-loop Inv-loop2 μ-loop2 Inv-loop μ-loop = search in
+    let s : tie.Start Inv-loop2 μ-loop2 Inv-loop μ-loop = search in
+    let room = s .pre .0 in
     (way-fits room (w .loop .e) (d .before .if1 .taken), way-fits room (d .loop2 .f) (c .before .if2 .taken))
 
 returns : tie.Need-returns Inv-loop2 μ-loop2 Inv-loop μ-loop
 unfolding noPairApart
 returns c =
-    let v = c .before .before in
-    let d = asked v in
-    let w = outer d in
-    let a = begun w .args in
-    inner-found isEmpty (pairs w) (entries w) (w .loop .e) (d .loop2 .f) (d .loop2 .inv) (v .before .before .if2 .taken) (apart (w .loop .e) (d .loop2 .f))
+    let v : tie.After-walk-path Inv-loop2 μ-loop2 Inv-loop μ-loop = search in
+    let d : tie.At-loop2 Inv-loop2 μ-loop2 Inv-loop μ-loop = search in
+    let w : tie.At-loop Inv-loop2 μ-loop2 Inv-loop μ-loop = search in
+    let s : tie.Start Inv-loop2 μ-loop2 Inv-loop μ-loop = search in let a = s .args in
+    inner-found isEmpty (pairs s) (entries s) (w .loop .e) (d .loop2 .f) (d .loop2 .inv) (v .before .before .if2 .taken) (apart (w .loop .e) (d .loop2 .f))
     (apart-one (a .shape) (a .ways .now) (a .meetings .now) (w .loop .e) (d .loop2 .f) (v .before .meeting .result) (v .before .meeting .ensures .0)
     (v .walk-path .ensures) (c .if3 .taken))
 
 loop2-again : tie.Need-loop2-again Inv-loop2 μ-loop2 Inv-loop μ-loop
 loop2-again c =
-    let v = c .before .before in
-    let d = asked v in
-    let w = outer d in
-    let a = begun w .args in
-    inner-step isEmpty (pairs w) (entries w) (w .loop .e) (d .loop2 .f) (d .loop2 .inv) (v .before .before .if2 .taken)
+    let v : tie.After-walk-path Inv-loop2 μ-loop2 Inv-loop μ-loop = search in
+    let d : tie.At-loop2 Inv-loop2 μ-loop2 Inv-loop μ-loop = search in
+    let w : tie.At-loop Inv-loop2 μ-loop2 Inv-loop μ-loop = search in
+    let s : tie.Start Inv-loop2 μ-loop2 Inv-loop μ-loop = search in let a = s .args in
+    inner-step isEmpty (pairs s) (entries s) (w .loop .e) (d .loop2 .f) (d .loop2 .inv) (v .before .before .if2 .taken)
     (apart-none (a .shape) (a .ways .now) (a .meetings .now) (w .loop .e) (d .loop2 .f) (v .before .meeting .result) (v .before .meeting .ensures .0)
     (v .walk-path .ensures) (c .if3 .left))
 
 loop-again : tie.Need-loop-again Inv-loop2 μ-loop2 Inv-loop μ-loop
 loop-again c =
-    let d = c .before .before in
-    let w = outer d in
-    inner-end isEmpty (pairs w) (entries w) (w .loop .e) (d .loop2 .f) (d .loop2 .inv) (c .if2 .left)
+    let d : tie.At-loop2 Inv-loop2 μ-loop2 Inv-loop μ-loop = search in
+    let w : tie.At-loop Inv-loop2 μ-loop2 Inv-loop μ-loop = search in
+    let s : tie.Start Inv-loop2 μ-loop2 Inv-loop μ-loop = search in
+    inner-end isEmpty (pairs s) (entries s) (w .loop .e) (d .loop2 .f) (d .loop2 .inv) (c .if2 .left)
 
 returns-2 : tie.Need-returns-2 Inv-loop2 μ-loop2 Inv-loop μ-loop
 unfolding noPairApart
 returns-2 c =
-    let w = c .before .before in
-    outer-end isEmpty (pairs w) (entries w) (w .loop .e) (c .if1 .left) (w .loop .inv)
+    let w : tie.At-loop Inv-loop2 μ-loop2 Inv-loop μ-loop = search in
+    let s : tie.Start Inv-loop2 μ-loop2 Inv-loop μ-loop = search in
+    outer-end isEmpty (pairs s) (entries s) (w .loop .e) (c .if1 .left) (w .loop .inv)
 
 pub none-apart-spec : {M : Type 1} → statement M
 none-apart-spec =

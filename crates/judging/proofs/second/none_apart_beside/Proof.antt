@@ -8,15 +8,13 @@ use Rattle.judging.proofs.second.none_apart_beside.Tie as tie
 
 returns : tie.Need-returns
 returns c =
-    let b = c .before .before .before .before in
-    let a = b .args in
+    let b : tie.Start = search in let a = b .args in
     let (full, e) = b .pre .2 in
     beside-none (a .shape) (a .ways .now) full (a .meetings .now) (ap told (sym (c .enum-told .given .1)) ∙ e)
 
 returns-2 : tie.Need-returns-2
 returns-2 c =
-    let b = c .before .before .before .before .before in
-    let a = b .args in
+    let b : tie.Start = search in let a = b .args in
     let (full, e) = b .pre .2 in
     beside-apart (a .shape) (a .ways .now) full (a .meetings .now) _ _ (ap told (sym (c .before .fault .given .1)) ∙ e)
 
