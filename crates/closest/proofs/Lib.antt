@@ -10,3 +10,4 @@ pub mod Meetings
 pub mod Listed
 pub mod Counts
 pub mod Read
+pub mod Seam

@@ -30,6 +30,7 @@ pub refusal : (f : Format) (t : List ℕ) (r : RowsRead) (levels ks : List ℕ) 
     → tests1-4 f t ≡ refused k p → ReadRows f t r levels ks
 refusal f t r levels ks k p is ne e = record {
   refused-is = λ _. e ∙ ap₂ (λ a b. refused a b) (sym (is .0)) (sym (is .1));
+  given-is = λ z. absurd (ne (sym (is .0) ∙ z));
   read = λ z. absurd (ne (sym (is .0) ∙ z));
 }
 
@@ -115,11 +116,15 @@ module _ {f : Format} {t : List ℕ} {n : ℕ} {ks : List ℕ} {ty : Types} (ser
       type-few = λ i lt. omega (arith, kind-few f n t ks typed-rows i lt, few-types);
     }
 
+    passes : tests1-4 f t ≡ given (rows f t)
+    passes = pass1-4 f t (l .table .passed) few-types
+
     pub rows-read : ReadRows f t (record { number = 0; place = 0; rows = n; count = ty .count; parents = ty .parents; labels = ty .labels }) levels ks
     rows-read = record {
       refused-is = λ ne. absurd (ne refl);
+      given-is = λ _. passes;
       read = λ _. record {
-        given-is = pass1-4 f t (l .table .passed) few-types;
+        given-is = passes;
         levelled = record { typed = typed-rows; level-is = ls .level-is };
         levels-are = ls;
         rows-are = rows-are;

@@ -14,7 +14,7 @@ use Rattle.paper.specs.Lists.{Has, keep, all, any, firstOr, firstPlace, same, d
 use Rattle.paper.specs.Format.{Format, mostEntries}
 use Rattle.paper.specs.Tables.{Row, rowTypes, types}
 use Rattle.paper.specs.Shapes.{Entry, entries, named}
-use Rattle.paper.specs.Calls.{Answer, refused, given, _>>=_, refuse, refuseAt, reply, after, Work, typeMissing, tests1-4, tests5-6, tests1-7}
+use Rattle.paper.specs.Calls.{Answer, refused, given, _>>=_, refuse, refuseAt, reply, after, Work, typeMissing, tests1-4, tests5-6, tests5-7, tests1-7}
 use Rattle.paper.proofs.Lists.{and, same-eq, eq-same, keep-has, any-has, map-has, join-map, join-same}
 use Rattle.paper.proofs.Kept.{keep-none, first-none, none-first}
 use Rattle.paper.proofs.Shapes.{each-part, entries-laid}
@@ -225,7 +225,7 @@ pub print-reads : (f : Format) → f .levels ≤ 8 → f .labels < 65536 → Nam
     → (room : List ℕ) → printTree f s room .reply .number ≡ 0 → (lent : List ℕ) → length s ≤ length lent
     → (x : Reading) → ReadTree f b (written (printTree f s room)) lent x
     → x ≡ record { reply = record { number = 0; place = 0; rest = length (entries f s) }; shape = s ++ drop (length s) lent }
-unfolding tests1-7
+unfolding tests5-7
 print-reads f few small names b s w passes octets room accepted lent fits x r =
     let (rs, table, k₁) = bind-given (tests1-4 f b) _ w passes in
     let (es, shape, k₂) = bind-given (tests5-6 f s) _ w k₁ in

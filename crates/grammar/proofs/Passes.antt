@@ -17,7 +17,7 @@ use Rattle.paper.specs.Tables.{Row, badRow, types}
 use Rattle.paper.specs.Closeness.{nodes}
 use Rattle.paper.specs.Shapes.{Entry, entryOf, entries, named, entryKept, badEntry, shapeOver}
 use Rattle.paper.specs.Calls.{Answer, refused, given, _>>=_, refuse, refuseAt, reply, after, Work, typeTooMany, typeMissing}
-use Rattle.paper.specs.Calls.{tests1-3, tests1-4, tests5-6, tests1-7}
+use Rattle.paper.specs.Calls.{tests1-3, tests1-4, tests5-6, tests5-7, tests1-7}
 use Rattle.paper.proofs.Lists.{eq-same, keep-has, has-any, map-has, map-same}
 use Rattle.paper.proofs.Kept.{first-none, none-first}
 use Rattle.paper.proofs.Tables.{rules-none}
@@ -89,7 +89,7 @@ module _ (f : Format) (small : f .labels < 65536) (rs : List Row) (sound : badRo
       all-kept = rules-none (entryKept f) levelOf 0 0 (map asked es) (entries-kept f kind 0 es (λ e h. (fit e h, deep e h)) climbs)
 
       passes : (b : List ℕ) → tests1-4 f b ≡ given rs → 0 < length es → length es ≤ mostEntries → (w : Work) × (tests1-7 f b shape ≡ given w)
-      unfolding tests1-7 tests5-6
+      unfolding tests5-7 tests5-6
       passes b table filled few =
           let w = entryBytes f in
           let work : List Entry → Work = λ xs. record { rows = rs; nodes = nodes rs; shape = shapeOver (types rs) xs } in

@@ -12,10 +12,11 @@ use borrow.Author.Tests.{eq-eqb, ne-eqb, lt-ltb, le-ltb, ltb-true, ltb-false, le
 use Rattle.paper.specs.Lists.{keep, firstOr, lastOr, place, count}
 use Rattle.paper.specs.Format.{Format}
 use Rattle.paper.specs.Tables as Tables
+use Rattle.paper.specs.Tables.{Row}
 use Rattle.paper.specs.Closeness.{Node, nodes, level, meet}
-use Rattle.paper.specs.Calls.{Answer, given, _>>=_, refuse, refuseAt, tests1-4}
+use Rattle.paper.specs.Calls.{given, tests1-4}
 use Rattle.paper.specs.Index.{noRow, descends, repeats, places, lastDescendant, nextOfType, tooShort, wrongAt, wrongRow, testsIndex}
-use Rattle.paper.proofs.Index.{length-nodes, tests-are}
+use Rattle.paper.proofs.Index.{length-nodes, tested, tests-are}
 use Rattle.closest.specs.Node.{node, Typed}
 use Rattle.closest.specs.Runs.{Levelled, NextRow}
 use Rattle.closest.proofs.Meets.{nodes-are, kind-at}
@@ -154,21 +155,22 @@ module _ (f : Format) (rows : ℕ) (t levels types : List ℕ) (lv : Levelled f 
 
 -- ---- the tests
 module _ (f : Format) (t last next : List ℕ) (table : tests1-4 f t ≡ given (Tables.rows f t)) where
-  abbrev tested : Bool → Option ℕ → Answer (Unit {0})
-  tested short wrong = refuse 14 short >>= (λ _. refuseAt 15 wrong)
+  abbrev rs : List Row
+  rs = Tables.rows f t
 
-  are : testsIndex f t last next ≡ tested (tooShort (Tables.rows f t) last next) (wrongRow (nodes (Tables.rows f t)) last next)
-  are = tests-are f t last next (Tables.rows f t) table
+  are : testsIndex f t last next ≡ tested rs (tooShort rs last next) (wrongRow (nodes rs) last next)
+  are = tests-are f t last next rs table
 
-  pub lists-short : tooShort (Tables.rows f t) last next ≡ true → Says (testsIndex f t last next) 14 0
+  pub lists-short : tooShort (Tables.rows f t) last next ≡ true → Says (testsIndex f t last next) (Tables.rows f t) 14 0
   lists-short e = record {
-    refused-is = λ _. are ∙ ap (λ b. tested b (wrongRow (nodes (Tables.rows f t)) last next)) e;
+    refused-is = λ _. are ∙ ap (λ b. tested rs b (wrongRow (nodes rs) last next)) e;
     given-is = λ z. let w : ⊥ = omega (arith, z) in absurd w;
   }
 
   pub lists-wrong : tooShort (Tables.rows f t) last next ≡ false → (w : ℕ) → wrongRow (nodes (Tables.rows f t)) last next ≡ some w
-      → Says (testsIndex f t last next) 15 w
-  lists-wrong e w q = record { refused-is = λ _. are ∙ ap₂ tested e q; given-is = λ z. let w : ⊥ = omega (arith, z) in absurd w }
+      → Says (testsIndex f t last next) (Tables.rows f t) 15 w
+  lists-wrong e w q = record { refused-is = λ _. are ∙ ap₂ (tested rs) e q; given-is = λ z. let w : ⊥ = omega (arith, z) in absurd w }
 
-  pub lists-right : tooShort (Tables.rows f t) last next ≡ false → wrongRow (nodes (Tables.rows f t)) last next ≡ none → Says (testsIndex f t last next) 0 0
-  lists-right e q = record { refused-is = λ ne. absurd (ne refl); given-is = λ _. are ∙ ap₂ tested e q }
+  pub lists-right : tooShort (Tables.rows f t) last next ≡ false → wrongRow (nodes (Tables.rows f t)) last next ≡ none
+      → Says (testsIndex f t last next) (Tables.rows f t) 0 0
+  lists-right e q = record { refused-is = λ ne. absurd (ne refl); given-is = λ _. are ∙ ap₂ (tested rs) e q }

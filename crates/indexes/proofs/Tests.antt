@@ -61,8 +61,11 @@ module _ (f : Format) (t last next levels types : List ℕ) (r : RowsRead) (read
   -- the table is refused
   pub unread : (r .number ≡ 0 → ⊥) → ReadsIndexed f t last next r levels types
   unread ne = record {
-    says = record { refused-is = λ _. index-refused f t last next (r .number) (r .place) (read .refused-is ne); given-is = λ z. absurd (ne z) };
-    read = read .read;
+    reads = record {
+      refused-is = λ _. index-refused f t last next (r .number) (r .place) (read .refused-is ne);
+      given-is = λ z. absurd (ne z);
+      read = read .read;
+    };
     next-in = λ z. absurd (ne z);
   }
 
@@ -71,14 +74,18 @@ module _ (f : Format) (t last next levels types : List ℕ) (r : RowsRead) (read
       → ReadsIndexed f t last next (record { number = x .number; place = x .place; rows = r .rows; count = r .count; parents = r .parents; labels = r .labels }) levels types
   read-with z x holds =
       let in-rows = read .read z in
+      let says = holds .says f t (in-rows .levelled) (in-rows .given-is) in
       record {
-        says = holds .says f t (in-rows .levelled) (in-rows .given-is);
-        read = λ _. record {
-          given-is = in-rows .given-is;
-          levelled = in-rows .levelled;
-          levels-are = in-rows .levels-are;
-          rows-are = in-rows .rows-are;
-          told = in-rows .told;
+        reads = record {
+          refused-is = says .refused-is;
+          given-is = says .given-is;
+          read = λ _. record {
+            given-is = in-rows .given-is;
+            levelled = in-rows .levelled;
+            levels-are = in-rows .levels-are;
+            rows-are = in-rows .rows-are;
+            told = in-rows .told;
+          };
         };
         next-in = holds .next-in;
       }

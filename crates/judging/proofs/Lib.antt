@@ -9,5 +9,5 @@ pub mod Entries
 pub mod Edges
 pub mod Found
 pub mod Whole
-pub mod Indexed
+pub mod Seam
 pub mod Unique

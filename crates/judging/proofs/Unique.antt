@@ -4,16 +4,17 @@ use mathlib.Core.Path.{_≡_, refl, sym, _∙_, ap, subst}
 use mathlib.Core.List.{List}
 use lib.ListN.{getD}
 use Rattle.paper.specs.Format.{Format}
+use Rattle.paper.specs.Tables.{Row}
 use Rattle.paper.specs.Calls.{Reply, given, judge}
 use Rattle.paper.specs.Index.{testsIndex, judgeWith}
 use Rattle.paper.specs.Edges.{EdgesAgree}
 use Rattle.paper.proofs.Edges.{judge-agrees}
+use Rattle.paper.proofs.Index.{index-reads, judge-plain}
 use Rattle.judging.specs.Told.{numbersOf}
 use Rattle.judging.specs.Judged.{InNumbers, edgesOf, judged, inNumbers}
 use Rattle.judging.specs.declared.verdict.Verdict.{Verdict}
 use Rattle.judging.specs.declared.verdict.Verdict.the-variants.{Kept, Missing, Apart, Unsure}
 use Rattle.judging.specs.declared.judge.Judged.{Judged}
-use Rattle.judging.proofs.Indexed.{with-plain}
 
 -- the verdict with this number and these values
 abbrev verdictOf : ℕ → ℕ → ℕ → Verdict
@@ -62,5 +63,5 @@ module _ (f : Format) (t s last next : List ℕ) (a : Judged) (p : judged a ≡ 
   judge-with-unique b q = judged-same a b (p ∙ sym q)
 
   -- Where the index is this table's, it is what judging without one says.
-  pub judge-as-plain : testsIndex f t last next ≡ given tt → judged a ≡ inNumbers (judge f t s)
-  judge-as-plain e = p ∙ ap inNumbers (sym (with-plain f t s last next e))
+  pub judge-as-plain : (rs : List Row) → testsIndex f t last next ≡ given rs → judged a ≡ inNumbers (judge f t s)
+  judge-as-plain rs e = p ∙ ap inNumbers (judge-plain f t s last next (index-reads f t last next rs e))

@@ -16,7 +16,7 @@ use Rattle.paper.specs.Partners.{EdgeNumbers, edgeNumbers}
 use Rattle.paper.specs.Verdict
 use Rattle.paper.specs.Verdict.{Judgement, kept, missing, isApart, verdictNumbers, overPairs}
 use Rattle.paper.specs.Verdict.{partners, alone, full, lone, pairFault, verdict, noneApart, judgement}
-use Rattle.paper.specs.Calls.{judge, reply, refused, given, noJudgement, _>>=_, Reply, tests1-7}
+use Rattle.paper.specs.Calls.{judgeRows, judge, reply, refused, given, noJudgement, _>>=_, Reply, tests1-7}
 use Rattle.shapes.specs.Edges.{meetingOf}
 use Rattle.shapes.specs.Shape.{levelOf, typeOf, parentOf, edgeOf}
 use Rattle.shapes.specs.Tests.{shapeIn}
@@ -154,7 +154,7 @@ module _ {form : Format} {t sb : List ℕ} {w : Work} (r : Ready form t sb w) wh
 -- ---- the answer
 pub judge-refused : (form : Format) (t sb : List ℕ) (k place : ℕ) → tests1-7 form t sb ≡ refused k place
     → record { number = k; place = place; rest = noJudgement } ≡ judge form t sb
-unfolding judge
+unfolding judge judgeRows
 judge-refused form t sb k place e = sym (ap (λ a. reply noJudgement (a >>= (λ x. given (judgement (x .nodes) (x .shape))))) e)
 
 module _ {form : Format} {t sb : List ℕ} {w : Work} (r : Ready form t sb w) where
@@ -162,7 +162,7 @@ module _ {form : Format} {t sb : List ℕ} {w : Work} (r : Ready form t sb w) wh
   pub judge-given : (v : Verdict.Verdict) (n : Bool) (edges : EdgeNumbers) → v ≡ verdict (nodes (rows form t)) (shapeIn form t sb)
       → n ≡ noPairApart (w .shape) (w .ways) (w .meetings) → edges ≡ edgeNumbers (nodes (rows form t)) (shapeIn form t sb)
       → record { number = 0; place = 0; rest = record { verdict = v; noneApart = n; edges = edges } } ≡ judge form t sb
-  unfolding judge
+  unfolding judge judgeRows
   judge-given v n edges e q o =
       (λ i. record { number = 0; place = 0; rest = record { verdict = e i; noneApart = (q ∙ apart-are r) i; edges = o i } })
       ∙ sym (ap (λ a. reply noJudgement (a >>= (λ x. given (judgement (x .nodes) (x .shape))))) (r .given-is))

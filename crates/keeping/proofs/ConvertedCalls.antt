@@ -7,7 +7,7 @@ use Rattle.paper.specs.Format.{Format}
 use Rattle.paper.specs.Tables.{Row, rows, rowTypes, types}
 use Rattle.paper.specs.Closeness.{nodes, closest}
 use Rattle.paper.specs.Shapes.{Entry, entries}
-use Rattle.paper.specs.Calls.{refused, given, _>>=_, after, tests1-7, test8, judge, roomIn, reshaping, reshape, summarise}
+use Rattle.paper.specs.Calls.{refused, given, _>>=_, after, tests1-4, tests1-7, test8, judge, roomIn, reshaping, reshape, summarise}
 use Rattle.paper.specs.Labels.{oldRange, Pair, converted, tableWith, rowWith, Converted, converting}
 use Rattle.paper.proofs.Calls.{passed1-3}
 use Rattle.keeping.proofs.Accepted.{Accepted, converting-passes}

@@ -15,7 +15,7 @@ use Rattle.paper.specs.NewTable.{Line}
 use Rattle.paper.specs.Figures.{Figures, figures, noFigures}
 use Rattle.paper.specs.Verdict.{Judgement, judgement}
 use Rattle.paper.specs.Calls.{Answer, refused, given, _>>=_, refuse, refuseAt, reply, Work, noJudgement}
-use Rattle.paper.specs.Calls.{typeTooMany, typeMissing, tests1-3, tests1-4, tests5-6, tests1-7, test8, judge, summarise}
+use Rattle.paper.specs.Calls.{typeTooMany, typeMissing, tests1-3, tests1-4, tests5-6, tests5-7, tests1-7, test8, judgeRows, judge, summariseRows, summarise}
 use Rattle.paper.specs.Labels.{oldRange, Pair, converted, rowWith, entryWith}
 use Rattle.paper.proofs.Shapes.{entries-laid, each-part}
 use Rattle.paper.proofs.Calls.{refused-given, passed5-6}
@@ -57,7 +57,7 @@ four-seven-through to none (some p) w = refl
 
 seven-tests : (f : Format) (b s : List ℕ) (rs : List Row) (es : List Entry) → tests1-3 f b ≡ given rs → tests5-6 f s ≡ given es
     → tests1-7 f b s ≡ four-seven (typeTooMany rs) (typeMissing rs es) (own-work rs es)
-unfolding tests1-7 tests1-4
+unfolding tests5-7 tests1-4
 seven-tests f b s rs es passed-rows passed-entries =
     ap₂ (λ a c. (a >>= (λ rs. refuseAt 4 (typeTooMany rs) >>= (λ _. given rs))) >>= (λ rs. c >>= (λ es.
     refuseAt 7 (typeMissing rs es) >>= (λ _. given (own-work rs es))))) passed-rows passed-entries
@@ -108,7 +108,7 @@ module _ (f : Format) (ps : List Pair) (b s table shape : List ℕ) (accepted : 
 
   -- THEY ARE JUDGED as before: the same verdict, second answer and numbers of each edge, or the same refusal.
   pub judge-with : judge f table shape ≡ judge (oldRange f) b s
-  unfolding judge
+  unfolding judge judgeRows
   judge-with = ap (λ a. reply noJudgement (a >>= next)) work-with ∙ go (tests1-7 (oldRange f) b s)
     where
       next : Work → Answer Judgement
@@ -128,7 +128,7 @@ module _ (f : Format) (ps : List Pair) (b s table shape : List ℕ) (accepted : 
 
   -- THE SUMMARY is the same, or it is refused as before.
   pub summarise-with : summarise f table shape ≡ summarise (oldRange f) b s
-  unfolding summarise
+  unfolding summarise summariseRows
   summarise-with = ap (λ a. reply noFigures (a >>= next f)) work-with ∙ go (tests1-7 (oldRange f) b s)
     where
       next : Format → Work → Answer Figures

@@ -10,8 +10,8 @@ use Rattle.paper.specs.Tables.{Row, rows, rowBack, types}
 use Rattle.paper.specs.Closeness.{nodes}
 use Rattle.paper.specs.Shapes.{Entry, Shape, entries, named, shapeOver}
 use Rattle.paper.specs.NewTable.{Line, lines, lineRow, newTable, sourceList}
-use Rattle.paper.specs.Calls.{Answer, refused, given, _>>=_, reply, after, Work, tests1-7, test8}
-use Rattle.paper.specs.Calls.{roomIn, reshaping, Reshaping, reshape}
+use Rattle.paper.specs.Calls.{Answer, refused, given, _>>=_, reply, after, Work, tests1-4, tests1-7, test8}
+use Rattle.paper.specs.Calls.{roomIn, reshaping, Reshaping, reshapeRows, reshape}
 use Rattle.paper.specs.Labels.{oldRange, Pair, converted, recordWith, recordsWith, labelAt, tableWith, rowWith}
 use Rattle.paper.proofs.Lists.{join-map, join-same}
 use Rattle.paper.proofs.Kept.{getD-moved}

@@ -18,7 +18,7 @@ use Rattle.paper.specs.Shapes.{Entry, named, shapeOver}
 use Rattle.paper.specs.Adorned.{Summary, summariesFrom, adorned}
 use Rattle.paper.specs.Verdict.{judgement}
 use Rattle.paper.specs.Calls.{Answer, refused, given, _>>=_, refuse, refuseAt, Reply, reply, after, Adorning, Work, noJudgement}
-use Rattle.paper.specs.Calls.{typeTooMany, typeMissing, tests1-3, tests1-4, tests5-6, tests1-7, lookUp, adorning, adorn, judge}
+use Rattle.paper.specs.Calls.{typeTooMany, typeMissing, tests1-3, tests1-4, tests5-6, tests5-7, tests1-7, lookUp, adorning, adorn, judgeRows, judge}
 use Rattle.paper.specs.Widths.{deeper, recordTo, tableTo, shapeTo, rowTo, entryTo}
 use Rattle.paper.proofs.Kept.{first-same, getD-moved}
 use Rattle.paper.proofs.Tables.{rows-laid}
@@ -151,7 +151,7 @@ module _ (f : Format) (n : ℕ) (b : List ℕ) (even : length b % rowBytes f ≡
 
     -- A WIDENED TABLE AND SHAPE are refused alike by 1 to 7, or give the same nodes and the same shape, with the same rows, widened.
     pub work-widened : tests1-7 (deeper f n) wide wider ≡ (tests1-7 f b s >>= (λ w. given (workTo n w)))
-    unfolding tests1-7
+    unfolding tests5-7
     work-widened = ap (λ a. a >>= next wider (deeper f n)) tests1-4-widened ∙ go (tests1-4 f b) refl
       where
         own : List Row → List Entry → Work
@@ -182,7 +182,7 @@ module _ (f : Format) (n : ℕ) (b : List ℕ) (even : length b % rowBytes f ≡
 
     -- THEY ARE JUDGED as the table and the shape are: the same verdict, second answer and numbers of each edge, or the same refusal.
     pub judge-widened : judge (deeper f n) wide wider ≡ judge f b s
-    unfolding judge
+    unfolding judge judgeRows
     judge-widened = ap (λ a. reply noJudgement (a >>= (λ (w : Work). given (judgement (w .nodes) (w .shape))))) work-widened ∙ go (tests1-7 f b s)
       where
         go : (a : Answer Work) → reply noJudgement ((a >>= (λ w. given (workTo n w))) >>= (λ (w : Work). given (judgement (w .nodes) (w .shape))))

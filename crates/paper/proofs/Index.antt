@@ -14,13 +14,14 @@ use Rattle.paper.specs.Lists.{Has, place}
 use Rattle.paper.specs.Format.{Format}
 use Rattle.paper.specs.Tables.{Row, dewey, rowTypes, types, typeNumber}
 use Rattle.paper.specs.Closeness.{Node, nodesFrom, nodes}
-use Rattle.paper.specs.Calls.{Answer, refused, given, _>>=_, refuse, refuseAt, reply, after, tests1-3, tests1-4, judge, summarise, reshape}
+use Rattle.paper.specs.Calls.{Answer, refused, given, _>>=_, refuse, refuseAt, reply, after, tests1-3, tests1-4, judgeRows, judge}
+use Rattle.paper.specs.Calls.{summariseRows, summarise, reshapeRows, reshape}
 use Rattle.paper.specs.Index.{lastDescendant, nextOfType, Index, indexOf, tooShort, wrongAt, wrongRow, testsIndex}
 use Rattle.paper.specs.Index.{building, buildIndex, judgeWith, summariseWith, reshapeWith}
 use Rattle.paper.proofs.Forest.{Numbered, place-bounds}
 use Rattle.paper.proofs.Tables.{nodes-numbered, step, length-ways}
 use Rattle.paper.proofs.Calls.{bind-given, refuse-given, refuseAt-given, passed1-4}
-use Rattle.paper.proofs.Seam.{seam}
+use Rattle.paper.proofs.Seam.{AsPlain, seam}
 
 -- ---- figures of rows in a list, row by row
 pub figure-at : (i : ℕ) (t : List Node) → Numbered i t → (g : Node → ℕ) (r : Node) → Has r t → getD (map g t) (r .place - i) 0 ≡ g r
@@ -175,6 +176,15 @@ pub index-refused : (f : Format) (t last next : List ℕ) (k p : ℕ) → tests1
 unfolding testsIndex
 index-refused f t last next k p e = ap (λ a. a >>= (λ (rs : List Row). tested rs (tooShort rs last next) (wrongRow (nodes rs) last next))) e
 
+-- where none refuses, the tests read what 1 to 4 read
+pub index-reads : (f : Format) (t last next : List ℕ) (rs : List Row) → testsIndex f t last next ≡ given rs → testsIndex f t last next ≡ tests1-4 f t
+unfolding testsIndex
+index-reads f t last next rs h =
+    let (x, h₁, k₁) = bind-given (tests1-4 f t) _ rs h in
+    let (u, h₂, k₂) = bind-given (refuse 14 (tooShort x last next)) _ rs k₁ in
+    let (v, h₃, k₃) = bind-given (refuseAt 15 (wrongRow (nodes x) last next)) _ rs k₂ in
+    h ∙ sym (h₁ ∙ k₃)
+
 -- ---- what is built
 module _ (f : Format) (t last next : List ℕ) where
   module _ (accepted : buildIndex f t last next .reply .number ≡ 0) (rs : List Row) (table : tests1-3 f t ≡ given rs) where
@@ -237,7 +247,35 @@ module _ (f : Format) (t last next : List ℕ) where
         next-is = ap (λ a. after next (a >>= (λ (x : Index). given (x .next)))) built-is
 
 -- ---- the calls
--- with an index that is built of the table, the tests read what 1 to 4 read, so that a call answers as the one without
+module _ (f : Format) (t s last next : List ℕ) where
+  -- a call with an index is the call over the rows that its tests read
+  pub judge-with : judgeRows f (testsIndex f t last next) s ≡ judgeWith f t s last next
+  unfolding judgeWith
+  judge-with = refl
+
+  pub summarise-with : summariseRows f (testsIndex f t last next) s ≡ summariseWith f t s last next
+  unfolding summariseWith
+  summarise-with = refl
+
+  pub reshape-with : (table sources : List ℕ) → reshapeRows f (testsIndex f t last next) s table sources ≡ reshapeWith f t s last next table sources
+  unfolding reshapeWith
+  reshape-with table sources = refl
+
+  -- where the tests read what 1 to 4 read, it answers as the one without
+  module _ (reads : testsIndex f t last next ≡ tests1-4 f t) where
+    abbrev plain : AsPlain f t (testsIndex f t last next)
+    plain = seam f t (testsIndex f t last next) reads
+
+    pub judge-plain : judgeWith f t s last next ≡ judge f t s
+    judge-plain = sym judge-with ∙ plain .judges s
+
+    pub summarise-plain : summariseWith f t s last next ≡ summarise f t s
+    summarise-plain = sym summarise-with ∙ plain .summarises s
+
+    pub reshape-plain : (table sources : List ℕ) → reshapeWith f t s last next table sources ≡ reshape f t s table sources
+    reshape-plain table sources = sym (reshape-with table sources) ∙ plain .reshapes s table sources
+
+-- with an index that is built of the table they do
 module _ (f : Format) (t last next : List ℕ) (accepted : buildIndex f t last next .reply .number ≡ 0) where
   abbrev last′ : List ℕ
   last′ = buildIndex f t last next .last
@@ -252,14 +290,12 @@ module _ (f : Format) (t last next : List ℕ) (accepted : buildIndex f t last n
       go (refused k p) e = index-refused f t last′ next′ k p e ∙ sym e
       go (given rs) e = index-passes f t last′ next′ rs e (built-begins f t last next accepted rs (passed1-4 f t rs e)) ∙ sym e
 
-  pub judge-built : (s : List ℕ) → judgeWith f t s last′ next′ ≡ judge f t s
-  unfolding judgeWith
-  judge-built s = seam f t (testsIndex f t last′ next′) built-reads .judges s
+  pub judge-built : (s : List ℕ) → judgeWith f t s (buildIndex f t last next .last) (buildIndex f t last next .next) ≡ judge f t s
+  judge-built s = judge-plain f t s last′ next′ built-reads
 
-  pub summarise-built : (s : List ℕ) → summariseWith f t s last′ next′ ≡ summarise f t s
-  unfolding summariseWith
-  summarise-built s = seam f t (testsIndex f t last′ next′) built-reads .summarises s
+  pub summarise-built : (s : List ℕ) → summariseWith f t s (buildIndex f t last next .last) (buildIndex f t last next .next) ≡ summarise f t s
+  summarise-built s = summarise-plain f t s last′ next′ built-reads
 
-  pub reshape-built : (s table sources : List ℕ) → reshapeWith f t s last′ next′ table sources ≡ reshape f t s table sources
-  unfolding reshapeWith
-  reshape-built s table sources = seam f t (testsIndex f t last′ next′) built-reads .reshapes s table sources
+  pub reshape-built : (s table sources : List ℕ)
+      → reshapeWith f t s (buildIndex f t last next .last) (buildIndex f t last next .next) table sources ≡ reshape f t s table sources
+  reshape-built s = reshape-plain f t s last′ next′ built-reads

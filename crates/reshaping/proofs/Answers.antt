@@ -10,7 +10,7 @@ use Rattle.paper.specs.Closeness.{Node, nodes}
 use Rattle.paper.specs.Shapes.{Shape}
 use Rattle.paper.specs.NewTable.{Line, lines, newTable, sourceList, entryUnit}
 use Rattle.paper.specs.Figures.{Figures, figures, noFigures}
-use Rattle.paper.specs.Calls.{Answer, Work, refused, given, _>>=_, refuse, reply, after, tests1-7, test8, roomIn, reshaping, Reshaping, reshape, summarise}
+use Rattle.paper.specs.Calls.{Answer, Work, refused, given, _>>=_, refuse, reply, after, tests1-7, test8, roomIn, reshaping, Reshaping, reshapeRows, reshape, summariseRows, summarise}
 use Rattle.shapes.specs.Tests.{shapeIn}
 use Rattle.shapes.specs.Work.{Ready}
 use Rattle.shapes.specs.Work
@@ -39,11 +39,11 @@ module _ (f : Format) (table sources : List ℕ) where
 module _ (f : Format) (t s : List ℕ) (k p : ℕ) (e : tests1-7 f t s ≡ refused k p) where
   pub reshape-refused : (table sources : List ℕ)
       → reshape f t s table sources ≡ record { reply = record { number = k; place = p; rest = 0 }; table = table; sources = sources }
-  unfolding reshape reshaping
+  unfolding reshape reshapeRows reshaping
   reshape-refused table sources = ap (λ a. from f table sources (a >>= rest f table sources)) e
 
   pub summary-refused : summarise f t s ≡ record { number = k; place = p; rest = noFigures }
-  unfolding summarise
+  unfolding summarise summariseRows
   summary-refused = ap (λ a. reply noFigures (a >>= counted f)) e
 
 -- ---- 8, and what is given
@@ -66,7 +66,7 @@ module _ {f : Format} {t s : List ℕ} {w : Work.Work} (y : Ready f t s w) where
     written l = given (newTable f sh (rows f t) l, sourceList l)
 
     same : reshape f t s table sources ≡ from f table sources (rest f table sources work)
-    unfolding reshape reshaping
+    unfolding reshape reshapeRows reshaping
     same = ap (λ a. from f table sources (a >>= rest f table sources)) (y .given-is)
 
     -- 8: more lines than there is room for
@@ -90,7 +90,7 @@ module _ {f : Format} {t s : List ℕ} {w : Work.Work} (y : Ready f t s w) where
         ∙ ap {B = Reshaping} (λ n. record { reply = record { number = 0; place = 0; rest = n }; table = newTable f sh (rows f t) ls ++ drop (length (newTable f sh (rows f t) ls)) table; sources = sourceList ls ++ drop (length (sourceList ls)) sources }) (length-map ls (λ (l : Line). l .entry * entryUnit + l .source .place))
 
   pub summary-full : mostLines < length (lines (nodes (rows f t)) (shapeIn f t s) (f .levels)) → summarise f t s ≡ record { number = 8; place = 0; rest = noFigures }
-  unfolding summarise test8
+  unfolding summarise summariseRows test8
   summary-full lt =
       ap (λ a. reply noFigures (a >>= counted f)) (y .given-is)
       ∙ ap (λ b. reply noFigures (refuse 8 b >>= (λ _. given ls) >>= (λ l. given (figures ns sh l)))) (lt-ltb mostLines (length ls) lt)
@@ -101,7 +101,7 @@ module _ {f : Format} {t s : List ℕ} {w : Work.Work} (y : Ready f t s w) where
         place = 0;
         rest = figures (nodes (rows f t)) (shapeIn f t s) (lines (nodes (rows f t)) (shapeIn f t s) (f .levels));
       }
-  unfolding summarise test8
+  unfolding summarise summariseRows test8
   summary-given le =
       ap (λ a. reply noFigures (a >>= counted f)) (y .given-is)
       ∙ ap (λ b. reply noFigures (refuse 8 b >>= (λ _. given ls) >>= (λ l. given (figures ns sh l)))) (le-ltb mostLines (length ls) le)

@@ -12,7 +12,7 @@ use Rattle.paper.specs.Format.{Format}
 use Rattle.paper.specs.Tables.{Row, rows, types}
 use Rattle.paper.specs.Closeness.{nodes}
 use Rattle.paper.specs.Shapes.{Entry, entries, named, shapeOver}
-use Rattle.paper.specs.Calls.{Answer, refused, given, _>>=_, refuseAt, Work, typeMissing, tests1-4, tests5-6, tests1-7}
+use Rattle.paper.specs.Calls.{Answer, refused, given, _>>=_, refuseAt, Work, typeMissing, tests1-4, tests5-6, tests5-7, tests1-7}
 
 -- ---- the first entry whose type has no row, from its place
 module _ (rs : List Row) (es : List Entry) (p : ℕ) (first : p ≡ place (λ e. not (any (same (named e)) (types rs))) es) where
@@ -42,7 +42,7 @@ shaped rs a = a >>= (λ (es : List Entry). missed rs es (typeMissing rs es))
 
 module _ (f : Format) (t s : List ℕ) where
   tests-are : tests1-7 f t s ≡ tests1-4 f t >>= (λ (rs : List Row). shaped rs (tests5-6 f s))
-  unfolding tests1-7
+  unfolding tests5-7
   tests-are = refl
 
   -- What refuses a table refuses it beside every shape.

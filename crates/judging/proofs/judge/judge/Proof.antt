@@ -1,19 +1,19 @@
 -- `judging::judge::judge` meets its contract. Assumes nothing.
-use mathlib.Core.Path.{_∙_, ap}
-use Rattle.shapes.proofs.Tested.{refused-table}
-use Rattle.judging.specs.Judged.{inNumbers}
-use Rattle.judging.proofs.Whole.{judge-refused}
+use mathlib.Core.Path.{refl}
+use Rattle.paper.specs.Calls.{tests1-4}
+use Rattle.paper.proofs.Seam.{seam}
+use Rattle.judging.proofs.Seam.{refused-rows, judged-rows}
 use borrow.Author.Needs.{needs}
 use Rattle.judging.proofs.judge.judge.Statement.{statement}
 use Rattle.judging.proofs.judge.judge.Tie as tie
 
 returns : tie.Need-returns
 returns c =
+    let s : tie.Start = search in
     let x : tie.After-read-rows = search in
-    let s : tie.Start = search in let a = s .args in
-    let r = x .read-rows .result in
-    let e = refused-table (a .f) (a .table .now) (a .shape .now) (r .number) (r .place) (x .read-rows .ensures .refused-is (c .before .if1 .taken)) in
-    c .refused .ensures ∙ ap inNumbers (judge-refused (a .f) (a .table .now) (a .shape .now) (r .number) (r .place) e)
+    let a = s .args in
+    refused-rows (seam (a .f) (a .table .now) (tests1-4 (a .f) (a .table .now)) refl .judges (a .shape .now)) (x .read-rows .ensures) (c .before .if1 .taken)
+    (c .refused .ensures)
 
 judge-rows-requires : tie.Need-judge-rows-requires
 judge-rows-requires c κs =
@@ -27,7 +27,9 @@ returns-2 c =
     let s : tie.Start = search in
     let x : tie.After-read-rows = search in
     let u : tie.Else1 = search in
-    c .judge-rows .ensures (s .args .table .now) (x .read-rows .ensures .read (u .if1 .left))
+    let a = s .args in
+    judged-rows (seam (a .f) (a .table .now) (tests1-4 (a .f) (a .table .now)) refl .judges (a .shape .now)) (x .read-rows .ensures) (u .if1 .left)
+    (c .judge-rows .ensures)
 
 pub judge-spec : {M : Type 1} → statement M
 judge-spec =

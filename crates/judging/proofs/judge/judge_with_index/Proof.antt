@@ -1,25 +1,24 @@
 -- `judging::judge::judge_with_index` meets its contract. Assumes nothing.
-use mathlib.Core.Path.{_∙_, ap}
-use Rattle.judging.specs.Judged.{inNumbers}
-use Rattle.judging.proofs.Indexed.{with-refused, with-plain}
+use Rattle.paper.proofs.Index.{judge-with}
+use Rattle.judging.proofs.Seam.{refused-rows, judged-rows}
 use borrow.Author.Needs.{needs}
 use Rattle.judging.proofs.judge.judge_with_index.Statement.{statement}
 use Rattle.judging.proofs.judge.judge_with_index.Tie as tie
 
 returns : tie.Need-returns
 returns c =
+    let s : tie.Start = search in
     let x : tie.After-read-indexed = search in
-    let s : tie.Start = search in let a = s .args in
-    c .refused .ensures
-    ∙ ap inNumbers (with-refused (a .f) (a .table .now) (a .shape .now) (a .last .now) (a .next .now) _ _
-    (x .read-indexed .ensures .says .refused-is (c .before .if1 .taken)))
+    let a = s .args in
+    refused-rows (judge-with (a .f) (a .table .now) (a .shape .now) (a .last .now) (a .next .now)) (x .read-indexed .ensures .reads)
+    (c .before .if1 .taken) (c .refused .ensures)
 
 judge-rows-requires : tie.Need-judge-rows-requires
 judge-rows-requires c κs =
     let s : tie.Start = search in
     let x : tie.After-read-indexed = search in
     let u : tie.Else1 = search in
-    (s .pre, (s .args .table .now, x .read-indexed .ensures .read (u .if1 .left)))
+    (s .pre, (s .args .table .now, x .read-indexed .ensures .reads .read (u .if1 .left)))
 
 returns-2 : tie.Need-returns-2
 returns-2 c =
@@ -27,9 +26,8 @@ returns-2 c =
     let x : tie.After-read-indexed = search in
     let u : tie.Else1 = search in
     let a = s .args in
-    let passed = x .read-indexed .ensures .says .given-is (u .if1 .left) in
-    c .judge-rows .ensures (a .table .now) (x .read-indexed .ensures .read (u .if1 .left))
-    ∙ ap inNumbers (with-plain (a .f) (a .table .now) (a .shape .now) (a .last .now) (a .next .now) passed)
+    judged-rows (judge-with (a .f) (a .table .now) (a .shape .now) (a .last .now) (a .next .now)) (x .read-indexed .ensures .reads) (u .if1 .left)
+    (c .judge-rows .ensures)
 
 pub judge-with-index-spec : {M : Type 1} → statement M
 judge-with-index-spec =
