@@ -3,7 +3,6 @@ use Prim.Native.Nat.{_-_, _≤_, zero-le, min}
 use native.Mathlib.Omega.{arith}
 use mathlib.Core.Path.{_≡_, refl, _∙_, ap}
 use borrow.Author.Needs.{needs}
-use Rattle.lines.specs.Count.{shown}
 use Rattle.reshaping.specs.Figures.{heldBy, differentIn}
 use Rattle.reshaping.proofs.Figured.{sum-row, sum-other}
 use Rattle.reshaping.proofs.figures.entry_rows.Statement.{statement}
@@ -16,45 +15,34 @@ Inv-loop types rows k shows e entry-at held₀ different₀ i₀ held different 
 abbrev μ-loop : tie.MeasureT-loop
 μ-loop types rows k shows e entry-at held₀ different₀ i₀ held different i = rows - i
 
--- where the function begins
-abbrev begun : tie.At-loop Inv-loop μ-loop → tie.Start Inv-loop μ-loop
-begun c = c .before .before .before
-
--- the turn in which a row of the type is counted
-abbrev turn : tie.After-smaller Inv-loop μ-loop → tie.In-loop Inv-loop μ-loop
-turn c = c .before .before .before .before .before
-
 loop-holds : tie.Need-loop-holds Inv-loop μ-loop
 loop-holds c = (zero-le, zero-le, zero-le, refl, refl)
 
--- a row counts once at the most
-once : (c : tie.After-smaller Inv-loop μ-loop) →
-    let l = turn c .before in
-    let a = begun l .args in
-    (c .smaller .result ≡ min (shown (a .shows .now) (a .e) (l .loop .i)) 1) × (c .smaller .result ≤ 1)
-once c = (c .smaller .ensures ∙ ap (λ n. min n 1) (c .before .wide16 .ensures .0), omega (arith, c .smaller .ensures))
-
 add-different : tie.Need-add-different Inv-loop μ-loop
-add-different c = omega (arith, once c .1, turn c .before .loop .inv .2, turn c .loop-test .taken)
+add-different c =
+    let l : tie.At-loop Inv-loop μ-loop = search in
+    let i : tie.In-loop Inv-loop μ-loop = search in
+    omega (arith, c .smaller .ensures, l .loop .inv .2, i .loop-test .taken)
 
 loop-again : tie.Need-loop-again Inv-loop μ-loop
 loop-again c =
-    let l = turn c .before in
-    let a = begun l .args in
+    let l : tie.At-loop Inv-loop μ-loop = search in
+    let s : tie.Start Inv-loop μ-loop = search in let a = s .args in
+    let t : tie.Then1 Inv-loop μ-loop = search in
     let v = l .loop in
-    let own = c .before .before .before .if1 .taken in
+    let own = t .if1 .taken in
     let (_, few, fewer, held, different) = v .inv in (
       omega arith,
       omega arith,
-      omega (arith, once c .1),
+      omega (arith, c .smaller .ensures),
       sum-row (a .types .now) (a .k) (v .i) (v .held) (λ _. 1) held 1 own refl,
-      sum-row (a .types .now) (a .k) (v .i) (v .different) _ different (c .smaller .result) own (once c .0),
+      sum-row (a .types .now) (a .k) (v .i) (v .different) _ different (c .smaller .result) own (c .smaller .ensures ∙ ap (λ n. min n 1) (c .before .wide16 .ensures .0)),
     )
 
 loop-again-2 : tie.Need-loop-again-2 Inv-loop μ-loop
 loop-again-2 c =
-    let l = c .before .before .before in
-    let a = begun l .args in
+    let l : tie.At-loop Inv-loop μ-loop = search in
+    let s : tie.Start Inv-loop μ-loop = search in let a = s .args in
     let v = l .loop in
     let other = c .if1 .left in
     let (_, few, fewer, held, different) = v .inv in (
@@ -67,8 +55,8 @@ loop-again-2 c =
 
 returns : tie.Need-returns Inv-loop μ-loop
 returns c =
+    let s : tie.Start Inv-loop μ-loop = search in let a = s .args in
     let l = c .before in
-    let a = begun l .args in
     let (le, _, _, held, different) = l .loop .inv in
     let all : l .loop .i ≡ a .rows = omega (arith, c .loop-test .left) in
     (held ∙ ap (λ n. heldBy (a .types .now) n (a .k)) all, different ∙ ap (λ n. differentIn (a .types .now) n (a .k) (a .shows .now) (a .e)) all)

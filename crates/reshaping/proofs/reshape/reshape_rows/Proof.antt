@@ -7,7 +7,6 @@ use Rattle.paper.specs.Closeness.{nodes}
 use Rattle.paper.specs.NewTable.{lines}
 use Rattle.paper.specs.Calls.{roomIn}
 use Rattle.shapes.specs.Tests.{shapeIn}
-use Rattle.shapes.specs.Work.{Work, Ready, workOf}
 use Rattle.reshaping.proofs.Answers.{reshape-refused, reshape-full}
 use Rattle.reshaping.proofs.Paper.{length-is}
 use Rattle.reshaping.proofs.Summed.{counted-here, count-fits, count-exceeds}
@@ -16,45 +15,10 @@ use borrow.Author.Needs.{needs}
 use Rattle.reshaping.proofs.reshape.reshape_rows.Statement.{statement}
 use Rattle.reshaping.proofs.reshape.reshape_rows.Tie as tie
 
--- ---- the places that the answers speak of
-abbrev begun : tie.After-prepare → tie.Start
-begun c = c .before .before .before .before .before .before .before .before .before .before
-
-abbrev prepared : tie.Else1 → tie.After-prepare
-prepared u = u .before .before .before
-
-abbrev passed : tie.After-lists → tie.Else1
-passed c = c .before .before .before
-
-abbrev counts : tie.After-room-in → tie.After-count-lines
-counts c = c .before .before .before
-
--- what is given back, and what the lent lists hold
-abbrev work : tie.After-prepare → Work
-work p =
-    let a = begun p .args in
-    let left = p .prepare .last .1 .1 .1 .1 .1 in
-    workOf (p .prepare .result) (a .levels .now) (a .types .now) (left .0) (left .1 .0)
-
-ready : (c : tie.After-lists) → let p = prepared (passed c) in Ready (begun p .args .f) (begun p .args .table .now) (begun p .args .shape .now) (work p)
-ready c = let u = passed c in let s = begun (prepared u) in prepared u .prepare .ensures (s .args .table .now) (s .pre .0 .1) .ready (u .if1 .left)
-
--- there is room for all lines
-room-enough : (d : tie.Else2) → let a = begun (prepared (passed (counts (d .before) .before))) .args in
-    length (lines (nodes (rows (a .f) (a .table .now))) (shapeIn (a .f) (a .table .now) (a .shape .now)) (a .f .levels))
-    ≤ roomIn (a .f) (a .new .now) (a .sources .now)
-room-enough d =
-    let r = d .before .room-in in
-    let n = counts (d .before) in
-    let y = ready (n .before) in
-    let few = count-fits (counted-here y (n .count-lines .ensures .1)) (r .result) (omega (arith, r .ensures)) (d .if2 .left) in
-    omega (arith, r .ensures, length-is y, few)
-
 returns : tie.Need-returns
 returns c =
-    let p = c .before .before .before .before in
-    let s = begun p in
-    let a = s .args in
+    let s : tie.Start = search in let a = s .args in
+    let p : tie.After-prepare = search in
     let r = p .prepare .result in
     let e = p .prepare .ensures (a .table .now) (s .pre .0 .1) .refused-is (c .before .if1 .taken) in
     leaves (s .pre .0 .0) _ _ (a .new .now) (a .sources .now) (c .refused .result) (r .number) (r .place) (c .refused .ensures)
@@ -68,7 +32,10 @@ slice-aggregate-count-lines-2 c = search needs
 
 count-lines-requires : tie.Need-count-lines-requires
 count-lines-requires c κs =
-    let y = ready c in (
+    let s : tie.Start = search in
+    let u : tie.Else1 = search in
+    let p : tie.After-prepare = search in
+    let y = p .prepare .ensures _ (s .pre .0 .1) .ready (u .if1 .left) in (
       y .rows-are,
       y .shaped .sized,
       record { runs-long = omega (arith, slice-aggregate-count-lines (c .before)); list-long = omega (arith, slice-aggregate-count-lines-2 c) },
@@ -76,11 +43,13 @@ count-lines-requires c κs =
 
 returns-2 : tie.Need-returns-2
 returns-2 c =
+    let s : tie.Start = search in
+    let n : tie.After-count-lines = search in
+    let u : tie.Else1 = search in
+    let p : tie.After-prepare = search in
     let d = c .before in
     let r = d .before .room-in in
-    let n = counts (d .before) in
-    let y = ready (n .before) in
-    let s = begun (prepared (passed (n .before))) in
+    let y = p .prepare .ensures _ (s .pre .0 .1) .ready (u .if1 .left) in
     let a = s .args in
     let over = count-exceeds (counted-here y (n .count-lines .ensures .1)) (r .result) (omega (arith, r .ensures)) (d .if2 .taken) in
     leaves (s .pre .0 .0) _ _ (a .new .now) (a .sources .now) (c .refused2 .result) 8 0 (c .refused2 .ensures)
@@ -94,25 +63,37 @@ slice-aggregate-write-table-2 c = search needs
 
 write-table-requires : tie.Need-write-table-requires
 write-table-requires c κs =
-    let l = c .before .before in
-    let b = l .before .before in
-    let n = counts (b .before) in
-    let y = ready (n .before) in
-    let s = begun (prepared (passed (n .before))) in
+    let s : tie.Start = search in
+    let l : tie.After-lists3 = search in
+    let b : tie.Else2 = search in
+    let r : tie.After-room-in = search in
+    let n : tie.After-count-lines = search in
+    let u : tie.Else1 = search in
+    let p : tie.After-prepare = search in
+    let y = p .prepare .ensures _ (s .pre .0 .1) .ready (u .if1 .left) in
+    let few = count-fits (counted-here y (n .count-lines .ensures .1)) (r .room-in .result) (omega (arith, r .room-in .ensures)) (b .if2 .left) in
     let left = n .count-lines .last .1 .1 .1 .1 in
     let named = runs-named y {runs = left .0} {lists = left .1 .0} (n .count-lines .ensures .0)
     (record { runs-long = omega (arith, slice-aggregate-write-table (l .before)); list-long = omega (arith, slice-aggregate-write-table-2 l) }) in
-    (named, (next-as y (s .pre .0 .1) (s .args .next .now) (s .pre .1), fits y (s .args .new .now) (s .args .sources .now) (room-enough b)))
+    (named, (next-as y (s .pre .0 .1) (s .args .next .now) (s .pre .1), fits y _ _ (omega (arith, r .room-in .ensures, length-is y, few))))
 
 returns-3 : tie.Need-returns-3
 returns-3 c =
-    let v = c .before .before .before .before .before in
-    let b = v .before .before .before .before .before in
-    let y = ready (counts (b .before) .before) in
-    let s = begun (prepared (passed (counts (b .before) .before))) in
-    let new = s .args .new .now in
-    let sources = s .args .sources .now in
-    let le = room-enough b in
+    let v : tie.After-write-table = search in
+    let b : tie.Else2 = search in
+    let r : tie.After-room-in = search in
+    let n : tie.After-count-lines = search in
+    let u : tie.Else1 = search in
+    let p : tie.After-prepare = search in
+    let k : tie.After-shared-slice-known5 = search in
+    let s : tie.Start = search in
+    let y = p .prepare .ensures _ (s .pre .0 .1) .ready (u .if1 .left) in
+    let few = count-fits (counted-here y (n .count-lines .ensures .1)) (r .room-in .result) (omega (arith, r .room-in .ensures)) (b .if2 .left) in
+    let a = s .args in
+    let new = a .new .now in
+    let sources = a .sources .now in
+    let all = lines (nodes (rows (a .f) (a .table .now))) (shapeIn (a .f) (a .table .now) (a .shape .now)) (a .f .levels) in
+    let le : length all ≤ roomIn (a .f) new sources = omega (arith, r .room-in .ensures, length-is y, few) in
     let (ec, (et, ep)) = left-at-front (v .write-table .ensures) in
     let er = lines-left y new sources le (v .write-table .result) ec in
     reshapes (s .pre .0 .0) _ _ _ er (table-left y new sources le _ et) (sources-left y new sources le _ ep)

@@ -1,35 +1,15 @@
 -- `reshaping::summarise::summarise` meets its contract. Assumes nothing.
-use Prim.Native.Nat.{ℕ}
 use mathlib.Core.Path.{sym, _∙_}
-use mathlib.Core.List.{List}
-use Rattle.closest.specs.Rows.{RowsIn}
 use Rattle.shapes.proofs.Tested.{refused-table}
 use Rattle.reshaping.proofs.Answers.{summary-refused}
 use borrow.Author.Needs.{needs}
 use Rattle.reshaping.proofs.summarise.summarise.Statement.{statement}
 use Rattle.reshaping.proofs.summarise.summarise.Tie as tie
 
--- where the function begins, and where the rows are read
-abbrev begun : tie.After-read-rows → tie.Start
-begun x = x .before .before .before .before .before
-
-abbrev readAt : tie.Else1 → tie.After-read-rows
-readAt u = u .before .before .before
-
--- the levels and type numbers, in the lent lists
-abbrev levels : tie.After-read-rows → List ℕ
-levels x = x .read-rows .last .1 .1 .0
-
-abbrev types : tie.After-read-rows → List ℕ
-types x = x .read-rows .last .1 .1 .1 .0
-
-rows : (u : tie.Else1) → let x = readAt u in let a = begun x .args in RowsIn (a .f) (a .table .now) (x .read-rows .result) (levels x) (types x)
-rows u = readAt u .read-rows .ensures .read (u .if1 .left)
-
 returns : tie.Need-returns
 returns c =
-    let x = c .before .before .before .before in
-    let a = begun x .args in
+    let x : tie.After-read-rows = search in
+    let start : tie.Start = search in let a = start .args in
     let t = a .table .now in
     let s = a .shape .now in
     let r = x .read-rows .result in
@@ -37,10 +17,10 @@ returns c =
     c .refused .ensures ∙ sym (summary-refused (a .f) t s (r .number) (r .place) e)
 
 summarise-rows-requires : tie.Need-summarise-rows-requires
-summarise-rows-requires c κs = let u = c .before .before in let s = begun (readAt u) in (s .pre, (s .args .table .now, rows u))
+summarise-rows-requires c κs = let u : tie.Else1 = search in let x : tie.After-read-rows = search in let s : tie.Start = search in (s .pre, (s .args .table .now, x .read-rows .ensures .read (u .if1 .left)))
 
 returns-2 : tie.Need-returns-2
-returns-2 c = let u = c .before .before .before in c .summarise-rows .ensures (begun (readAt u) .args .table .now) (rows u)
+returns-2 c = let u : tie.Else1 = search in let x : tie.After-read-rows = search in let s : tie.Start = search in c .summarise-rows .ensures (s .args .table .now) (x .read-rows .ensures .read (u .if1 .left))
 
 pub summarise-spec : {M : Type 1} → statement M
 summarise-spec =

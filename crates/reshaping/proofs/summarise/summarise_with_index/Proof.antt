@@ -1,47 +1,28 @@
 -- `reshaping::summarise::summarise_with_index` meets its contract. Assumes nothing.
-use Prim.Native.Nat.{ℕ}
 use mathlib.Core.Path.{_∙_}
-use mathlib.Core.List.{List}
-use Rattle.closest.specs.Rows.{RowsIn}
 use Rattle.reshaping.proofs.Indexed.{summary-with-refused, summary-with-plain}
 use borrow.Author.Needs.{needs}
 use Rattle.reshaping.proofs.summarise.summarise_with_index.Statement.{statement}
 use Rattle.reshaping.proofs.summarise.summarise_with_index.Tie as tie
 
--- where the function begins, and where the rows are read
-abbrev begun : tie.After-read-indexed → tie.Start
-begun x = x .before .before .before .before .before .before .before
-
-abbrev readAt : tie.Else1 → tie.After-read-indexed
-readAt u = u .before .before .before
-
--- the levels and type numbers, in the lent lists
-abbrev levels : tie.After-read-indexed → List ℕ
-levels x = x .read-indexed .last .1 .1 .1 .1 .0
-
-abbrev types : tie.After-read-indexed → List ℕ
-types x = x .read-indexed .last .1 .1 .1 .1 .1 .0
-
-rows : (u : tie.Else1) → let x = readAt u in let a = begun x .args in RowsIn (a .f) (a .table .now) (x .read-indexed .result) (levels x) (types x)
-rows u = readAt u .read-indexed .ensures .read (u .if1 .left)
-
 returns : tie.Need-returns
 returns c =
-    let x = c .before .before .before .before in
-    let a = begun x .args in
+    let x : tie.After-read-indexed = search in
+    let s : tie.Start = search in let a = s .args in
     c .refused .ensures
     ∙ summary-with-refused (a .f) (a .table .now) (a .shape .now) (a .last .now) (a .next .now) _ _
     (x .read-indexed .ensures .says .refused-is (c .before .if1 .taken))
 
 summarise-rows-requires : tie.Need-summarise-rows-requires
-summarise-rows-requires c κs = let u = c .before .before in let s = begun (readAt u) in (s .pre, (s .args .table .now, rows u))
+summarise-rows-requires c κs = let u : tie.Else1 = search in let x : tie.After-read-indexed = search in let s : tie.Start = search in (s .pre, (s .args .table .now, x .read-indexed .ensures .read (u .if1 .left)))
 
 returns-2 : tie.Need-returns-2
 returns-2 c =
-    let u = c .before .before .before in
-    let a = begun (readAt u) .args in
-    c .summarise-rows .ensures (a .table .now) (rows u)
-    ∙ summary-with-plain (a .f) (a .table .now) (a .shape .now) (a .last .now) (a .next .now) (readAt u .read-indexed .ensures .says .given-is (u .if1 .left))
+    let u : tie.Else1 = search in
+    let s : tie.Start = search in let a = s .args in
+    let x : tie.After-read-indexed = search in
+    c .summarise-rows .ensures (a .table .now) (x .read-indexed .ensures .read (u .if1 .left))
+    ∙ summary-with-plain (a .f) (a .table .now) (a .shape .now) (a .last .now) (a .next .now) (x .read-indexed .ensures .says .given-is (u .if1 .left))
 
 pub summarise-with-index-spec : {M : Type 1} → statement M
 summarise-with-index-spec =
