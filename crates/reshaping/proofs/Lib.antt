@@ -5,5 +5,5 @@ pub mod Figured
 pub mod Padded
 pub mod Summed
 pub mod Lent
-pub mod Indexed
+pub mod Seam
 pub mod Unique

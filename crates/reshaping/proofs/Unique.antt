@@ -5,6 +5,7 @@ use mathlib.Core.Bool.{true}
 use mathlib.Core.List.{List}
 use lib.ListN.{take}
 use Rattle.paper.specs.Format.{Format, mostRows, rowBytes}
+use Rattle.paper.specs.Tables.{Row}
 use Rattle.paper.specs.Verdict.{kept, missing}
 use Rattle.paper.specs.Links.{LinksKept}
 use Rattle.paper.specs.MadeUp.{NothingMadeUp, unshown}
@@ -15,10 +16,10 @@ use Rattle.paper.specs.Shown.{FiguresAgree}
 use Rattle.paper.specs.Calls.{Reply, given, judge, summarise}
 use Rattle.paper.specs.Index.{testsIndex, summariseWith}
 use Rattle.paper.proofs.Figures.{summary-agrees, summary-shows-all}
+use Rattle.paper.proofs.Index.{index-reads, summarise-plain}
 use Rattle.reshaping.specs.Reshaped.{reshaped, summarised, Reshapes, ReshapesWith}
 use Rattle.reshaping.specs.declared.reshape.Reshaped.{Reshaped}
 use Rattle.reshaping.specs.declared.summarise.Summary.{Summary}
-use Rattle.reshaping.proofs.Indexed.{summary-with-plain}
 
 -- two answers that are one reply are one
 answer-same : (a b : Reshaped) → reshaped a ≡ reshaped b → a ≡ b
@@ -92,7 +93,7 @@ module _ {f : Format} {t s last next new sources new₁ sources₁ : List ℕ} {
   reshape-with-unique {b = b} q = (answer-same a b (p .answer ∙ sym (q .answer)), p .bytes ∙ sym (q .bytes), p .places ∙ sym (q .places))
 
   -- Where the index is this table's, all that is promised of a reshape without one is a part of the promise.
-  pub plain-promised : testsIndex f t last next ≡ given tt → Reshapes f t s new sources a new₁ sources₁
+  pub plain-promised : (rs : List Row) → testsIndex f t last next ≡ given rs → Reshapes f t s new sources a new₁ sources₁
   plain-promised = p .plain
 
 module _ (f : Format) (t s last next : List ℕ) (a : Summary) (q : summarised a ≡ summariseWith f t s last next) where
@@ -100,5 +101,5 @@ module _ (f : Format) (t s last next : List ℕ) (a : Summary) (q : summarised a
   summarise-with-unique b e = summary-same a b (q ∙ sym e)
 
   -- Where the index is this table's, it is the summary without one.
-  pub summary-as-plain : testsIndex f t last next ≡ given tt → summarised a ≡ summarise f t s
-  summary-as-plain e = q ∙ sym (summary-with-plain f t s last next e)
+  pub summary-as-plain : (rs : List Row) → testsIndex f t last next ≡ given rs → summarised a ≡ summarise f t s
+  summary-as-plain rs e = q ∙ summarise-plain f t s last next (index-reads f t last next rs e)

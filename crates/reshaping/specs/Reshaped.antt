@@ -5,6 +5,7 @@ use mathlib.Core.Bool.{true}
 use mathlib.Core.List.{List}
 use lib.ListN.{take}
 use Rattle.paper.specs.Format.{Format, mostRows, rowBytes}
+use Rattle.paper.specs.Tables.{Row}
 use Rattle.paper.specs.Verdict.{kept, missing}
 use Rattle.paper.specs.Links.{LinksKept}
 use Rattle.paper.specs.MadeUp.{NothingMadeUp, unshown}
@@ -57,4 +58,4 @@ pub record ReshapesWith (f : Format) (t s last next new sources : List ℕ) (r :
   pub answer : reshaped r ≡ reshapeWith f t s last next new sources .reply
   pub bytes : new′ ≡ reshapeWith f t s last next new sources .table
   pub places : sources′ ≡ reshapeWith f t s last next new sources .sources
-  pub plain : testsIndex f t last next ≡ given tt → Reshapes f t s new sources r new′ sources′
+  pub plain : (rs : List Row) → testsIndex f t last next ≡ given rs → Reshapes f t s new sources r new′ sources′

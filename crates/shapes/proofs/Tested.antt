@@ -45,10 +45,6 @@ module _ (f : Format) (t s : List ℕ) where
   unfolding tests5-7
   tests-are = refl
 
-  -- What refuses a table refuses it beside every shape.
-  pub refused-table : (k p : ℕ) → tests1-4 f t ≡ refused k p → tests1-7 f t s ≡ refused k p
-  refused-table k p e = tests-are ∙ ap (λ a. a >>= (λ (rs : List Row). shaped rs (tests5-6 f s))) e
-
   module _ (table : tests1-4 f t ≡ given (rows f t)) where
     from-table : tests1-7 f t s ≡ shaped (rows f t) (tests5-6 f s)
     from-table = tests-are ∙ ap (λ a. a >>= (λ (rs : List Row). shaped rs (tests5-6 f s))) table

@@ -6,6 +6,7 @@ use mathlib.Core.List.{List}
 use denote.Ref.{now}
 use Rattle.paper.specs.Widths.{formatOf}
 use Rattle.paper.specs.Calls.{given, judge, summarise}
+use Rattle.paper.specs.Tables.{Row}
 use Rattle.paper.specs.Index.{testsIndex}
 use Rattle.judging.specs.Judged.{judged, inNumbers}
 use Rattle.judging.specs.declared.judge.Judged.{Judged}
@@ -41,7 +42,7 @@ judge-with-index-settled κs a r s e f x =
 
 -- where the lists are this table's, it is what judging without an index says
 pub judge-with-index-plain : (κs : _) (a : _) (r : Judged) (e : _) → judge-with-index.Learnt κs a r e
-    → testsIndex (formatOf (a .0)) (now (a .1 .0)) (now (a .1 .1 .1 .0)) (now (a .1 .1 .1 .1 .0)) ≡ given tt
+    → (rs : List Row) → testsIndex (formatOf (a .0)) (now (a .1 .0)) (now (a .1 .1 .1 .0)) (now (a .1 .1 .1 .1 .0)) ≡ given rs
     → judged r ≡ inNumbers (judge (formatOf (a .0)) (now (a .1 .0)) (now (a .1 .1 .0)))
 judge-with-index-plain κs a r e x =
     judging.judge-as-plain (formatOf (a .0)) (now (a .1 .0)) (now (a .1 .1 .0)) (now (a .1 .1 .1 .0)) (now (a .1 .1 .1 .1 .0)) r x
@@ -58,7 +59,7 @@ reshape-with-index-settled κs a r s e f x y =
 
 -- where the lists are this table's, all that is promised of a reshape without an index holds: demand 3 and the others
 pub reshape-with-index-plain : (κs : _) (a : _) (r : Reshaped) (e : _) → reshape-with-index.Learnt κs a r e
-    → testsIndex (formatOf (a .0)) (now (a .1 .0)) (now (a .1 .1 .1 .0)) (now (a .1 .1 .1 .1 .0)) ≡ given tt
+    → (rs : List Row) → testsIndex (formatOf (a .0)) (now (a .1 .0)) (now (a .1 .1 .1 .0)) (now (a .1 .1 .1 .1 .0)) ≡ given rs
     → Reshapes (formatOf (a .0)) (now (a .1 .0)) (now (a .1 .1 .0)) (now (a .1 .1 .1 .1 .1 .0)) (now (a .1 .1 .1 .1 .1 .1 .0)) r
     (now (e .1 .1 .1 .1 .1 .0)) (now (e .1 .1 .1 .1 .1 .1 .0))
 reshape-with-index-plain κs a r e x = reshaping.plain-promised x
@@ -73,7 +74,7 @@ summarise-with-index-settled κs a r s e f x =
 
 -- where the lists are this table's, it is the summary without an index
 pub summarise-with-index-plain : (κs : _) (a : _) (r : Summary) (e : _) → summarise-with-index.Learnt κs a r e
-    → testsIndex (formatOf (a .0)) (now (a .1 .0)) (now (a .1 .1 .1 .0)) (now (a .1 .1 .1 .1 .0)) ≡ given tt
+    → (rs : List Row) → testsIndex (formatOf (a .0)) (now (a .1 .0)) (now (a .1 .1 .1 .0)) (now (a .1 .1 .1 .1 .0)) ≡ given rs
     → summarised r ≡ summarise (formatOf (a .0)) (now (a .1 .0)) (now (a .1 .1 .0))
 summarise-with-index-plain κs a r e x =
     reshaping.summary-as-plain (formatOf (a .0)) (now (a .1 .0)) (now (a .1 .1 .0)) (now (a .1 .1 .1 .0)) (now (a .1 .1 .1 .1 .0)) r x

@@ -1,7 +1,9 @@
 -- `reshaping::reshape::reshape` meets its contract. Assumes nothing.
 use native.Mathlib.Omega.{arith}
-use Rattle.shapes.proofs.Tested.{refused-table}
-use Rattle.reshaping.proofs.Answers.{reshape-refused}
+use mathlib.Core.Path.{refl}
+use Rattle.paper.specs.Calls.{tests1-4}
+use Rattle.paper.proofs.Seam.{seam}
+use Rattle.reshaping.proofs.Seam.{refused-reshape}
 use Rattle.reshaping.proofs.Lent.{leaves}
 use borrow.Author.Needs.{needs}
 use Rattle.reshaping.proofs.reshape.reshape.Statement.{statement}
@@ -9,17 +11,20 @@ use Rattle.reshaping.proofs.reshape.reshape.Tie as tie
 
 returns : tie.Need-returns
 returns c =
+    let s : tie.Start = search in
     let x : tie.After-read-rows = search in
-    let start : tie.Start = search in let a = start .args in
-    let t = a .table .now in
-    let s = a .shape .now in
+    let a = s .args in
     let r = x .read-rows .result in
-    let e = refused-table (a .f) t s (r .number) (r .place) (x .read-rows .ensures .refused-is (c .before .if1 .taken)) in
-    leaves (start .pre) t s (a .new .now) (a .sources .now) (c .refused .result) (r .number) (r .place) (c .refused .ensures)
-    (reshape-refused (a .f) t s (r .number) (r .place) e (a .new .now) (a .sources .now))
+    let call = seam (a .f) (a .table .now) (tests1-4 (a .f) (a .table .now)) refl .reshapes (a .shape .now) (a .new .now) (a .sources .now) in
+    leaves (s .pre) _ _ (a .new .now) (a .sources .now) (c .refused .result) (r .number) (r .place) (c .refused .ensures)
+    (refused-reshape (a .new .now) (a .sources .now) call (x .read-rows .ensures) (c .before .if1 .taken))
 
 next-rows-requires : tie.Need-next-rows-requires
-next-rows-requires c κs = let u : tie.Else1 = search in let x : tie.After-read-rows = search in let y = x .read-rows .ensures .read (u .if1 .left) .rows-are in ((y .few, y .types-long, search needs), y .type-few)
+next-rows-requires c κs =
+    let u : tie.Else1 = search in
+    let x : tie.After-read-rows = search in
+    let y = x .read-rows .ensures .read (u .if1 .left) .rows-are in
+    ((y .few, y .types-long, search needs), y .type-few)
 
 slice-aggregate-reshape-rows-3 : tie.Need-slice-aggregate-reshape-rows-3
 slice-aggregate-reshape-rows-3 c = search needs

@@ -1,15 +1,11 @@
 -- `reshaping::reshape::reshape_with_index` meets its contract. Assumes nothing.
-use Rattle.reshaping.proofs.Indexed.{leaves-with, reshapes-with}
+use Rattle.reshaping.proofs.Seam.{leaves-with, reshapes-with}
 use borrow.Author.Needs.{needs}
 use Rattle.reshaping.proofs.reshape.reshape_with_index.Statement.{statement}
 use Rattle.reshaping.proofs.reshape.reshape_with_index.Tie as tie
 
 returns : tie.Need-returns
-returns c =
-    let s : tie.Start = search in let a = s .args in
-    let x : tie.After-read-indexed = search in
-    leaves-with (a .f) (a .table .now) (a .shape .now) (a .last .now) (a .next .now) (a .new .now) (a .sources .now) _ _
-    (x .read-indexed .ensures .says .refused-is (c .before .if1 .taken)) (c .refused .result) (c .refused .ensures)
+returns c = let x : tie.After-read-indexed = search in leaves-with (x .read-indexed .ensures .reads) (c .before .if1 .taken) (c .refused .ensures)
 
 -- the lent next rows are those of the rows that were read
 reshape-rows-requires : tie.Need-reshape-rows-requires
@@ -18,16 +14,14 @@ reshape-rows-requires c κs =
     let u : tie.Else1 = search in
     let x : tie.After-read-indexed = search in
     let next = x .read-indexed .ensures .next-in (u .if1 .left) in
-    ((s .pre, x .read-indexed .ensures .read (u .if1 .left)), (next .nexts, next .long))
+    ((s .pre, x .read-indexed .ensures .reads .read (u .if1 .left)), (next .nexts, next .long))
 
 returns-2 : tie.Need-returns-2
 returns-2 c =
-    let s : tie.Start = search in let a = s .args in
     let r : tie.After-reshape-rows = search in
     let u : tie.Else1 = search in
     let x : tie.After-read-indexed = search in
-    reshapes-with (a .f) (a .table .now) (a .shape .now) (a .last .now) (a .next .now) (a .new .now) (a .sources .now)
-    (x .read-indexed .ensures .says .given-is (u .if1 .left)) (r .reshape-rows .ensures)
+    reshapes-with (x .read-indexed .ensures .reads) (u .if1 .left) (r .reshape-rows .ensures)
 
 pub reshape-with-index-spec : {M : Type 1} → statement M
 reshape-with-index-spec =

@@ -1,28 +1,33 @@
 -- `reshaping::summarise::summarise_with_index` meets its contract. Assumes nothing.
-use mathlib.Core.Path.{_∙_}
-use Rattle.reshaping.proofs.Indexed.{summary-with-refused, summary-with-plain}
+use Rattle.paper.proofs.Index.{summarise-with}
+use Rattle.reshaping.proofs.Seam.{refused-summary, summarised-rows}
 use borrow.Author.Needs.{needs}
 use Rattle.reshaping.proofs.summarise.summarise_with_index.Statement.{statement}
 use Rattle.reshaping.proofs.summarise.summarise_with_index.Tie as tie
 
 returns : tie.Need-returns
 returns c =
+    let s : tie.Start = search in
     let x : tie.After-read-indexed = search in
-    let s : tie.Start = search in let a = s .args in
-    c .refused .ensures
-    ∙ summary-with-refused (a .f) (a .table .now) (a .shape .now) (a .last .now) (a .next .now) _ _
-    (x .read-indexed .ensures .says .refused-is (c .before .if1 .taken))
+    let a = s .args in
+    refused-summary (summarise-with (a .f) (a .table .now) (a .shape .now) (a .last .now) (a .next .now)) (x .read-indexed .ensures .reads)
+    (c .before .if1 .taken) (c .refused .ensures)
 
 summarise-rows-requires : tie.Need-summarise-rows-requires
-summarise-rows-requires c κs = let u : tie.Else1 = search in let x : tie.After-read-indexed = search in let s : tie.Start = search in (s .pre, (s .args .table .now, x .read-indexed .ensures .read (u .if1 .left)))
+summarise-rows-requires c κs =
+    let s : tie.Start = search in
+    let x : tie.After-read-indexed = search in
+    let u : tie.Else1 = search in
+    (s .pre, (s .args .table .now, x .read-indexed .ensures .reads .read (u .if1 .left)))
 
 returns-2 : tie.Need-returns-2
 returns-2 c =
-    let u : tie.Else1 = search in
-    let s : tie.Start = search in let a = s .args in
+    let s : tie.Start = search in
     let x : tie.After-read-indexed = search in
-    c .summarise-rows .ensures (a .table .now) (x .read-indexed .ensures .read (u .if1 .left))
-    ∙ summary-with-plain (a .f) (a .table .now) (a .shape .now) (a .last .now) (a .next .now) (x .read-indexed .ensures .says .given-is (u .if1 .left))
+    let u : tie.Else1 = search in
+    let a = s .args in
+    summarised-rows (summarise-with (a .f) (a .table .now) (a .shape .now) (a .last .now) (a .next .now)) (x .read-indexed .ensures .reads)
+    (u .if1 .left) (c .summarise-rows .ensures)
 
 pub summarise-with-index-spec : {M : Type 1} → statement M
 summarise-with-index-spec =
