@@ -2,10 +2,13 @@
 use Prim.Native.Nat.{ℕ}
 use mathlib.Core.Path.{_≡_, refl, sym, _∙_, ap}
 use mathlib.Core.List.{List, [], _∷_, map}
+use lib.Dec.{eqb}
+use Rattle.paper.specs.Lists.{isEmpty}
 use Rattle.paper.specs.Format.{Format}
 use Rattle.paper.specs.Tables as Tables
-use Rattle.paper.specs.Closeness.{Node, nodes, kindsMeet, closestOf}
-use Rattle.paper.specs.Verdict.{Verdict, missing, isEmpty}
+use Rattle.paper.specs.Closeness.{Node, nodes, kindsMeet, closestNumber}
+use Rattle.paper.specs.Verdict.{Verdict, missing}
+use Rattle.paper.proofs.Closeness.{closest-none}
 use Rattle.closest.specs.Node.{node}
 use Rattle.closest.specs.Runs.{Levelled}
 use Rattle.partners.specs.Closest.{closestRows, loneRows}
@@ -28,8 +31,9 @@ module _ (f : Format) (rows : ℕ) (t levels types : List ℕ) (lv : Levelled f 
   pub alone-rows : (l a b : ℕ) → l ≡ kindsMeet (nodes (Tables.rows f t)) a b
       → aloneOf (nodes (Tables.rows f t)) a b ≡ map (node f t) (loneRows levels types rows l a b)
   unfolding aloneOf loneRows
-  alone-rows l a b el = of-type f rows t levels types lv (λ r. isEmpty (closestOf ns r b)) a (λ i. isEmpty (closestRows levels types rows l b i)) (λ i li own.
-      ap isEmpty (closest-rows f rows t levels types lv l b i li (el ∙ ap (λ k. kindsMeet ns k b) (sym own))) ∙ empty-map at (closestRows levels types rows l b i))
+  alone-rows l a b el = of-type f rows t levels types lv (λ r. eqb (closestNumber ns b r) 0) a (λ i. isEmpty (closestRows levels types rows l b i)) (λ i li own.
+      closest-none ns b (at i) ∙ ap isEmpty (closest-rows f rows t levels types lv l b i li (el ∙ ap (λ k. kindsMeet ns k b) (sym own)))
+      ∙ empty-map at (closestRows levels types rows l b i))
 
   pub alone-empty : (l a b : ℕ) → l ≡ kindsMeet (nodes (Tables.rows f t)) a b
       → isEmpty (aloneOf (nodes (Tables.rows f t)) a b) ≡ isEmpty (loneRows levels types rows l a b)

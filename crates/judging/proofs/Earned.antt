@@ -8,12 +8,12 @@ use mathlib.Core.List.{List, [], _∷_, _++_, map}
 use lib.Dec.{eqb, leb}
 use lib.ListN.{getD, drop}
 use borrow.Author.Tests.{eqb-true, eq-eqb, ne-eqb, leb-true, leb-false, le-leb}
-use Rattle.paper.specs.Lists.{Has, all, any, firstOr, joinMap, count}
+use Rattle.paper.specs.Lists.{Has, all, any, isEmpty, firstOr, joinMap, count}
 use Rattle.paper.specs.Closeness.{Node, shared}
 use Rattle.paper.specs.Shapes as Paper
 use Rattle.paper.specs.Shapes.{way, side, path}
 use Rattle.paper.specs.Verdict
-use Rattle.paper.specs.Verdict.{kept, missing, apart, unsure, isApart, verdictNumbers, isLeast, isEmpty, overPairs}
+use Rattle.paper.specs.Verdict.{kept, missing, apart, unsure, isApart, verdictNumbers, isLeast, overPairs}
 use Rattle.paper.specs.Verdict.{meeting, edgeLevel, sureDown, meetsLeast, sure, pairFault}
 use Rattle.paper.proofs.Lists.{both, and, or-left, has-left, has-right, has-all, any-has, has-any, map-append}
 use Rattle.paper.proofs.Papers.{same-test}

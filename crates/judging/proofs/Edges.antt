@@ -8,14 +8,14 @@ use lib.Dec.{eqb, leb}
 use lib.ListN.{length, getD, drop}
 use lib.Seq.{ext-getD}
 use borrow.Author.Tests.{leb-true, leb-false}
-use Rattle.paper.specs.Lists.{least}
+use Rattle.paper.specs.Lists.{isEmpty, least}
 use Rattle.paper.specs.Format.{Format, mostEntries}
 use Rattle.paper.specs.Tables.{rows}
-use Rattle.paper.specs.Closeness.{Node, nodes, ofKind, closestOf, closestNumber}
+use Rattle.paper.specs.Closeness.{Node, nodes, ofKind, closestNumber}
 use Rattle.paper.specs.Shapes as Paper
 use Rattle.paper.specs.Shapes.{numbers, kind, parent}
 use Rattle.paper.specs.Partners.{childNumbers, parentNumbers, ofEdges, greatest, edgeNumbers}
-use Rattle.paper.specs.Verdict.{isEmpty, full}
+use Rattle.paper.specs.Verdict.{full}
 use Rattle.paper.proofs.Partners.{parent-type-has-row, kept-none, full-least}
 use Rattle.paper.proofs.Edges.{edge-root, edge-each, edge-unused}
 use Rattle.paper.proofs.Reread.{length-padded}
@@ -44,7 +44,7 @@ pub record Long (edges : Edges) : Type 0 where
 module _ (t : List Node) (p : Paper.Shape) (c : ℕ) where
   full-is : isEmpty (aloneOf t (kind p (parent p c)) (kind p c)) ≡ full t p c
   unfolding aloneOf full
-  full-is = kept-none (λ r. isEmpty (closestOf t r (kind p c))) (ofKind t (kind p (parent p c)))
+  full-is = kept-none (λ r. eqb (closestNumber t (kind p c) r) 0) (ofKind t (kind p (parent p c)))
 
 module _ {form : Format} {t sb : List ℕ} {w : Work} (r : Ready form t sb w) where
   abbrev ns : List Node

@@ -10,8 +10,8 @@ use mathlib.Core.List.{List, [], _∷_, _++_, map}
 use lib.Dec.{eqb, leb}
 use lib.ListN.{getD}
 use borrow.Author.Tests.{leb-true, leb-false, le-leb, lt-leb, eq-eqb, ne-eqb}
-use Rattle.paper.specs.Lists.{keep, firstOr, joinMap, count}
-use Rattle.paper.specs.Verdict.{Verdict, kept, missing, isEmpty}
+use Rattle.paper.specs.Lists.{keep, isEmpty, firstOr, joinMap, count}
+use Rattle.paper.specs.Verdict.{Verdict, kept, missing}
 use Rattle.types.proofs.Step.{below}
 use Rattle.closest.specs.Runs.{begins, startOf}
 use Rattle.closest.proofs.Starts.{start-begins, start-on, start-le, start-grows}

@@ -15,7 +15,7 @@ use Rattle.paper.specs.Shapes.{numbers, kind, parent, way, path}
 use Rattle.paper.specs.Partners.{EdgeNumbers, edgeNumbers}
 use Rattle.paper.specs.Verdict
 use Rattle.paper.specs.Verdict.{Judgement, kept, missing, isApart, verdictNumbers, overPairs}
-use Rattle.paper.specs.Verdict.{partners, alone, full, lone, pairFault, verdict, noneApart, judgement}
+use Rattle.paper.specs.Verdict.{alone, full, lone, pairFault, verdict, noneApart, judgement}
 use Rattle.paper.specs.Calls.{judgeRows, judge, reply, refused, given, noJudgement, _>>=_, Reply, tests1-7}
 use Rattle.shapes.specs.Edges.{meetingOf}
 use Rattle.shapes.specs.Shape.{levelOf, typeOf, parentOf, edgeOf}
@@ -41,7 +41,7 @@ use Rattle.judging.proofs.Earned.{least-is, earned-fault, join-related,
 
 -- the rows without a partner are those that have no closest row of the parent entry's type
 alone-is : (t : List Node) (p : Paper.Shape) (c : ℕ) → aloneOf t (kind p c) (kind p (parent p c)) ≡ alone t p c
-unfolding aloneOf alone partners
+unfolding aloneOf alone
 alone-is t p c = refl
 
 -- ---- a prepared table and shape

@@ -4,17 +4,17 @@ use mathlib.Core.Path.{_≡_}
 use mathlib.Core.Logic.{_⊎_}
 use mathlib.Core.Bool.{true, false}
 use mathlib.Core.List.{List, map}
-use lib.Dec.{leb}
+use lib.Dec.{eqb, leb}
 use lib.ListN.{getD}
 use Rattle.paper.specs.Lists.{keep, joinMap, count}
-use Rattle.paper.specs.Closeness.{Node, ofKind, closestOf}
-use Rattle.paper.specs.Verdict.{Verdict, missing, isEmpty}
+use Rattle.paper.specs.Closeness.{Node, ofKind, closestNumber}
+use Rattle.paper.specs.Verdict.{Verdict, missing}
 use Rattle.shapes.specs.declared.shape.Shape.{Shape}
 use Rattle.partners.specs.Closest.{aloneRows}
 
--- the rows of type a that have no closest row of type b
+-- the rows of type a whose number of closest rows of type b is 0
 unfoldable pub aloneOf : List Node → ℕ → ℕ → List Node
-aloneOf t a b = keep (λ r. isEmpty (closestOf t r b)) (ofKind t a)
+aloneOf t a b = keep (λ r. eqb (closestNumber t b r) 0) (ofKind t a)
 
 module _ (levels types : List ℕ) (rows : ℕ) (s : Shape) where
   -- for each of n entries from c on: its rows without a partner

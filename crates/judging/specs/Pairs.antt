@@ -5,10 +5,10 @@ use mathlib.Core.Bool.{Bool, true, false, _&&_, _||_}
 use mathlib.Core.List.{List, [], _∷_, map}
 use lib.Dec.{eqb}
 use lib.ListN.{length, getD, drop}
-use Rattle.paper.specs.Lists.{firstOr, count}
+use Rattle.paper.specs.Lists.{isEmpty, firstOr, count}
 use Rattle.paper.specs.Format.{mostEntries}
 use Rattle.paper.specs.Closeness.{shared}
-use Rattle.paper.specs.Verdict.{Verdict, kept, missing, apart, unsure, isEmpty, overPairs}
+use Rattle.paper.specs.Verdict.{Verdict, kept, missing, apart, unsure, overPairs}
 use Rattle.shapes.specs.Edges.{meetingOf}
 use Rattle.shapes.specs.Shape.{levelOf, Sized}
 use Rattle.shapes.specs.Ways.{wayPlaces, wayAt}

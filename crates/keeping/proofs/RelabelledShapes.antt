@@ -16,7 +16,7 @@ use Rattle.paper.specs.Shapes.{Entry, Shape, named, steps, shapeOver, numbers, 
 use Rattle.paper.specs.NewTable.{Line, beneath, tops, lines}
 use Rattle.paper.specs.Figures.{figures}
 use Rattle.paper.specs.Partners.{childNumbers, parentNumbers, edgeNumbers}
-use Rattle.paper.specs.Verdict.{Verdict, Judgement, kept, apart, unsure, isApart, overPairs, meeting, partners, alone, full, edgeLevel, sureDown}
+use Rattle.paper.specs.Verdict.{Verdict, Judgement, kept, apart, unsure, isApart, overPairs, meeting, alone, full, edgeLevel, sureDown}
 use Rattle.paper.specs.Verdict.{meetsLeast, sure, lone, pairFault, verdict, noneApart, judgement}
 use Rattle.paper.specs.Calls.{typeTooMany, typeMissing}
 use Rattle.paper.specs.Labels.{Pair, occurring, converted, rowWith, entryWith}
@@ -56,7 +56,7 @@ module _ (t : List Node) (c : ℕ → ℕ) (s : Shape) where
       (down-by (meeting t s e g) (side s e g)) (down-by (meeting t s e g) (side s g e))
 
   pub judgement-by : judgement t (shapeBy c s) ≡ judgement t s
-  unfolding verdict noneApart lone alone partners edgeNumbers childNumbers parentNumbers
+  unfolding verdict noneApart lone alone edgeNumbers childNumbers parentNumbers
   judgement-by =
       ap {B = Judgement} (λ fault. record {
         verdict = firstOr kept (lone t s ++ overPairs fault (numbers s));

@@ -8,9 +8,9 @@ use mathlib.Core.List.{List, map}
 use lib.Dec.{eqb, ltb}
 use lib.ListN.{length}
 use borrow.Author.Tests.{eqb-true, eq-eqb, ltb-true, lt-ltb}
-use Rattle.paper.specs.Lists.{Has, most}
-use Rattle.paper.specs.Closeness.{Node, meet, ofKind, kindsMeet, meetAt, closest, closestOf, closestPairs}
-use Rattle.paper.proofs.Lists.{both, and, keep-has, has-keep, most-has, most-le, most-from, has-map, map-has, has-join, join-has}
+use Rattle.paper.specs.Lists.{Has, isEmpty, most}
+use Rattle.paper.specs.Closeness.{Node, meet, ofKind, kindsMeet, meetAt, closest, closestOf, closestNumber, closestPairs}
+use Rattle.paper.proofs.Lists.{both, and, keep-has, has-keep, most-has, most-le, most-from, has-map, map-has, has-join, join-has, empty-length}
 use Rattle.paper.proofs.Agree.{Agree, agree-sym, agree-self, shared→agree, agree→shared, shared-sym, shared-length, shared-eq}
 
 module _ (t : List Node) where
@@ -103,6 +103,11 @@ module _ (t : List Node) where
   near-closestOf j k r s oj ok n =
       has-keep (meetAt (kindsMeet t (r .kind) k) r) s (ofKind t k) (of-kind k s ok)
       (subst (λ a. meetAt (kindsMeet t a k) r s ≡ true) (sym (oj .1)) (near-at j k r s oj ok n))
+
+  -- their number is 0 exactly where there are none
+  pub closest-none : (k : ℕ) (r : Node) → eqb (closestNumber t k r) 0 ≡ isEmpty (closestOf t r k)
+  unfolding closestNumber
+  closest-none k r = sym (empty-length (closestOf t r k))
 
   -- closestOf keeps just the closest
   pub closestOf-closest : (k : ℕ) (r s : Node) → Has r t → Has s (closestOf t r k) → closest t r s ≡ true

@@ -9,9 +9,8 @@ use mathlib.Core.List.{List, [], _∷_, _++_, map, append-assoc}
 use lib.Dec.{eqb, leb}
 use lib.ListN.{length, getD, take, drop, length-append}
 use lib.Seq.{take-at}
-use borrow.Author.Tests.{eqb-true, eq-eqb, leb-true, leb-false}
-use Rattle.paper.specs.Lists.{Has, keep, all, any, lastOr, between, most, least, joined, joinMap, same, up, count}
-use Rattle.paper.specs.Verdict.{isEmpty}
+use borrow.Author.Tests.{eqb-true, eq-eqb, ne-eqb, leb-true, leb-false}
+use Rattle.paper.specs.Lists.{Has, keep, all, any, isEmpty, lastOr, between, most, least, joined, joinMap, same, up, count}
 -- A wrong definition is refused first by the sample that it breaks, so the samples stand before every law.
 use Rattle.paper.specs.Samples
 use Rattle.paper.specs.Tried
@@ -174,6 +173,10 @@ module _ {A : Type 0} where
   pub in-some : (x : A) (xs : List A) → Has x xs → isEmpty xs ≡ false
   in-some x [] h = absurd h
   in-some x (z ∷ zs) h = refl
+
+  pub empty-length : (xs : List A) → isEmpty xs ≡ eqb (length xs) 0
+  empty-length [] = refl
+  empty-length (z ∷ zs) = sym (ne-eqb (suc (length zs)) 0 (λ e. omega arith))
 
 -- ---- membership by place
 module _ {A : Type 0} (d : A) where

@@ -11,13 +11,13 @@ use mathlib.Core.Option.{none}
 use lib.Dec.{eqb}
 use lib.ListN.{length, drop, length-map}
 use borrow.Author.Tests.{eqb-true, eq-eqb, ne-eqb, not-false}
-use Rattle.paper.specs.Lists.{Has, Range, keep, all, any, firstOr, lastOr, joinMap, least, count, same, up}
+use Rattle.paper.specs.Lists.{Has, Range, keep, all, any, isEmpty, firstOr, lastOr, joinMap, least, count, same, up}
 use Rattle.paper.specs.Format.{Format}
 use Rattle.paper.specs.Tables.{Row, rows, types, typeNumber}
-use Rattle.paper.specs.Closeness.{Node, nodes, ofKind, closestOf, closestNumber}
+use Rattle.paper.specs.Closeness.{Node, nodes, ofKind, closestNumber}
 use Rattle.paper.specs.Shapes.{Entry, Shape, entries, named, shapeOver, numbers, kind, parent}
 use Rattle.paper.specs.Partners.{childNumbers, parentNumbers, greatest}
-use Rattle.paper.specs.Verdict.{Verdict, kept, missing, isEmpty, overPairs, partners, alone, full, lone, pairFault, verdict}
+use Rattle.paper.specs.Verdict.{Verdict, kept, missing, overPairs, alone, full, lone, pairFault, verdict}
 use Rattle.paper.specs.Edges.{FirstNone}
 use Rattle.paper.specs.Calls.{given, refuseAt, Work, typeMissing, tests1-4, tests5-6, tests5-7, tests1-7}
 use Rattle.paper.proofs.Lists.{same-eq, any-has, map-has, in-some, getD-has}
@@ -89,25 +89,19 @@ min-some zero b = ap not (eq-eqb (min 0 b) 0 (omega arith))
 min-some (suc a) zero = ap not (eq-eqb (min (suc a) 0) 0 (omega arith)) ∙ sym (ap (λ c. c && false) (ap not (some-eqb a)))
 min-some (suc a) (suc b) = ap not (ne-eqb (min (suc a) (suc b)) 0 (λ e. omega (arith, e))) ∙ sym (ap₂ (λ x y. not x && not y) (some-eqb a) (some-eqb b))
 
-no-length : {A : Type 0} (xs : List A) → isEmpty xs ≡ eqb (length xs) 0
-no-length [] = refl
-no-length (x ∷ xs) = sym (some-eqb (length xs))
-
 and-true : (a : Bool) → a && true ≡ a
 and-true true = refl
 and-true false = refl
 
-module _ {A B : Type 0} (found : A → List B) where
-  -- Each finds some exactly where the least of how many they find is not 0.
-  all-least : (x : A) (xs : List A) → all (λ x. not (isEmpty (found x))) (x ∷ xs) ≡ not (eqb (least (map (λ x. length (found x)) (x ∷ xs))) 0)
-  all-least x [] = and-true (not (isEmpty (found x))) ∙ ap not (no-length (found x))
-  all-least x (y ∷ ys) =
-      ap₂ (λ a c. a && c) (ap not (no-length (found x))) (all-least y ys)
-      ∙ sym (min-some (length (found x)) (least (map (λ x. length (found x)) (y ∷ ys))))
+module _ {A : Type 0} (figure : A → ℕ) where
+  -- No figure is 0 exactly where the least of them is not.
+  all-least : (x : A) (xs : List A) → all (λ x. not (eqb (figure x) 0)) (x ∷ xs) ≡ not (eqb (least (map figure (x ∷ xs))) 0)
+  all-least x [] = and-true (not (eqb (figure x) 0))
+  all-least x (y ∷ ys) = ap (λ c. not (eqb (figure x) 0) && c) (all-least y ys) ∙ sym (min-some (figure x) (least (map figure (y ∷ ys))))
 
-  pub found-least : (x : A) (xs : List A) → Has x xs → all (λ x. not (isEmpty (found x))) xs ≡ not (eqb (least (map (λ x. length (found x)) xs)) 0)
-  found-least x [] h = absurd h
-  found-least x (y ∷ ys) h = all-least y ys
+  some-least : (x : A) (xs : List A) → Has x xs → all (λ x. not (eqb (figure x) 0)) xs ≡ not (eqb (least (map figure xs)) 0)
+  some-least x [] h = absurd h
+  some-least x (y ∷ ys) h = all-least y ys
 
 -- none is kept exactly where all fail the test
 pub kept-none : {A : Type 0} (p : A → Bool) (xs : List A) → isEmpty (keep p xs) ≡ all (λ x. not (p x)) xs
@@ -121,15 +115,15 @@ kept-none p (x ∷ xs) = go (p x) (kept-none p xs)
 module _ (t : List Node) (s : Shape) (e : ℕ) where
   -- An edge is full exactly when its least number of children is not 0.
   pub full-least : (r : Node) → Has r (ofKind t (kind s (parent s e))) → full t s e ≡ not (eqb (least (childNumbers t s e)) 0)
-  unfolding full childNumbers closestNumber
-  full-least r h = found-least (λ r. closestOf t r (kind s e)) r (ofKind t (kind s (parent s e))) h
+  unfolding full childNumbers
+  full-least r h = some-least (closestNumber t (kind s e)) r (ofKind t (kind s (parent s e))) h
 
   -- No row of an entry's type lacks a partner exactly when its least number of parents is not 0.
   pub alone-least : (r : Node) → Has r (ofKind t (kind s e)) → isEmpty (alone t s e) ≡ not (eqb (least (parentNumbers t s e)) 0)
-  unfolding alone partners parentNumbers closestNumber
+  unfolding alone parentNumbers
   alone-least r h =
-      kept-none (λ r. isEmpty (closestOf t r (kind s (parent s e)))) (ofKind t (kind s e))
-      ∙ found-least (λ r. closestOf t r (kind s (parent s e))) r (ofKind t (kind s e)) h
+      kept-none (λ r. eqb (closestNumber t (kind s (parent s e)) r) 0) (ofKind t (kind s e))
+      ∙ some-least (closestNumber t (kind s (parent s e))) r (ofKind t (kind s e)) h
 
 -- ---- the numbers of an edge
 module _ (t : List Node) (s : Shape) (e : ℕ) where

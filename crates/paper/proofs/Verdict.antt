@@ -10,15 +10,15 @@ use lib.Dec.{eqb, leb}
 use lib.ListN.{length, take, drop, length-append}
 use lib.Seq.{take-append-add}
 use borrow.Author.Tests.{eqb-true, leb-true, not-true}
-use Rattle.paper.specs.Lists.{Has, all, any, firstOr, lastOr, joinMap, same, up, count}
-use Rattle.paper.specs.Closeness.{Node, ofKind, kindsMeet, closestOf}
+use Rattle.paper.specs.Lists.{Has, all, any, isEmpty, firstOr, lastOr, joinMap, same, up, count}
+use Rattle.paper.specs.Closeness.{Node, ofKind, kindsMeet, closestOf, closestNumber}
 use Rattle.paper.specs.Shapes.{Shape, numbers, kind, way, parent, children}
-use Rattle.paper.specs.Verdict.{Verdict, kept, missing, apart, unsure, isApart, isEmpty, overPairs}
-use Rattle.paper.specs.Verdict.{meeting, partners, alone, full, edgeLevel, sureDown, meetsLeast, sure, lone, pairFault, verdict, noneApart}
+use Rattle.paper.specs.Verdict.{Verdict, kept, missing, apart, unsure, isApart, overPairs}
+use Rattle.paper.specs.Verdict.{meeting, alone, full, edgeLevel, sureDown, meetsLeast, sure, lone, pairFault, verdict, noneApart}
 use Rattle.paper.proofs.Lists.{both, either, same-eq, eq-same, keep-has, has-keep, all-has, has-any, has-left, has-right, has-append, has-map, map-has}
 use Rattle.paper.proofs.Lists.{has-join, join-has, some-in, last-snoc, up-snoc, snoc-inj, has-count, count-has}
 use Rattle.paper.proofs.Agree.{Agree}
-use Rattle.paper.proofs.Closeness.{Of, Near, near-sym, kind-of, of-kind, closestOf-near}
+use Rattle.paper.proofs.Closeness.{Of, Near, near-sym, kind-of, of-kind, closestOf-near, closest-none}
 use Rattle.paper.proofs.Chains.{AtLeast, Partnered, Full, Sure}
 use Rattle.paper.proofs.Shapes.{Ways}
 
@@ -108,9 +108,9 @@ module _ (s : Shape) (w : Ways s) where
     unfolding full
     full-edge g c lg e h r o =
         let p : parent s c ≡ g = child-parent g c lg e in
-        let a = all-has (λ r. not (isEmpty (closestOf t r (kind s c)))) r (ofKind t (kind s (parent s c))) h
+        let a = all-has (λ r. not (eqb (closestNumber t (kind s c) r) 0)) r (ofKind t (kind s (parent s c))) h
         (of-kind t (kind s (parent s c)) r (subst (λ z. Of t (kind s z) r) (sym p) o)) in
-        let (x, hx) = some-in (closestOf t r (kind s c)) (not-true (isEmpty (closestOf t r (kind s c))) a) in
+        let (x, hx) = some-in (closestOf t r (kind s c)) (sym (closest-none t (kind s c) r) ∙ not-true (eqb (closestNumber t (kind s c) r) 0) a) in
         let (ox, n) = closestOf-near t (kind s g) (kind s c) r x (o .1) hx in
         (x, ox, n)
 
@@ -127,18 +127,18 @@ module _ (s : Shape) (w : Ways s) where
 
     partner : NoneAlone → (g c : ℕ) → g < length (s .ways) → c < length (s .ways) → way s c ≡ way s g ++ (c ∷ [])
         → (r : Node) → In c r → (q : Node) × In g q × Near t (kind s g) (kind s c) q r
-    unfolding alone partners
-    partner no-alone g c lg lc e r o = go (isEmpty (closestOf t r (kind s (parent s c)))) refl
+    unfolding alone
+    partner no-alone g c lg lc e r o = go (eqb (closestNumber t (kind s (parent s c)) r) 0) refl
       where
         p : parent s c ≡ g
         p = child-parent g c lg e
 
-        go : (b : Bool) → isEmpty (closestOf t r (kind s (parent s c))) ≡ b → (q : Node) × In g q × Near t (kind s g) (kind s c) q r
+        go : (b : Bool) → eqb (closestNumber t (kind s (parent s c)) r) 0 ≡ b → (q : Node) × In g q × Near t (kind s g) (kind s c) q r
         go true z =
             absurd (no-alone c (child-pos g c lg lc e) lc r
-            (has-keep (λ r. isEmpty (closestOf t r (kind s (parent s c)))) r (ofKind t (kind s c)) (of-kind t (kind s c) r o) z))
+            (has-keep (λ r. eqb (closestNumber t (kind s (parent s c)) r) 0) r (ofKind t (kind s c)) (of-kind t (kind s c) r o) z))
         go false z =
-            let (q, hq) = some-in (closestOf t r (kind s (parent s c))) z in
+            let (q, hq) = some-in (closestOf t r (kind s (parent s c))) (sym (closest-none t (kind s (parent s c)) r) ∙ z) in
             let (oq, n) = closestOf-near t (kind s c) (kind s (parent s c)) r q (o .1) hq in
             (q, subst (λ x. In x q) p oq, near-sym t (kind s c) (kind s g) r q (subst (λ x. Near t (kind s c) (kind s x) r q) p n))
 
@@ -184,10 +184,10 @@ has-overPairs g x i (suc n) e f ie ef fn h = go (leb e i) refl (λ l. has-overPa
 module _ (s : Shape) (t : List Node) where
   -- a row without a partner is one of the entry's type, and no row of the parent entry's type is closest to it
   pub alone-of : (e : ℕ) (r : Node) → Has r (alone t s e) → Of t (kind s e) r × (isEmpty (closestOf t r (kind s (parent s e))) ≡ true)
-  unfolding alone partners
+  unfolding alone
   alone-of e r h =
-      let (hr, empty) = keep-has (λ r. isEmpty (closestOf t r (kind s (parent s e)))) r (ofKind t (kind s e)) h in
-      (kind-of t (kind s e) r hr, empty)
+      let (hr, empty) = keep-has (λ r. eqb (closestNumber t (kind s (parent s e)) r) 0) r (ofKind t (kind s e)) h in
+      (kind-of t (kind s e) r hr, sym (closest-none t (kind s (parent s e)) r) ∙ empty)
 
   -- what earns a 1, and what earns a 2 or a 3
   lone-has : (x : Verdict) → Has x (lone t s) → (e : ℕ) × (0 < e) × (e < length (s .ways)) × (r : Node) × Has r (alone t s e) × (x ≡ missing e (r .place))

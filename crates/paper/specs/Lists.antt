@@ -27,6 +27,10 @@ module _ {A : Type 0} where
   any p [] = false
   any p (x ∷ xs) = p x || any p xs
 
+  abbrev pub isEmpty : List A → Bool
+  isEmpty [] = true
+  isEmpty (x ∷ xs) = false
+
   -- the first element; d where there is none
   abbrev pub firstOr : A → List A → A
   firstOr d [] = d

@@ -5,7 +5,7 @@ use mathlib.Core.List.{List, [], _∷_, _++_, map}
 use lib.Dec.{eqb, leb}
 use lib.ListN.{drop}
 use Rattle.paper.specs.Lists.{keep, all, any, firstOr, joinMap}
-use Rattle.paper.specs.Closeness.{Node, ofKind, kindsMeet, closestOf}
+use Rattle.paper.specs.Closeness.{Node, ofKind, kindsMeet, closestNumber}
 use Rattle.paper.specs.Shapes.{Shape, numbers, kind, parent, side, path}
 use Rattle.paper.specs.Partners.{EdgeNumbers, edgeNumbers}
 
@@ -38,10 +38,6 @@ pub record Judgement : Type 0 where
 abbrev pub isLeast : ℕ → List ℕ → Bool
 isLeast l ls = any (eqb l) ls && all (leb l) ls
 
-abbrev pub isEmpty : {A : Type 0} → List A → Bool
-isEmpty [] = true
-isEmpty (x ∷ xs) = false
-
 -- the pairs of a list, by the first, then by the second, with what each gives
 abbrev pub overPairs : {A : Type 0} → (ℕ → ℕ → List A) → List ℕ → List A
 overPairs g [] = []
@@ -52,17 +48,13 @@ module _ (t : List Node) (s : Shape) where
   unfoldable pub meeting : ℕ → ℕ → ℕ
   meeting e f = kindsMeet t (kind s e) (kind s f)
 
-  -- A partner of a row, for an entry, is a row of the parent entry's type closest to it.
-  unfoldable pub partners : ℕ → Node → List Node
-  partners e r = closestOf t r (kind s (parent s e))
-
-  -- the rows of an entry's type that have no partner
+  -- A partner of a row, for an entry, is a row of the parent entry's type closest to it. The rows of an entry's type whose number of partners is 0.
   unfoldable pub alone : ℕ → List Node
-  alone e = keep (λ r. isEmpty (partners e r)) (ofKind t (kind s e))
+  alone e = keep (λ r. eqb (closestNumber t (kind s (parent s e)) r) 0) (ofKind t (kind s e))
 
-  -- An edge is full when every row of the parent entry's type has a closest row of the child's type.
+  -- An edge is full when every row of the parent entry's type has a closest row of the child's type: for none of them is their number 0.
   unfoldable pub full : ℕ → Bool
-  full c = all (λ r. not (isEmpty (closestOf t r (kind s c)))) (ofKind t (kind s (parent s c)))
+  full c = all (λ r. not (eqb (closestNumber t (kind s c) r) 0)) (ofKind t (kind s (parent s c)))
 
   -- Each edge has the meeting level of its two types.
   unfoldable pub edgeLevel : ℕ → ℕ

@@ -9,7 +9,7 @@ use mathlib.Core.List.{List}
 use lib.Dec.{eqb, leb}
 use lib.ListN.{getD}
 use borrow.Author.Tests.{eqb-true, eq-eqb, ne-eqb, eqb-false, leb-true, leb-false}
-use Rattle.paper.specs.Verdict.{isEmpty}
+use Rattle.paper.specs.Lists.{isEmpty}
 use Rattle.types.proofs.Step.{below}
 use Rattle.closest.specs.Runs.{Rows, begins, startOf}
 use Rattle.closest.proofs.Starts.{start-begins, start-on, start-le, start-grows}

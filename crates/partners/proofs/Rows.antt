@@ -7,8 +7,7 @@ use mathlib.Core.List.{List}
 use lib.Dec.{eqb}
 use lib.ListN.{getD}
 use borrow.Author.Tests.{eqb-true, eq-eqb, le-leb, lt-leb}
-use Rattle.paper.specs.Lists.{Has, count}
-use Rattle.paper.specs.Verdict.{isEmpty}
+use Rattle.paper.specs.Lists.{Has, isEmpty, count}
 use Rattle.paper.proofs.Lists.{both, and, keep-has, has-keep, some-in, in-some, count-has, has-count}
 use Rattle.closest.specs.Runs.{begins, startOf}
 use Rattle.partners.specs.Closest.{closestRows, isLone, loneRows, Bound}

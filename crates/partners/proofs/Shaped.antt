@@ -7,10 +7,9 @@ use mathlib.Core.Bool.{true}
 use mathlib.Core.List.{List, [], _∷_}
 use lib.Dec.{eqb}
 use lib.ListN.{length, getD}
-use Rattle.paper.specs.Lists.{Has, keep, count, least}
+use Rattle.paper.specs.Lists.{Has, keep, isEmpty, count, least}
 use Rattle.paper.specs.Format.{mostEntries}
 use Rattle.paper.specs.Partners.{greatest}
-use Rattle.paper.specs.Verdict.{isEmpty}
 use Rattle.paper.proofs.Lists.{map-has, least-reached, most-le}
 use Rattle.closest.specs.Runs.{Rows}
 use Rattle.shapes.specs.Shape.{typeOf, parentOf, edgeOf, Sized}

@@ -5,8 +5,7 @@ use mathlib.Core.Bool.{Bool, _&&_, _||_}
 use mathlib.Core.List.{List, [], _∷_, map}
 use lib.Dec.{eqb, leb}
 use lib.ListN.{length, getD}
-use Rattle.paper.specs.Lists.{keep, count, least}
-use Rattle.paper.specs.Verdict.{isEmpty}
+use Rattle.paper.specs.Lists.{keep, isEmpty, count, least}
 use Rattle.closest.specs.Runs.{startOf}
 use Rattle.shapes.specs.Shape.{typeOf, parentOf, edgeOf}
 use Rattle.shapes.specs.declared.shape.Shape.{Shape}

@@ -6,10 +6,9 @@ use mathlib.Core.Bool.{true, false}
 use mathlib.Core.List.{List}
 use lib.Dec.{eqb, leb}
 use lib.ListN.{getD}
-use Rattle.paper.specs.Lists.{least}
+use Rattle.paper.specs.Lists.{isEmpty, least}
 use Rattle.paper.specs.Format.{mostEntries}
 use Rattle.paper.specs.Partners.{greatest}
-use Rattle.paper.specs.Verdict.{isEmpty}
 use Rattle.closest.specs.Runs.{begins, startOf}
 use Rattle.shapes.specs.Shape.{typeOf, parentOf, edgeOf}
 use Rattle.shapes.specs.declared.shape.Shape.{Shape}

@@ -3,7 +3,8 @@ use Prim.Native.Nat.{ℕ, _-_}
 use native.Mathlib.Omega.{arith}
 use mathlib.Core.List.{List}
 use borrow.Author.Needs.{needs}
-use Rattle.paper.specs.Verdict.{Verdict, apart, isEmpty}
+use Rattle.paper.specs.Lists.{isEmpty}
+use Rattle.paper.specs.Verdict.{Verdict, apart}
 use Rattle.judging.specs.Pairs.{apartPair, noPairApart}
 use Rattle.judging.proofs.Ways.{way-fits}
 use Rattle.judging.proofs.Faults.{Outer, Inner, outer-start, inner-start, inner-step, inner-found, inner-end, outer-end}
