@@ -1,4 +1,4 @@
--- A reshaped table of at most 1,024 lines is a sound source. Assumes nothing.
+-- A reshaped table keeps the row rules, and one of at most 1,024 lines is a sound source. Assumes nothing.
 use Prim.Native.Nat.{ℕ, zero, suc, _*_, _/_, _%_, _≤_, _<_}
 use native.Mathlib.Nat.{mul-mod-left, mul-le-mul-right, div-mul-le-self}
 use native.Mathlib.Omega.{arith}
@@ -12,7 +12,7 @@ use Rattle.paper.specs.Tables.{rows, types}
 use Rattle.paper.specs.Shapes.{Entry, entries, entryOf, named, shapeOver}
 use Rattle.paper.specs.NewTable.{newTable, entryUnit}
 use Rattle.paper.specs.Calls.{Reply, Reshaping, reshape}
-use Rattle.paper.specs.Sound.{SoundSource}
+use Rattle.paper.specs.Sound.{KeepsRules, SoundSource}
 use Rattle.paper.proofs.Lists.{take-has, drop-has, map-has, last-has}
 use Rattle.paper.proofs.Bytes.{Small}
 use Rattle.paper.proofs.Calls.{count-rows, pass1-3, examine-given, pass1-4, passed1-4, passed5-6, passed1-7, reshape-past4}
@@ -58,9 +58,21 @@ module _ (f : Format) (b sb table sources : List ℕ) where
   abbrev r : Reshaping
   r = reshape f b sb table sources
 
-  -- The new table is sound where the last label of each entry is of 16 bits.
-  sound : (o : Wrote f b sb table sources)
-      → ((e : ℕ) → e < length (s f b sb (o .work) (o .passed) .ways) → Small (getD (s f b sb (o .work) (o .passed) .labels) e 0))
+  -- the last label of each entry is of 16 bits
+  abbrev LabelsSmall : Wrote f b sb table sources → Type 0
+  LabelsSmall o = (e : ℕ) → e < length (s f b sb (o .work) (o .passed) .ways) → Small (getD (s f b sb (o .work) (o .passed) .labels) e 0)
+
+  -- Where they are, the new table keeps the row rules,
+  keeps : (o : Wrote f b sb table sources) → LabelsSmall o → KeepsRules f (take (r .reply .rest * rowBytes f) (r .table)) (r .reply .rest)
+  keeps o label-small =
+      let room : length (ls f b sb (o .work) (o .passed)) < entryUnit = omega (arith, o .room) in
+      subst (λ z. KeepsRules f z (r .reply .rest)) (sym (new-left f b sb table sources o)) (record {
+        counted = written-rows f b sb (o .work) (o .passed) room ∙ sym (o .count);
+        none-bad = written-sound f b sb (o .work) (o .passed) room label-small;
+      })
+
+  -- and is sound up to 1,024 lines.
+  sound : (o : Wrote f b sb table sources) → LabelsSmall o
       → r .reply .rest ≤ mostRows → SoundSource f sb (take (r .reply .rest * rowBytes f) (r .table)) (r .reply .rest)
   sound o label-small few =
       let w = o .work in
@@ -82,17 +94,27 @@ module _ (f : Format) (b sb table sources : List ℕ) where
       })
 
   -- in a format whose largest label is of 16 bits, as the base's is
+  pub narrow-keeps : Small (f .labels) → r .reply .number ≡ 0 → KeepsRules f (take (r .reply .rest * rowBytes f) (r .table)) (r .reply .rest)
+  narrow-keeps lim e = let o = reshape-writes f b sb table sources e in keeps o (format-small f b sb (o .work) (o .passed) lim)
+
   pub narrow-sound : Small (f .labels) → r .reply .number ≡ 0 → r .reply .rest ≤ mostRows
       → SoundSource f sb (take (r .reply .rest * rowBytes f) (r .table)) (r .reply .rest)
   narrow-sound lim e few = let o = reshape-writes f b sb table sources e in sound o (format-small f b sb (o .work) (o .passed) lim) few
+
+  -- in every format, where the shape is one of bytes
+  bytes-small : ((x : ℕ) → Has x sb → x < radix) → (o : Wrote f b sb table sources) → LabelsSmall o
+  bytes-small low o i le = getD-below (radix * radix) (omega arith) (s f b sb (o .work) (o .passed) .labels) (labels-below f (types (rows f b)) sb low) i
+
+  -- A RESHAPED TABLE KEEPS THE ROW RULES: whatever records an accepted call leaves, up to 4,096 lines, do.
+  pub reshape-keeps : ((x : ℕ) → Has x sb → x < radix) → r .reply .number ≡ 0
+      → KeepsRules f (take (r .reply .rest * rowBytes f) (r .table)) (r .reply .rest)
+  reshape-keeps low e = let o = reshape-writes f b sb table sources e in keeps o (bytes-small low o)
 
   -- A RESHAPED TABLE IS A SOUND SOURCE: in every format, where the shape is one of bytes and the call is accepted with at most
   -- 1,024 lines, the records that it leaves are.
   pub reshape-sound : ((x : ℕ) → Has x sb → x < radix) → r .reply .number ≡ 0 → r .reply .rest ≤ mostRows
       → SoundSource f sb (take (r .reply .rest * rowBytes f) (r .table)) (r .reply .rest)
-  reshape-sound low e few =
-      let o = reshape-writes f b sb table sources e in
-      sound o (λ i le. getD-below (radix * radix) (omega arith) (s f b sb (o .work) (o .passed) .labels) (labels-below f (types (rows f b)) sb low) i) few
+  reshape-sound low e few = let o = reshape-writes f b sb table sources e in sound o (bytes-small low o) few
 
 -- a sound source holds its rows whole
 pub source-whole : (f : Format) (sb new : List ℕ) (n : ℕ) → SoundSource f sb new n → n * rowBytes f ≤ length new

@@ -14,11 +14,11 @@ use Rattle.paper.specs.NewTable.{Line, lines, newTable, sourceList, entryUnit}
 use Rattle.paper.specs.Calls.{Reply, Reshaping, reshape, roomIn}
 use Rattle.paper.specs.Links.{LinksKept}
 use Rattle.paper.specs.MadeUp.{NothingMadeUp, unshown}
-use Rattle.paper.specs.Sound.{SoundSource}
+use Rattle.paper.specs.Sound.{KeepsRules, SoundSource}
 use Rattle.paper.specs.Edges.{ChildrenShown, ChildrenBetween}
 use Rattle.paper.proofs.Promises.{reshape-links, written-length}
 use Rattle.paper.proofs.MadeUp.{reshape-none-made-up, reshape-unshown}
-use Rattle.paper.proofs.Sound.{narrow-sound}
+use Rattle.paper.proofs.Sound.{narrow-keeps, narrow-sound}
 use Rattle.paper.proofs.Beneath.{reshape-children, reshape-between}
 use Rattle.bytes.specs.Served.{mostLevels, Served}
 use Rattle.bytes.proofs.Writing.{front-written}
@@ -54,6 +54,7 @@ reshapes {f} served {t} {s} {new} {sources} r new′ sources′ er en es = recor
   named-unshown = λ z e i v. subst (λ b. unshown e i b ≡ true) (sym listed) (reshape-unshown f t s new sources (accepted z) e i v);
   children = λ z. subst₂ (λ a b. ChildrenShown f t s a b) (sym front) (sym listed) (reshape-children f t s new sources (accepted z));
   between = λ z. subst₂ (λ a b. ChildrenBetween f t s a b) (sym front) (sym listed) (reshape-between f t s new sources (accepted z));
+  rules = λ z. subst₂ (λ a k. KeepsRules f a k) (sym front) (sym count) (narrow-keeps f t s new sources (served .small) (accepted z));
   sound = λ z le. subst₂ (λ a k. SoundSource f s a k) (sym front) (sym count)
       (narrow-sound f t s new sources (served .small) (accepted z) (omega (arith, count, le)));
 }

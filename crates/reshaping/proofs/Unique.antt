@@ -9,7 +9,7 @@ use Rattle.paper.specs.Tables.{Row}
 use Rattle.paper.specs.Verdict.{kept, missing}
 use Rattle.paper.specs.Links.{LinksKept}
 use Rattle.paper.specs.MadeUp.{NothingMadeUp, unshown}
-use Rattle.paper.specs.Sound.{SoundSource}
+use Rattle.paper.specs.Sound.{KeepsRules, SoundSource}
 use Rattle.paper.specs.Edges.{ChildrenShown, ChildrenBetween}
 use Rattle.paper.specs.Figures.{Figures}
 use Rattle.paper.specs.Shown.{FiguresAgree}
@@ -54,6 +54,10 @@ module _ {f : Format} {t s new sources new₁ sources₁ : List ℕ} {a : Reshap
 
   pub between-promised : a .number ≡ 0 → ChildrenBetween f t s (take (a .lines * rowBytes f) new₁) (take (a .lines) sources₁)
   between-promised = p .between
+
+  -- So is it that a new table keeps the row rules, whatever its length.
+  pub rules-promised : a .number ≡ 0 → KeepsRules f (take (a .lines * rowBytes f) new₁) (a .lines)
+  rules-promised = p .rules
 
   -- So is it that a new table of at most 1,024 lines is a sound source.
   pub sound-promised : a .number ≡ 0 → a .lines ≤ mostRows → SoundSource f s (take (a .lines * rowBytes f) new₁) (a .lines)

@@ -9,7 +9,7 @@ use Rattle.paper.specs.Tables.{Row}
 use Rattle.paper.specs.Verdict.{kept, missing}
 use Rattle.paper.specs.Links.{LinksKept}
 use Rattle.paper.specs.MadeUp.{NothingMadeUp, unshown}
-use Rattle.paper.specs.Sound.{SoundSource}
+use Rattle.paper.specs.Sound.{KeepsRules, SoundSource}
 use Rattle.paper.specs.Edges.{ChildrenShown, ChildrenBetween}
 use Rattle.paper.specs.Figures.{Figures}
 use Rattle.paper.specs.Calls.{Reply, given, reshape, summarise, judge}
@@ -49,6 +49,8 @@ pub record Reshapes (f : Format) (t s new sources : List ℕ) (r : Reshaped) (ne
   pub children : r .number ≡ 0 → ChildrenShown f t s (take (r .lines * rowBytes f) new′) (take (r .lines) sources′)
   -- They are no fewer than the least and no more than the greatest number of children that judging says of that entry.
   pub between : r .number ≡ 0 → ChildrenBetween f t s (take (r .lines * rowBytes f) new′) (take (r .lines) sources′)
+  -- Whatever an accepted call leaves, up to 4,096 lines, keeps the row rules.
+  pub rules : r .number ≡ 0 → KeepsRules f (take (r .lines * rowBytes f) new′) (r .lines)
   -- A reshaped table of at most 1,024 lines is a sound source: no call refuses it with 1 to 4.
   pub sound : r .number ≡ 0 → r .lines ≤ mostRows → SoundSource f s (take (r .lines * rowBytes f) new′) (r .lines)
 

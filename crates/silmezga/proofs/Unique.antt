@@ -15,7 +15,7 @@ use Rattle.paper.specs.Labels.{pairs, converting, Converting}
 use Rattle.paper.specs.Links.{LinksKept}
 use Rattle.paper.specs.MadeUp.{NothingMadeUp, unshown}
 use Rattle.paper.specs.Shown.{FiguresAgree}
-use Rattle.paper.specs.Sound.{SoundSource}
+use Rattle.paper.specs.Sound.{KeepsRules, SoundSource}
 use Rattle.paper.specs.Edges.{EdgesAgree, ChildrenShown, ChildrenBetween}
 use Rattle.widths.specs.Answers.{Moves}
 use Rattle.widths.specs.declared.moves.Moved.{Moved}
@@ -114,6 +114,11 @@ pub reshape-leaves-out-named : (κs : _) (a : _) (r : Reshaped) (e : _) → resh
     → r .number ≡ 0 → (n i : ℕ) → judge (formatOf (a .0)) (now (a .1 .0)) (now (a .1 .1 .0)) .rest .verdict ≡ missing n i
     → unshown n i (take (r .lines) (now (e .1 .1 .1 .1 .0))) ≡ true
 reshape-leaves-out-named κs a r e x = reshaping.named-unshown-promised x
+
+-- where the reshape is accepted, what the call leaves keeps the row rules
+pub reshape-keeps-rules : (κs : _) (a : _) (r : Reshaped) (e : _) → reshape.Learnt κs a r e → r .number ≡ 0
+    → KeepsRules (formatOf (a .0)) (take (r .lines * rowBytes (formatOf (a .0))) (now (e .1 .1 .1 .0))) (r .lines)
+reshape-keeps-rules κs a r e x = reshaping.rules-promised x
 
 -- where the reshape is accepted with at most 1,024 lines, what the call leaves is a sound source
 pub reshape-leaves-source : (κs : _) (a : _) (r : Reshaped) (e : _) → reshape.Learnt κs a r e → r .number ≡ 0 → r .lines ≤ mostRows
