@@ -191,18 +191,22 @@ module _ (f : Format) (b sb : List ℕ) (w : Work) (passed : tests1-7 f b sb ≡
 
   written-children : length written < entryUnit → ChildrenShown f b sb (newTable f s (rows f b) written) (sourceList written)
   unfolding sourceRow
-  written-children room x hx q hq pq c child =
+  written-children room x hx =
       let (l, hl, k, d, j, p, listed) = node-line 0 written x (subst (λ new. Has x new) (read room) hx) in
       let (_, row, _) = line-fits t one s ws some (f .levels) deep l hl in
       let place : x .place ≡ j = omega (arith, p) in
       let small : l .source .place < entryUnit = omega (arith, few f b sb w passed, numbered f b sb w passed (l .source) (row .0)) in
       let source : getD (sourceList written) (x .place) 0 % entryUnit ≡ l .source .place =
-      ap (λ i. getD (sourceList written) i 0 % entryUnit) place ∙ (omega (arith, listed, small)) in
-      ap (λ new. length (keep (λ (y : Node). same (up (y .dewey)) (x .dewey) && eqb (y .kind) c) new)) (read room)
-      ∙ nodes-kept (λ e g. same (up g) (x .dewey) && eqb e c) 0 written
-      ∙ ap (λ g. length (keep (λ (m : Line). same (up (m .dewey)) g && eqb (m .entry) c) written)) d
-      ∙ lines-number t one s ws some (f .levels) deep l hl c (subst (λ e. Has c (children s e)) k child)
-      ∙ ap (closestNumber t (kind s c)) (sym (one q (l .source) hq (row .0) (pq ∙ source)))
+      ap (λ i. getD (sourceList written) i 0 % entryUnit) place ∙ (omega (arith, listed, small)) in (
+        l .source,
+        row .0,
+        sym source,
+        λ c child.
+            ap (λ new. length (keep (λ (y : Node). same (up (y .dewey)) (x .dewey) && eqb (y .kind) c) new)) (read room)
+            ∙ nodes-kept (λ e g. same (up g) (x .dewey) && eqb e c) 0 written
+            ∙ ap (λ g. length (keep (λ (m : Line). same (up (m .dewey)) g && eqb (m .entry) c) written)) d
+            ∙ lines-number t one s ws some (f .levels) deep l hl c (subst (λ e. Has c (children s e)) k child),
+      )
 
   -- judging is accepted
   judge-accepted : judge f b sb .number ≡ 0
@@ -219,7 +223,8 @@ module _ (f : Format) (b sb : List ℕ) (w : Work) (passed : tests1-7 f b sb ≡
       let range = judge-children f b sb judge-accepted c (child-pos s ws (x .kind) c lx lc wc) (omega (arith, entries-size f b sb w passed)) in
       let (lo, hi) = range .between q
       (of-kind t (kind s (parent s c)) q (subst (λ e. In s ws t e q) (sym (child-parent s ws (x .kind) c lx wc)) iq)) in
-      let number = shown x hx q (iq .0) pq c child in
+      let (p, hp, pp, each) = shown x hx in
+      let number = each c child ∙ ap (closestNumber t (kind s c)) (one p q hp (iq .0) (pp ∙ sym pq)) in
       (omega (arith, lo, number), omega (arith, hi, number))
 
 -- A reshape that is accepted.
@@ -230,7 +235,8 @@ module _ (f : Format) (b sb table sources : List ℕ) (accepted : reshape f b sb
   abbrev wrote : Wrote f b sb table sources
   wrote = reshape-writes f b sb table sources accepted
 
-  -- THE LINES BENEATH A LINE of the lent bytes and places at exit: of each child entry as many as its source row has closest rows of its type.
+  -- THE LINES BENEATH A LINE of the lent bytes and places at exit: its source row is a row, and of each child entry there are as many as that row
+  -- has closest rows of its type.
   pub reshape-children : ChildrenShown f b sb (take (left .reply .rest * rowBytes f) (left .table)) (take (left .reply .rest) (left .sources))
   reshape-children =
       subst₂ (ChildrenShown f b sb) (sym (new-left f b sb table sources wrote)) (sym (sources-left f b sb table sources wrote))

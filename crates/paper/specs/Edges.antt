@@ -59,11 +59,12 @@ module _ (f : Format) (table shape : List ℕ) where
     abbrev pub linesUnder : Node → ℕ → List Node
     linesUnder x c = keep (λ (y : Node). same (up (y .dewey)) (x .dewey) && eqb (y .kind) c) (newNodes f new sources)
 
-    -- Directly beneath each line stand of each child entry as many lines as its source row has closest rows of that entry's type.
+    -- Each line's source row is a row of the table, and directly beneath the line stand of each child entry as many lines as that row has closest
+    -- rows of that entry's type.
     abbrev pub ChildrenShown : Type 0
     ChildrenShown =
-        (x : Node) → Has x (newNodes f new sources) → (q : Node) → Has q t → q .place ≡ sourceRow sources x → (c : ℕ) → Has c (children s (x .kind))
-        → length (linesUnder x c) ≡ closestNumber t (kind s c) q
+        (x : Node) → Has x (newNodes f new sources) → (q : Node) × Has q t × (q .place ≡ sourceRow sources x)
+        × ((c : ℕ) → Has c (children s (x .kind)) → length (linesUnder x c) ≡ closestNumber t (kind s c) q)
 
     -- Their number lies between the least and the greatest number of children that judging says of that entry.
     abbrev pub ChildrenBetween : Type 0

@@ -45,7 +45,8 @@ pub record Reshapes (f : Format) (t s new sources : List ℕ) (r : Reshaped) (ne
       → NothingMadeUp f t s (take (r .lines * rowBytes f) new′) (take (r .lines) sources′)
   -- Where the verdict is 1 with entry e and row i, no place of the source list among the lines written is e × 65,536 + i.
   pub named-unshown : r .number ≡ 0 → (e i : ℕ) → judge f t s .rest .verdict ≡ missing e i → unshown e i (take (r .lines) sources′) ≡ true
-  -- Directly beneath each line stand of each child entry as many lines as its source row has closest rows of that entry's type.
+  -- Each line's source row is a row of t, and directly beneath the line stand of each child entry as many lines as that row has closest rows of
+  -- that entry's type.
   pub children : r .number ≡ 0 → ChildrenShown f t s (take (r .lines * rowBytes f) new′) (take (r .lines) sources′)
   -- They are no fewer than the least and no more than the greatest number of children that judging says of that entry.
   pub between : r .number ≡ 0 → ChildrenBetween f t s (take (r .lines * rowBytes f) new′) (take (r .lines) sources′)

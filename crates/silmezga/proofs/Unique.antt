@@ -125,7 +125,8 @@ pub reshape-leaves-source : (κs : _) (a : _) (r : Reshaped) (e : _) → reshape
     → SoundSource (formatOf (a .0)) (now (a .1 .1 .0)) (take (r .lines * rowBytes (formatOf (a .0))) (now (e .1 .1 .1 .0))) (r .lines)
 reshape-leaves-source κs a r e x = reshaping.sound-promised x
 
--- where the reshape is accepted, directly beneath each line stand of each child entry as many lines as its source row has closest rows of its type
+-- where the reshape is accepted, each line's source row is a row, and directly beneath the line stand of each child entry as many lines as that row
+-- has closest rows of its type
 pub reshape-shows-children : (κs : _) (a : _) (r : Reshaped) (e : _) → reshape.Learnt κs a r e → r .number ≡ 0
     → ChildrenShown (formatOf (a .0)) (now (a .1 .0)) (now (a .1 .1 .0)) (take (r .lines * rowBytes (formatOf (a .0))) (now (e .1 .1 .1 .0))) (take (r .lines) (now (e .1 .1 .1 .1 .0)))
 reshape-shows-children κs a r e x = reshaping.children-promised x
