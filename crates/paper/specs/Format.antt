@@ -14,11 +14,11 @@ Format = Declared.Format
 abbrev pub format : ℕ → ℕ → Format
 format levels labels = record { levels = levels; labels = labels }
 
--- levels 1 to 6, labels 1 to 99
+-- the narrow width: levels 1 to 6, labels 1 to 99
 unfoldable pub base : Format
 base = format 6 99
 
--- levels 1 to 8, the same labels
+-- the wide one: levels 1 to 8, the same labels
 unfoldable pub eight : Format
 eight = format 8 99
 
@@ -40,18 +40,18 @@ mostLines = 4096
 abbrev pub headBytes : ℕ
 headBytes = 4
 
--- a 16-bit number for each level
+-- a 16-bit number for each level (12 bytes on six levels, 16 on eight)
 abbrev pub listBytes : Format → ℕ
 listBytes f = 2 * f .levels
 
 abbrev pub valueBytes : ℕ
 valueBytes = 8
 
--- a record of a table (24 in the base, 28 on eight levels)
+-- a record of a table (24 bytes on six levels, 28 on eight)
 abbrev pub rowBytes : Format → ℕ
 rowBytes f = headBytes + listBytes f + valueBytes
 
--- a record of a shape (16 in the base, 20 on eight levels)
+-- a record of a shape (16 bytes on six levels, 20 on eight)
 abbrev pub entryBytes : Format → ℕ
 entryBytes f = headBytes + listBytes f
 

@@ -15,7 +15,7 @@ pub record Entry : Type 0 where
   pub level : ℕ  -- byte 0
   pub size : ℕ  -- byte 1, the length of its type
   pub spare : ℕ  -- bytes 2–3
-  pub labels : List ℕ  -- bytes 4–15, one label for each level of the format
+  pub labels : List ℕ  -- bytes 4–15 on six levels, 4–19 on eight: one label for each level of the format
 
 unfoldable pub entryOf : Format → List ℕ → Entry
 entryOf f b = record { level = byte b 0; size = byte b 1; spare = word b 2; labels = words (f .levels) b headBytes }
@@ -34,7 +34,7 @@ abbrev pub levelKept : ℕ → ℕ → Bool
 levelKept zero l = eqb l 1
 levelKept (suc before) l = between 2 l (suc (suc before))
 
--- level and length 1 to 6, bytes 2–3 zero, labels 1 to 99 within the length and zero past it
+-- level and length 1 to the number of levels (6 or 8), bytes 2–3 zero, labels 1 to the largest (99) within the length and zero past it
 unfoldable pub entryKept : Format → ℕ → Entry → Bool
 entryKept f before e =
     between 1 (e .level) (f .levels) && between 1 (e .size) (f .levels) && eqb (e .spare) 0

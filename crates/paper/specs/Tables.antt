@@ -13,8 +13,8 @@ pub record Row : Type 0 where
   pub level : ℕ  -- byte 0
   pub spare : ℕ  -- byte 1
   pub label : ℕ  -- bytes 2–3
-  pub components : List ℕ  -- bytes 4–15, one component for each level of the format
-  pub value : List ℕ  -- bytes 16–23
+  pub components : List ℕ  -- bytes 4–15 on six levels, 4–19 on eight: one component for each level of the format
+  pub value : List ℕ  -- the eight bytes past them: 16–23 on six levels, 20–27 on eight
 
 unfoldable pub rowOf : Format → List ℕ → Row
 rowOf f b = record {
@@ -33,7 +33,7 @@ rowBack r = r .level ∷ r .spare ∷ bytes 2 (r .label) ++ joinMap (bytes 2) (r
 unfoldable pub rows : Format → List ℕ → List Row
 rows f b = map (rowOf f) (records (rowBytes f) (whole (rowBytes f) b) b)
 
--- A row is handed on as its own bytes (24 in the base) from the middle of the table.
+-- A row is handed on as its own bytes (24 on six levels, 28 on eight) from the middle of the table.
 abbrev pub rowPart : Format → List ℕ → ℕ → List ℕ
 rowPart f b i = take (rowBytes f) (drop (rowBytes f * i) b)
 
@@ -41,7 +41,7 @@ abbrev pub dewey : Row → List ℕ
 dewey r = take (r .level) (r .components)
 
 -- ---- the row rules
--- level 1 to 6, byte 1 zero, label 1 to 99, components past the level zero
+-- level 1 to the number of levels (6 or 8), byte 1 zero, label 1 to the largest (99), components past the level zero
 unfoldable pub fieldsKept : Format → Row → Bool
 fieldsKept f r =
     between 1 (r .level) (f .levels) && eqb (r .spare) 0 && between 1 (r .label) (f .labels) && all (eqb 0) (drop (r .level) (r .components))
@@ -53,7 +53,8 @@ raised (x ∷ []) = suc x ∷ []
 raised (x ∷ y ∷ ys) = x ∷ raised (y ∷ ys)
 
 -- Each later row is either the previous number with a component 1 added at its end, or the previous number cut after some
--- component, that component raised by one. (Row 0 has Dewey number 1: it follows the empty number. No row has level 0.)
+-- component, that component raised by one. (Row 0 has Dewey number 1: it follows the empty number. By this rule alone the empty number would
+-- follow every number, itself too; that a level is at least 1, by `fieldsKept`, shuts it out.)
 unfoldable pub follows : List ℕ → List ℕ → Bool
 follows p d = same d (p ++ (1 ∷ [])) || same d (raised (take (length d) p))
 
