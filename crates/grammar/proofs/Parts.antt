@@ -38,11 +38,7 @@ parts-first (b ∷ bs) rest e =
     let h = both (not (eqb b dot)) (undotted bs) e in
     parts-other b (bs ++ dot ∷ rest) (not-true (eqb b dot) (h .0)) ∙ ap (onto b) (parts-first bs rest (h .1))
 
--- the byte before each, and the byte between them
-pub followed-cons : (c : ℕ) (p : List ℕ) (ps : List (List ℕ)) → followed c (p ∷ ps) ≡ c ∷ parted c (p ∷ ps)
-unfolding followed parted
-followed-cons c p ps = refl
-
+-- the byte between them
 pub parted-cons : (c : ℕ) (p q : List ℕ) (ps : List (List ℕ)) → parted c (p ∷ q ∷ ps) ≡ p ++ c ∷ parted c (q ∷ ps)
 unfolding followed parted
 parted-cons c p q ps = refl

@@ -1,6 +1,5 @@
 -- What is read from converted records: the rows and entries with their labels converted, and every other byte as it was. Assumes nothing.
 use Prim.Native.Nat.{ℕ, zero, suc, _+_, _-_, _*_, _%_, _≤_, _<_}
-use native.Mathlib.Nat.{mul-mod-left}
 use native.Mathlib.Omega.{arith}
 use mathlib.Core.Path.{_≡_, refl, sym, _∙_, ap, ap₂, subst}
 use mathlib.Core.Logic.{inl, inr}
@@ -141,9 +140,6 @@ module _ (ps : List Pair) (i n w : ℕ) (pos : 0 < w) (le : i + 2 * n ≤ w) (b 
   -- A converted file of whole records is as long as it was.
   pub length-same : length b % w ≡ 0 → length (recordsWith ps i n w b) ≡ length b
   length-same even = length-whole ∙ whole-length w b even
-
-  pub whole-same : length (recordsWith ps i n w b) % w ≡ 0
-  whole-same = ap (λ k. k % w) length-whole ∙ mul-mod-left (whole w b) w
 
   -- what is read of it
   read-with : {A : Type 0} (read : List ℕ → A) (to : A → A) → ((r : List ℕ) → Has r rs → read (recordWith ps i n r) ≡ to (read r))

@@ -64,10 +64,6 @@ module _ (f : Format) (b s l lent-table lent-shape : List ℕ) where
   abbrev answer : Answer Given
   answer = converting f b s ps (length lent-table) (length lent-shape)
 
-  same-call : convert f b s l lent-table lent-shape ≡ left lent-table lent-shape answer
-  unfolding convert
-  same-call = refl
-
   pub call-refused : (k p : ℕ) → converting f b s (pairs l) (length lent-table) (length lent-shape) ≡ refused k p
       → Converts (convert f b s l lent-table lent-shape) (record { number = k; place = p; rows = 0; entries = 0 }) lent-table lent-shape
   unfolding convert

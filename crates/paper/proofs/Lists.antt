@@ -162,10 +162,6 @@ module _ {A : Type 0} where
   most-from f (z ∷ zs) h = most-reached f z zs
 
   -- ---- empty lists
-  pub none-in : (xs : List A) → isEmpty xs ≡ true → (x : A) → Has x xs → ⊥
-  none-in [] e x h = h
-  none-in (z ∷ zs) e x h = false≢true e
-
   pub some-in : (xs : List A) → isEmpty xs ≡ false → (x : A) × Has x xs
   some-in [] e = absurd (true≢false e)
   some-in (z ∷ zs) e = (z, inl refl)

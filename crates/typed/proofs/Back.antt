@@ -7,10 +7,10 @@ use mathlib.Core.Path.{_≡_, refl, sym, _∙_, ap, ap₂}
 use mathlib.Core.Logic.{inl, inr}
 use mathlib.Core.Bool.{Bool, true, false}
 use mathlib.Core.List.{List, [], _∷_, _++_, map}
-use lib.Dec.{eqb, ltb}
+use lib.Dec.{eqb}
 use lib.ListN.{length, getD, take, drop, length-take, drop-of-length-le}
 use lib.Seq.{sets, drop-cons, getD-take, length-take-le}
-use borrow.Author.Tests.{eqb-true, eqb-false, lt-ltb, le-ltb}
+use borrow.Author.Tests.{eqb-true, eqb-false}
 use Rattle.paper.specs.Lists.{Has, keep, place, firstOr}
 use Rattle.paper.specs.Format.{Format, mostTypes, entryBytes}
 use Rattle.paper.proofs.Lists.{getD-has}
@@ -78,28 +78,7 @@ first-kept p d (x ∷ xs) = go (p x) refl (first-kept p d xs)
     go true e ih = ap (firstOr d) (keep-here p x xs e) ∙ sym (ap (λ n. getD (x ∷ xs) n d) (place-here p x xs e))
     go false e ih = ap (firstOr d) (keep-later p x xs e) ∙ ih ∙ sym (ap (λ n. getD (x ∷ xs) n d) (place-later p x xs e))
 
--- where one is kept, its place is in the list
-pub kept-place : {A : Type 0} (p : A → Bool) (xs : List A) → 0 < length (keep p xs) → place p xs < length xs
-kept-place p [] lt = lt
-kept-place p (x ∷ xs) lt = go (p x) refl (kept-place p xs)
-  where
-    go : (b : Bool) → p x ≡ b → (0 < length (keep p xs) → place p xs < length xs) → place p (x ∷ xs) < length (x ∷ xs)
-    go true e ih = omega (arith, place-here p x xs e)
-    go false e ih = omega (arith, place-later p x xs e, ih (omega (arith, ap length (keep-later p x xs e))))
-
 module _ (ts : List (List ℕ)) (few : length ts ≤ mostTypes) where
-  -- a name has a number of a type exactly if it matches one
-  pub sole-known : (e : Wanted) → eqb (length (matched ts e)) 1 ≡ ltb (soleNumber ts (e .name)) (length ts)
-  unfolding matched
-  sole-known e = go (eqb (length (keep (matches (e .name)) ts)) 1) refl
-    where
-      go : (b : Bool) → eqb (length (keep (matches (e .name)) ts)) 1 ≡ b → b ≡ ltb (soleNumber ts (e .name)) (length ts)
-      go true q =
-          let one = eqb-true (length (keep (matches (e .name)) ts)) 1 q in
-          sym (lt-ltb (soleNumber ts (e .name)) (length ts) (omega (arith, sole-one ts (e .name) one, kept-place (matches (e .name)) ts (omega (arith, one)))))
-      go false q =
-          sym (le-ltb (soleNumber ts (e .name)) (length ts) (omega (arith, sole-none ts (e .name) (eqb-false (length (keep (matches (e .name)) ts)) 1 q))))
-
   -- that type is the one
   sole-type : (e : Wanted) → soleNumber ts (e .name) < length ts → getD ts (soleNumber ts (e .name)) [] ≡ firstOr [] (matched ts e)
   unfolding matched
