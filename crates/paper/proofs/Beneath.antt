@@ -13,7 +13,7 @@ use borrow.Author.Tests.{eqb-true, eqb-false, eq-eqb}
 use Rattle.paper.specs.Lists.{Has, keep, joined, joinMap, count, same, up}
 use Rattle.paper.specs.Format.{Format, rowBytes}
 use Rattle.paper.specs.Tables.{rows}
-use Rattle.paper.specs.Closeness.{Node, nodes, closestOf, closestNumber}
+use Rattle.paper.specs.Closeness.{Node, closestOf, closestNumber}
 use Rattle.paper.specs.Shapes.{Shape, kind, way, parent, children}
 use Rattle.paper.specs.NewTable.{Line, beneath, tops, lines, newTable, sourceList, entryUnit}
 use Rattle.paper.specs.Calls.{given, _>>=_, reply, noJudgement, Work, Reshaping, tests1-7, judgeRows, judge, reshape}
