@@ -1,20 +1,27 @@
 -- What reading answers once each test is known. Assumes nothing.
 use Prim.Native.Nat.{ℕ, _<_}
+use native.Mathlib.Omega.{arith}
 use mathlib.Core.Path.{_≡_, refl, sym, _∙_, ap}
 use mathlib.Core.Bool.{true, false}
 use mathlib.Core.List.{List}
-use mathlib.Core.Option.{Option, none, some}
 use lib.ListN.{length}
 use borrow.Author.Tests.{lt-ltb}
 use Rattle.paper.specs.Format.{Format}
-use Rattle.paper.specs.Tables.{Row, types}
-use Rattle.paper.specs.Calls.{Answer, refused, given, _>>=_, refuseAt, typeTooMany, tests1-3, tests1-4}
+use Rattle.paper.specs.Tables.{Row, rows, types}
+use Rattle.paper.specs.Calls.{Answer, refused, given, _>>=_, tests1-4}
+use Rattle.bytes.specs.Served.{Served}
+use Rattle.closest.specs.Rows.{RowsIn}
+use Rattle.closest.specs.declared.rows.RowsRead.{RowsRead}
 use Rattle.grammar.specs.Grammar.{tokens}
 use Rattle.grammar.specs.Typed.{Wanted, mostText, shaping, reading, Reading, readAs, ReadTree}
 use Rattle.grammar.specs.Reader.{first, walk, told, saidOf}
-use Rattle.grammar.proofs.NamesRead.{NamesRead}
+use Rattle.grammar.proofs.Fitting.{types-fit}
+use Rattle.grammar.proofs.Named.{names-read}
 use Rattle.grammar.proofs.Right.{said-right}
-use Rattle.typed.specs.Read.{readingOf, shapedAs}
+use Rattle.typed.specs.Entries.{Within}
+use Rattle.typed.specs.Matching.{Listed}
+use Rattle.typed.specs.Read.{ReadsTree, readingOf, shapedAs}
+use Rattle.typed.specs.declared.read.TreeRead.{TreeRead}
 use Rattle.typed.proofs.Shaped.{Given, left}
 
 -- a text that is too long
@@ -24,7 +31,7 @@ long-text f text lt =
     ap (λ t. elim t as (λ _. Answer (List Wanted)) [ true ↦ refused 12 mostText | false ↦ told text (walk f first 0 (tokens text)) ])
     (lt-ltb mostText (length text) lt)
 
-module _ (f : Format) (names : NamesRead f) (b text lent : List ℕ) where
+module _ (f : Format) (labelled : 0 < f .labels) (b text lent : List ℕ) where
   -- what follows the tests of the table
   abbrev follows : Answer (List Wanted) → List Row → Answer Given
   follows said rs = said >>= (λ (es : List Wanted). shaping f (types rs) es (length lent))
@@ -37,31 +44,29 @@ module _ (f : Format) (names : NamesRead f) (b text lent : List ℕ) where
   unfolding readAs reading
   read-is x a said et es e = record {
     said = saidOf f text;
-    says = said-right f names text;
+    says = said-right f (names-read f labelled) text;
     answer = e ∙ sym (λ i. tabled (et i) (es i));
   }
 
-  abbrev Left : ℕ → ℕ → Type 0
-  Left k p = ReadTree f b text lent (readingOf (record { number = k; place = p; entries = 0 }) lent)
+  module _ {k p : ℕ} (r : TreeRead) (is : r ≡ record { number = k; place = p; entries = 0 }) where
+    as-refused : readingOf r lent ≡ readingOf (record { number = k; place = p; entries = 0 }) lent
+    as-refused = ap (λ x. readingOf x lent) is
 
-  pub table-refused : (k p : ℕ) → tests1-3 f b ≡ refused k p → Left k p
-  unfolding tests1-4
-  table-refused k p e =
-      read-is _ (refused k p) _ (ap (λ (a : Answer (List Row)). a >>= (λ rs. refuseAt 4 (typeTooMany rs) >>= (λ _. given rs))) e) refl refl
+    pub table-refused : tests1-4 f b ≡ refused k p → ReadsTree f b text lent r lent
+    table-refused e = read-is _ (refused k p) _ e refl as-refused
 
-  module _ (rs : List Row) (table : tests1-3 f b ≡ given rs) where
-    counted : (o : Option ℕ) → typeTooMany rs ≡ o → tests1-4 f b ≡ refuseAt 4 o >>= (λ _. given rs)
-    unfolding tests1-4
-    counted o e =
-        ap (λ (a : Answer (List Row)). a >>= (λ rs. refuseAt 4 (typeTooMany rs) >>= (λ _. given rs))) table ∙ ap (λ o. refuseAt 4 o >>= (λ _. given rs)) e
+    pub text-refused : tests1-4 f b ≡ given (rows f b) → saidOf f text ≡ refused k p → ReadsTree f b text lent r lent
+    text-refused table e = read-is _ (given (rows f b)) (refused k p) table e as-refused
 
-    pub types-refused : (p : ℕ) → typeTooMany rs ≡ some p → Left 4 p
-    types-refused p e = read-is _ (refused 4 p) _ (counted (some p) e) refl refl
+  pub text-shaped : tests1-4 f b ≡ given (rows f b) → (es : List Wanted) → saidOf f text ≡ given es → (x : Reading)
+      → x ≡ shapedAs f (types (rows f b)) es lent → ReadTree f b text lent x
+  unfolding shapedAs
+  text-shaped table es e x is = read-is x (given (rows f b)) (given es) table e is
 
-    module _ (few : typeTooMany rs ≡ none) where
-      pub text-refused : (p : ℕ) → saidOf f text ≡ refused 12 p → Left 12 p
-      text-refused p e = read-is _ (given rs) (refused 12 p) (counted none few) e refl
+-- ---- the types of the rows that were read
+module _ {f : Format} {b : List ℕ} {r : RowsRead} {levels ks : List ℕ} (read : RowsIn f b r levels ks) where
+  pub types-within : Within f (types (rows f b))
+  types-within v h = types-fit f (rows f b) (read .levelled .typed .sound .kept) v h .most
 
-      pub text-shaped : (es : List Wanted) → saidOf f text ≡ given es → (x : Reading) → x ≡ shapedAs f (types rs) es lent → ReadTree f b text lent x
-      unfolding shapedAs
-      text-shaped es e x is = read-is x (given rs) (given es) (counted none few) e is
+  pub types-listed : Served f → Listed (types (rows f b)) (r .parents) (r .labels) (r .count)
+  types-listed served = record { told = read .told; short = λ v h. let deep = served .shallow in omega (arith, deep, types-within v h) }

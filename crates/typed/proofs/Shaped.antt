@@ -134,20 +134,21 @@ module _ (f : Format) (ts : List (List ℕ)) (es : List Wanted) (lent : List ℕ
                 sym (shaped-is false _ _ true not-many not-deep all-matched
                 (lt-ltb (length lent) (length (shapeBack f ts es)) (omega (arith, lt, shape-length f ts es, ap (λ n. entryBytes f * n) (of .count-is)))))
 
-            pub shaped : entryBytes f * w .entries ≤ length lent → (new : List ℕ) → new ≡ sets lent 0 (shapeBack f ts es)
-                → readingOf (record { number = 0; place = 0; entries = w .entries }) new ≡ shapedAs f ts es lent
-            shaped room new put =
-                let fits : length (shapeBack f ts es) ≤ length lent =
-                omega (arith, room, shape-length f ts es, ap (λ n. entryBytes f * n) (of .count-is)) in
-                ap₂ (λ n (s : List ℕ). readingOf (record { number = 0; place = 0; entries = n }) s) (of .count-is)
-                (put ∙ front-written lent (shapeBack f ts es) fits)
-                ∙ sym (shaped-is false _ _ false not-many not-deep all-matched (le-ltb (length lent) (length (shapeBack f ts es)) fits))
-
             -- what the records of the entries are
-            pub written : entriesBack f ts (take (w .entries) (w .levels)) (take (w .entries) (w .types)) ≡ shapeBack f ts es
+            written : entriesBack f ts (take (w .entries) (w .levels)) (take (w .entries) (w .types)) ≡ shapeBack f ts es
             written =
                 ap₂ (entriesBack f ts) all-levels all-types
                 ∙ shape-back ts (omega (arith, count-is, count-few)) f es (λ e h.
                 let passes : leb count (soleNumber ts (e .name)) ≡ false =
                 number-none ts count count-is count-few e ∙ first-none (λ (e : Wanted). not (eqb (length (matched ts e)) 1)) es all-matched e h in
                 omega (arith, leb-false count (soleNumber ts (e .name)) passes, count-is))
+
+            pub shaped : entryBytes f * w .entries ≤ length lent → (new : List ℕ)
+                → new ≡ sets lent 0 (entriesBack f ts (take (w .entries) (w .levels)) (take (w .entries) (w .types)))
+                → readingOf (record { number = 0; place = 0; entries = w .entries }) new ≡ shapedAs f ts es lent
+            shaped room new put =
+                let fits : length (shapeBack f ts es) ≤ length lent =
+                omega (arith, room, shape-length f ts es, ap (λ n. entryBytes f * n) (of .count-is)) in
+                ap₂ (λ n (s : List ℕ). readingOf (record { number = 0; place = 0; entries = n }) s) (of .count-is)
+                (put ∙ ap (sets lent 0) written ∙ front-written lent (shapeBack f ts es) fits)
+                ∙ sym (shaped-is false _ _ false not-many not-deep all-matched (le-ltb (length lent) (length (shapeBack f ts es)) fits))
