@@ -11,11 +11,15 @@ use Rattle.paper.specs.Format.{Format, mostTypes}
 use Rattle.paper.specs.Tables.{Row, rows, types}
 use Rattle.paper.specs.Closeness.{Node, nodes}
 use Rattle.paper.specs.Adorned.{Summary, summary, summariesFrom, adorned}
-use Rattle.paper.proofs.Lists.{map-append}
-use Rattle.types.specs.declared.list.Types.{Types}
-use Rattle.types.proofs.Few.{few-from}
-use Rattle.closest.specs.Node.{Typed}
-use Rattle.adorned.specs.Told.{told, summaryAt, noSummary, placed, Listed, Counted}
+use Rattle.paper.proofs.Lists.{getD-has, map-append}
+use Rattle.paper.proofs.Tables.{rows-laid, one-level, listed-type, type-length}
+use Rattle.closest.specs.Node.{node}
+use Rattle.closest.specs.Rows.{RowsIn}
+use Rattle.closest.specs.declared.rows.RowsRead.{RowsRead}
+use Rattle.closest.proofs.Meets.{here, kind-at, place-in, is-node}
+use Rattle.adorned.specs.Runs.{TypeLevels}
+use Rattle.adorned.specs.Told.{told, summaryAt, noSummary, placed, Listed}
+use Rattle.adorned.proofs.Summaries.{type-number}
 use Rattle.adorned.specs.declared.TypeSummary.{TypeSummary}
 
 -- ---- places
@@ -85,28 +89,31 @@ module _ (rs : List Row) where
       ap (map told) (sym (take-append-drop k all)) ∙ map-append told (take k all) (drop k all)
       ∙ ap₂ {C = List Summary} (λ a b. a ++ b) (e ∙ take-all k (adorned rs) (omega (arith, n))) (z ∙ ap (λ m. replicate (mostTypes - m) noSummary) n)
 
--- ---- the type list of a table with no type too many
-module _ (f : Format) (n : ℕ) (t ks : List ℕ) (ty : Types) (c : Counted f n t ks ty) where
-  abbrev rs : List Row
-  rs = rows f t
+-- ---- the rows that were read
+module _ {f : Format} {t : List ℕ} {read : RowsRead} {levels ks : List ℕ} (rows-in : RowsIn f t read levels ks) where
+  -- a type is as long as its rows are deep
+  level-of : (found : List ℕ) → TypeLevels (read .rows) levels ks found → (k : ℕ) → k < length (types (rows f t))
+      → getD found k 0 ≡ length (getD (types (rows f t)) k [])
+  level-of found at k lt =
+      let rs = rows f t in
+      let n = read .rows in
+      let ty = rows-in .levelled .typed in
+      let kept = ty .sound .kept in
+      let v = getD (types rs) k [] in
+      let (x, hx, tx, kx) = listed-type f rs (rows-laid f t) kept v (getD-has [] (types rs) k lt) in
+      let inside = place-in f n t ks ty x hx in
+      let own : getD ks (x .place) 0 ≡ x .kind = kind-at f n t ks ty (x .place) inside ∙ ap (λ (y : Node). y .kind) (sym (is-node f n t ks ty x hx)) in
+      let (j, lj, same, is) = at (x .place) inside in
+      let alike : node f t j .kind ≡ x .kind = sym (kind-at f n t ks ty j lj) ∙ same ∙ own in
+      ap (λ z. getD found z 0) (sym (own ∙ kx ∙ type-number rs k lt)) ∙ is ∙ rows-in .levelled .level-is j lj
+      ∙ one-level f rs (rows-laid f t) kept (node f t j) x (here f n t ks ty j lj) hx alike ∙ sym (type-length f rs (rows-laid f t) kept x v tx)
 
-  late : length rs ≤ ty .over
-  late = omega (arith, c .rows-n, c .whole)
-
-  pub few : length (types (rows f t)) ≤ mostTypes
-  few = few-from rs (ty .over) (length rs) (c .lists .over) late
-
-  pub count-is : ty .count ≡ length (types (rows f t))
-  count-is = c .lists .count late
-
-  pub typed : Typed f n t ks
-  typed = record { sound = c .sound; rows-n = c .rows-n; listed = ap (λ m. take m ks) (c .rows-n) ∙ c .lists .typed late }
-
-  pub listed : (k p a i : ℕ) → k < ty .count → p ≡ getD (ty .parents) k 0 → a ≡ getD (ty .labels) k 0 → i ≡ getD (ty .first) k 0 → Listed (rows f t) k p a i
-  listed k p a i lt ep ea ei = record {
-    known = omega (arith, count-is);
-    few = few;
-    parent-is = ep ∙ c .lists .parent late k lt;
-    label-is = ea ∙ c .lists .label late k lt;
-    first-is = ei ∙ c .lists .first late k lt;
+  pub listed : (found : List ℕ) → TypeLevels (read .rows) levels ks found → (k p a l : ℕ) → k < read .count → p ≡ getD (read .parents) k 0
+      → a ≡ getD (read .labels) k 0 → l ≡ getD found k 0 → Listed (types (rows f t)) (read .parents) (read .labels) (read .count) k p a l
+  listed found at k p a l lt ep ea el = record {
+    told = rows-in .told;
+    known = lt;
+    parent-is = ep;
+    label-is = ea;
+    level-is = el ∙ level-of found at k (omega (arith, rows-in .told .count-is));
   }

@@ -1,37 +1,39 @@
 -- The summary of a type, figure by figure. Assumes nothing.
-use Prim.Native.Nat.{ℕ, _+_, _<_, pred}
+use Prim.Native.Nat.{ℕ, _<_, pred}
 use native.Mathlib.Nat.{not-suc-le-zero, lt-irrefl}
 use native.Mathlib.Omega.{arith}
 use mathlib.Core.Path.{_≡_, refl, sym, _∙_, ap, ap₂}
 use mathlib.Core.Bool.{Bool, true, false, false≢true}
-use mathlib.Core.List.{List, [], _∷_, _++_, map}
+use mathlib.Core.List.{List, [], _∷_, map}
 use lib.Dec.{eqb, leb}
-use lib.ListN.{length, getD, take, length-map, length-take}
+use lib.ListN.{length, getD, take, length-take}
 use borrow.Author.Tests.{eq-eqb, leb-true, leb-false}
 use Rattle.paper.specs.Lists
-use Rattle.paper.specs.Lists.{Has, keep, same, up}
-use Rattle.paper.specs.Format.{Format, mostTypes, rowBytes, byte, whole}
+use Rattle.paper.specs.Lists.{Has, keep, distinct, up}
+use Rattle.paper.specs.Format.{Format, mostTypes}
 use Rattle.paper.specs.Tables.{Row, rows, dewey, rowTypes, types, typeNumber}
 use Rattle.paper.specs.Closeness.{Node, nodes, ofKind}
 use Rattle.paper.specs.Adorned.{Summary, childrenOf, summary}
 use Rattle.paper.proofs.Lists.{getD-has}
 use Rattle.paper.proofs.Closeness.{Of}
-use Rattle.paper.proofs.Tables.{rows-laid, nodes-numbered, sound-forest, sound-pos, one-level, type-of, type-listed, listed-type, type-length, ancestor, number-at, number-same, distinct-has, length-ways, step}
+use Rattle.paper.proofs.Tables.{rows-laid, nodes-numbered, sound-forest, sound-pos, one-level, ancestor}
+use Rattle.paper.proofs.Tables.{type-of, type-listed, type-length, number-at, number-same}
 use Rattle.paper.proofs.Adorned.{distinct-once, figures, root-figures}
-use Rattle.paper.proofs.Calls.{count-rows}
-use Rattle.tables.proofs.Rows.{rec}
 use Rattle.types.specs.Types.{parentOf}
-use Rattle.types.proofs.Ways.{way-whole}
-use Rattle.types.proofs.Pass.{once-number, long}
-use Rattle.types.proofs.Listed.{in-ways, l-is, a-is, l-pos, l-next}
+use Rattle.types.proofs.Pass.{once-number}
 use Rattle.closest.specs.Node.{Typed}
 use Rattle.closest.proofs.Counts.{kinds-of, kinds-count}
 use Rattle.adorned.specs.Runs.{runs}
 use Rattle.adorned.specs.Told.{Listed, summaryAt}
 use Rattle.adorned.proofs.Children.{runs-counts}
 
-module _ (f : Format) (n : ℕ) (t ks : List ℕ) (ty : Typed f n t ks) (k parent label first : ℕ)
-    (li : Listed (rows f t) k parent label first) where
+-- the type at a place has that number
+pub type-number : (rs : List Row) (k : ℕ) → k < length (types rs) → typeNumber (types rs) (getD (types rs) k []) ≡ k
+unfolding types
+type-number rs k lt = once-number (distinct (rowTypes rs)) (distinct-once (rowTypes rs)) k lt
+
+module _ {f : Format} {n : ℕ} {t ks : List ℕ} (ty : Typed f n t ks) {parents labels : List ℕ} {count k parent label level : ℕ}
+    (li : Listed (types (rows f t)) parents labels count k parent label level) where
   abbrev rs : List Row
   rs = rows f t
 
@@ -42,40 +44,14 @@ module _ (f : Format) (n : ℕ) (t ks : List ℕ) (ty : Typed f n t ks) (k paren
   abbrev v : List ℕ
   v = getD (types (rows f t)) k []
 
+  known : k < length ts
+  known = omega (arith, li .known, li .told .count-is)
+
   listed : Has v ts
-  listed = getD-has [] ts k (li .known)
+  listed = getD-has [] ts k known
 
   number : typeNumber ts v ≡ k
-  unfolding types
-  number = once-number ts (distinct-once (rowTypes rs)) k (li .known)
-
-  -- a type is not empty
-  whole-type : (u : List ℕ) × (c : ℕ) × (v ≡ u ++ (c ∷ []))
-  unfolding types rowTypes
-  whole-type = way-whole [] (map step rs) v (distinct-has v (rowTypes rs) listed)
-
-  some : 0 < length v
-  some = let (u, c, e) = whole-type in omega (arith, ap length e, lib.ListN.length-append u (c ∷ []))
-
-  -- ---- the first row has the type, and its level is the type's length
-  first-row : (first < length rs) × (getD (rowTypes rs) first [] ≡ v)
-  unfolding types typeNumber rowTypes
-  first-row =
-      let (lt, e) = number-at v (rowTypes rs) (distinct-has v (rowTypes rs) listed) in
-      (omega (arith, lt, li .first-is, length-ways [] (map step rs), length-map rs step), ap (λ i. getD (rowTypes rs) i []) (li .first-is) ∙ e)
-
-  pub first-in : first < whole (rowBytes f) t
-  first-in = omega (arith, first-row .0, count-rows f t)
-
-  pub level-is : byte (rec (rowBytes f) first t) 0 ≡ length (getD (types (rows f t)) k [])
-  unfolding rowTypes
-  level-is =
-      let b = rec (rowBytes f) first t in
-      let l = byte b 0 in
-      let a = Rattle.paper.specs.Format.word b 2 in
-      let s = ty .sound .kept in
-      sym (long (map step rs) first l a (in-ways f t s first first-in l a refl refl) (l-is f t s first first-in l a refl refl) (a-is f t s first first-in l a refl refl)
-      (l-pos f t s first first-in l a refl refl) (l-next f t s first first-in l a refl refl)) ∙ ap length (first-row .1)
+  number = type-number rs k known
 
   -- ---- root or not
   at-root : (u : List ℕ) → length u ≡ 1 → parentOf ts (up u) ≡ mostTypes
@@ -90,47 +66,45 @@ module _ (f : Format) (n : ℕ) (t ks : List ℕ) (ty : Typed f n t ks) (k paren
 
   -- the parent type is listed
   up-listed : 1 < length v → Has (up v) ts
-  up-listed deep =
-      let (c, hc, tc, kc) = listed-type f rs (rows-laid f t) (ty .sound .kept) v listed in
-      let l = type-length f rs (rows-laid f t) (ty .sound .kept) c v tc in
-      let (y, hy, ed, tyy, ky) = ancestor f rs (rows-laid f t) (ty .sound .kept) c v tc (pred (length v)) (omega arith) (omega arith) in
-      type-listed f rs (rows-laid f t) (ty .sound .kept) (y .dewey, up v) tyy
+  up-listed deep = li .told .above v listed (pred (length v)) (omega arith) (omega arith)
 
-  root-parent : length v ≡ 1 → parent ≡ mostTypes
-  root-parent e = li .parent-is ∙ at-root v e
+  parent-is : parent ≡ parentOf ts (up v)
+  parent-is = li .parent-is ∙ li .told .parent k (li .known)
+
+  label-is : label ≡ Lists.lastOr 0 v
+  label-is = li .label-is ∙ li .told .label k (li .known)
 
   deep-parent : 1 < length v → (parent ≡ typeNumber ts (up v)) × (parent < mostTypes)
   deep-parent deep =
-      let e = li .parent-is ∙ below-root v deep in
-      (e, omega (arith, e, number-at (up v) ts (up-listed deep) .0, li .few))
+      let e = parent-is ∙ below-root v deep in
+      (e, omega (arith, e, number-at (up v) ts (up-listed deep) .0, li .told .count-is, li .told .few))
 
   is-root : parent ≡ mostTypes → length v ≡ 1
   is-root e = go (leb 2 (length v)) refl
     where
       go : (b : Bool) → leb 2 (length v) ≡ b → length v ≡ 1
       go true q = let z : ⊥ = omega (arith, deep-parent (leb-true 2 (length v) q) .1) in absurd z
-      go false q = omega (arith, leb-false 2 (length v) q, some)
+      go false q = omega (arith, leb-false 2 (length v) q, li .told .whole v listed)
 
   is-deep : (parent ≡ mostTypes → ⊥) → 1 < length v
   is-deep ne = go (leb 2 (length v)) refl
     where
       go : (b : Bool) → leb 2 (length v) ≡ b → 1 < length v
       go true q = leb-true 2 (length v) q
-      go false q = absurd (ne (root-parent (omega (arith, leb-false 2 (length v) q, some))))
+      go false q = absurd (ne (parent-is ∙ at-root v (omega (arith, leb-false 2 (length v) q, li .told .whole v listed))))
 
   -- ---- a root type
-  pub root-summary : (c l : ℕ) → parent ≡ mostTypes → c ≡ length (keep (λ x. eqb x k) (take n ks)) → l ≡ byte (rec (rowBytes f) first t) 0
-      → record { parent = parent; label = label; level = l; rows = c; least = c; greatest = c }
-      ≡ summaryAt (rows f t) k
+  pub root-summary : (c : ℕ) → parent ≡ mostTypes → c ≡ length (keep (λ x. eqb x k) (take n ks))
+      → record { parent = parent; label = label; level = level; rows = c; least = c; greatest = c } ≡ summaryAt (rows f t) k
   unfolding summary
-  root-summary c l e ec el =
+  root-summary c e ec =
       let one = is-root e in
       let rc : c ≡ length (ofKind (nodes rs) k) = ec ∙ kinds-count f n t ks ty k in
       let (lo, hi) = root-figures (nodes rs) ts k v one in
       λ i. record {
         parent = (e ∙ sym (pick-true (eqb (length v) 1) mostTypes (typeNumber ts (up v)) (eq-eqb (length v) 1 one))) i;
-        label = li .label-is i;
-        level = (el ∙ level-is) i;
+        label = label-is i;
+        level = li .level-is i;
         rows = rc i;
         least = (rc ∙ sym lo) i;
         greatest = (rc ∙ sym hi) i;
@@ -166,23 +140,21 @@ module _ (f : Format) (n : ℕ) (t ks : List ℕ) (ty : Typed f n t ks) (k paren
           let (r, hr, er, tr, kr) = ancestor f rs la so s u tu (pred (length u)) (omega arith) (omega arith) in
           (r, (hr, kr ∙ ap (λ z. typeNumber ts (up z)) q), er ∙ ap (λ m. take (pred m) (s .dewey)) l)
 
-  pub deep-summary : (c l lo hi : ℕ) → (parent ≡ mostTypes → ⊥) → c ≡ length (keep (λ x. eqb x k) (take n ks)) → l ≡ byte (rec (rowBytes f) first t) 0
+  pub deep-summary : (c lo hi : ℕ) → (parent ≡ mostTypes → ⊥) → c ≡ length (keep (λ x. eqb x k) (take n ks))
       → lo ≡ Lists.least (runs parent k (take n ks)) → hi ≡ Lists.most (λ x. x) (runs parent k (take n ks))
-      → record { parent = parent; label = label; level = l; rows = c; least = lo; greatest = hi }
-      ≡ summaryAt (rows f t) k
+      → record { parent = parent; label = label; level = level; rows = c; least = lo; greatest = hi } ≡ summaryAt (rows f t) k
   unfolding summary
-  deep-summary c l lo hi ne ec el elo ehi =
+  deep-summary c lo hi ne ec elo ehi =
       let deep = is-deep ne in
       let cs = children-are deep in
       let (fp, fl, fg) = figures f rs (rows-laid f t) (ty .sound .kept) v listed deep in
       let own : Summary = summary (nodes rs) ts (typeNumber ts v) v in
       let same : own ≡ summary (nodes rs) ts k v = ap (λ m. summary (nodes rs) ts m v) number in
-      let at : map (childrenOf (nodes rs) k) (ofKind (nodes rs) (typeNumber ts (up v))) ≡ map (childrenOf (nodes rs) (typeNumber ts v)) (ofKind (nodes rs) (typeNumber ts (up v))) =
-      ap (λ m. map (childrenOf (nodes rs) m) (ofKind (nodes rs) (typeNumber ts (up v)))) (sym number) in
+      let at = ap (λ m. map (childrenOf (nodes rs) m) (ofKind (nodes rs) (typeNumber ts (up v)))) (sym number) in
       λ i. record {
         parent = (deep-parent deep .0 ∙ sym fp ∙ ap (λ (x : Summary). x .parent) same) i;
-        label = li .label-is i;
-        level = (el ∙ level-is) i;
+        label = label-is i;
+        level = li .level-is i;
         rows = (ec ∙ kinds-count f n t ks ty k) i;
         least = (elo ∙ ap Lists.least (cs ∙ at) ∙ sym fl ∙ ap (λ (x : Summary). x .least) same) i;
         greatest = (ehi ∙ ap (Lists.most (λ x. x)) (cs ∙ at) ∙ sym fg ∙ ap (λ (x : Summary). x .greatest) same) i;

@@ -1,31 +1,31 @@
 -- What the answers say, in the paper's terms. Assumes nothing.
-use Prim.Native.Nat.{ℕ, _-_, _≤_, _<_}
+use Prim.Native.Nat.{ℕ, _-_, _<_}
 use mathlib.Core.Path.{_≡_}
 use mathlib.Core.List.{List, [], _++_, map}
 use lib.ListN.{length, getD, replicate}
-use Rattle.paper.specs.Lists.{place, same, lastOr, up}
-use Rattle.paper.specs.Format.{Format, mostRows, mostTypes}
+use Rattle.paper.specs.Format.{Format, mostTypes}
 use Rattle.paper.specs.Tables as Tables
-use Rattle.paper.specs.Tables.{Row, rowTypes, types}
+use Rattle.paper.specs.Tables.{Row, types}
 use Rattle.paper.specs.Closeness.{nodes}
-use Rattle.paper.specs.Adorned.{Summary, summary}
+use Rattle.paper.specs.Adorned.{Summary, summary, adorned}
 use Rattle.paper.specs.Calls.{Reply, reply, adorning}
-use Rattle.types.specs.Types.{parentOf, Lists}
-use Rattle.types.specs.declared.list.Types.{Types}
-use Rattle.closest.specs.Node.{Sound}
+use Rattle.types.specs.Types.{Told}
+use Rattle.closest.specs.Node.{Typed}
+use Rattle.closest.specs.Rows.{RowsIn}
+use Rattle.closest.specs.declared.rows.RowsRead.{RowsRead}
 use Rattle.adorned.specs.declared.Adorned.{Adorned}
 use Rattle.adorned.specs.declared.TypeSummary.{TypeSummary}
 
 abbrev pub told : TypeSummary → Summary
 told r = record { parent = r .parent; label = r .label; level = r .level; rows = r .rows; least = r .least; greatest = r .greatest }
 
--- type k of the table has this parent type, last label and first row
-pub record Listed (rs : List Row) (k parent label first : ℕ) : Type 0 where
-  pub known : k < length (types rs)
-  pub few : length (types rs) ≤ mostTypes
-  pub parent-is : parent ≡ parentOf (types rs) (up (getD (types rs) k []))
-  pub label-is : label ≡ lastOr 0 (getD (types rs) k [])
-  pub first-is : first ≡ place (same (getD (types rs) k [])) (rowTypes rs)
+-- type k of the types ts, which the lists tell, has this parent type, last label and level
+pub record Listed (ts : List (List ℕ)) (parents labels : List ℕ) (count k parent label level : ℕ) : Type 0 where
+  pub told : Told ts parents labels count
+  pub known : k < count
+  pub parent-is : parent ≡ getD parents k 0
+  pub label-is : label ≡ getD labels k 0
+  pub level-is : level ≡ length (getD ts k [])
 
 -- the summary of type k
 abbrev pub summaryAt : List Row → ℕ → Summary
@@ -39,13 +39,14 @@ noSummary = record { parent = 0; label = 0; level = 0; rows = 0; least = 0; grea
 abbrev pub placed : List Summary → List Summary
 placed ss = ss ++ replicate (mostTypes - length ss) noSummary
 
--- the type list is that of this table of so many rows, whose type numbers are ks, and no type is one too many
-pub record Counted (f : Format) (rows : ℕ) (t ks : List ℕ) (ty : Types) : Type 0 where
-  pub sound : Sound f t
-  pub rows-n : rows ≡ length (Tables.rows f t)
-  pub lists : Lists (Tables.rows f t) ks ty
-  pub whole : rows ≤ ty .over
-  pub small : rows ≤ mostRows
+-- whatever table has rows of these types, and lists type k so, this is the summary of its type k
+abbrev pub Summarises : ℕ → List ℕ → ℕ → ℕ → ℕ → ℕ → TypeSummary → Type 0
+Summarises rows ks k parent label level r = (f : Format) (t parents labels : List ℕ) (count : ℕ) → Typed f rows t ks
+    → Listed (types (Tables.rows f t)) parents labels count k parent label level → told r ≡ summaryAt (Tables.rows f t) k
+
+-- whatever table these rows are read of, these are the summaries of its types
+abbrev pub SummariesOf : RowsRead → List ℕ → List ℕ → List TypeSummary → Type 0
+SummariesOf read levels ks all = (f : Format) (t : List ℕ) → RowsIn f t read levels ks → map told all ≡ placed (adorned (Tables.rows f t))
 
 -- the answer is this reply: its number, its place, the count of its summaries, and the summaries
 pub record Says (a : Reply (List Summary)) (r : Adorned) : Type 0 where

@@ -2,20 +2,18 @@
 // children of a row stand before the next row of its type.
 pub mod lent;
 
+use closest::rows::RowsRead;
+use closest::rows::read_rows;
 use paper::Format;
-use tables::table::examine;
-use types::list::Types;
-use types::list::list_types;
 ghost use mathlib.Core.Path.{_≡_};
 ghost use mathlib.Core.List.{[], map};
-ghost use Prim.Native.Nat.{_≤_, _<_};
+ghost use Prim.Native.Nat.{_≤_};
 ghost use lib.ListN.{length, take};
-ghost use Rattle.paper.specs.Tables as Tables;
-ghost use Rattle.paper.specs.Adorned.{adorned};
+ghost use Rattle.paper.specs.Format.{mostTypes};
 ghost use Rattle.bytes.specs.Served.{Served};
-ghost use Rattle.closest.specs.Node.{Typed};
-ghost use Rattle.adorned.specs.Runs.{runs, low, high, CountRange};
-ghost use Rattle.adorned.specs.Told.{Listed, Counted, told, summaryAt, noSummary, placed, Says, adornFigures};
+ghost use Rattle.closest.specs.Runs.{Rows};
+ghost use Rattle.adorned.specs.Runs.{runs, low, high, CountRange, TypeLevels};
+ghost use Rattle.adorned.specs.Told.{told, noSummary, placed, Summarises, SummariesOf, Says, adornFigures};
 
 // The least and the greatest of some counts.
 pub struct Range {
@@ -92,23 +90,32 @@ pub struct TypeSummary {
     pub greatest: usize,
 }
 
-// The summary of type k, from its parent type, its last label and its first row.
+// The level of each type: that of its rows.
+fn type_levels(levels: &[u8], types: &[u8], rows: usize) -> [u8; 64]
+    requires { ⌜ Rows rows (now levels) (now types) ⌝ }
+    ensures { λ r. ⌜ TypeLevels rows (now (levels .entry)) (now (types .entry)) r ⌝ }
+{
+    let mut found = [0u8; 64];
+    let mut i = 0;
+    while i < rows {
+        found[bytes::wide(types[i])] = levels[i];
+        i += 1;
+    }
+    found
+}
+
+// The summary of type k, from its parent type, its last label and its level.
 fn summary_of(
-    table: &[u8],
-    f: Format,
-    rows: usize,
     types: &[u8],
+    rows: usize,
     k: usize,
     parent: usize,
     label: usize,
-    first: usize,
+    level: usize,
 ) -> TypeSummary
-    requires { ⌜ Typed f rows (now table) (now types) × Listed (Tables.rows f (now table)) k parent label first ⌝ }
-    ensures { λ r. ⌜ told r ≡ summaryAt (Tables.rows f (now (table .entry))) k ⌝ }
+    requires { ⌜ rows ≤ length (now types) ⌝ }
+    ensures { λ r. ⌜ Summarises rows (now (types .entry)) k parent label level r ⌝ }
 {
-    let w = bytes::row_bytes(f);
-    let row = bytes::record(table, w, first);
-    let level = bytes::wide(row[0]);
     let c = closest::count_rows(types, rows, k);
     if parent == 64 {
         return TypeSummary {
@@ -159,32 +166,28 @@ fn no_summaries() -> [TypeSummary; 64]
     [none; 64]
 }
 
-// The summaries of a listed table, one a type in type order.
-fn summaries_of(
-    table: &[u8],
-    f: Format,
-    rows: usize,
-    types: &[u8],
-    listed: Types,
-) -> [TypeSummary; 64]
-    requires { ⌜ Counted f rows (now table) (now types) listed ⌝ }
-    ensures { λ r. ⌜ map told r ≡ placed (adorned (Tables.rows f (now (table .entry)))) ⌝ }
+// The summaries of the types of a table whose rows were read, one a type in type order.
+fn summaries_of(read: RowsRead, levels: &[u8], types: &[u8]) -> [TypeSummary; 64]
+    requires { ⌜ Rows (read .rows) (now levels) (now types) × (read .count ≤ mostTypes) ⌝ }
+    ensures { λ r. ⌜ SummariesOf read (now (levels .entry)) (now (types .entry)) r ⌝ }
 {
-    let count = listed.count;
+    let rows = read.rows;
+    let count = read.count;
+    let depths = type_levels(levels, types, rows);
     let mut all = no_summaries();
     let mut k = 0;
     while k < count {
-        let p = bytes::wide(listed.parents[k]);
-        let a = bytes::wide16(listed.labels[k]);
-        let i = bytes::wide16(listed.first[k]);
-        all[k] = summary_of(table, f, rows, types, k, p, a, i);
+        let p = bytes::wide(read.parents[k]);
+        let a = bytes::wide16(read.labels[k]);
+        let l = bytes::wide(depths[k]);
+        all[k] = summary_of(types, rows, k, p, a, l);
         k += 1;
     }
     all
 }
 
 fn refused(number: usize, place: usize) -> Adorned
-    ensures { λ r. ⌜ (r .number ≡ number) × (r .place ≡ place) × (r .count ≡ 0) × (map told (r .summaries) ≡ placed []) ⌝ }
+    ensures { λ r. ⌜ Says (record { number = number; place = place; rest = [] }) r ⌝ }
 {
     let none = no_summaries();
     Adorned {
@@ -200,24 +203,19 @@ pub fn adorn_by_value(table: &[u8], f: Format, lent: usize) -> Adorned
     requires { ⌜ Served f ⌝ }
     ensures { λ r. ⌜ Says (adornFigures f (now (table .entry)) lent) r ⌝ }
 {
-    let examined = examine(table, f);
-    let number = examined.number;
-    let place = examined.place;
-    let rows = examined.rows;
+    let mut levels = [0u8; 1024];
+    let mut types = [0u8; 1024];
+    let read = read_rows(table, f, &mut levels, &mut types);
+    let number = read.number;
+    let place = read.place;
     if number != 0 {
         return refused(number, place);
     }
-    let mut types = [0u8; 1024];
-    let listed = list_types(table, f, rows, &mut types);
-    let over = listed.over;
-    let count = listed.count;
-    if over < rows {
-        return refused(4, over);
-    }
+    let count = read.count;
     if lent < count {
         return refused(10, 0);
     }
-    let all = summaries_of(table, f, rows, &types, listed);
+    let all = summaries_of(read, &levels, &types);
     Adorned {
         number: 0,
         place: 0,
