@@ -30,7 +30,7 @@ use Rattle.partners.proofs.Closest.{numbers-are}
 use Rattle.partners.proofs.Rows.{own-joined}
 use Rattle.judging.specs.Lone.{aloneOf}
 use Rattle.judging.specs.Full.{FullBy}
-use Rattle.judging.specs.Judged.{numbersIn}
+use Rattle.judging.specs.Told.{numbersIn}
 use Rattle.judging.proofs.Closest.{alone-empty}
 use Rattle.judging.proofs.Entries.{entry-in, over-is, meets-up}
 

@@ -10,7 +10,8 @@ use Rattle.paper.proofs.Seam.{seam-refused}
 use Rattle.closest.specs.Rows.{Reads}
 use Rattle.closest.specs.declared.rows.RowsRead.{RowsRead}
 use Rattle.closest.proofs.Seam.{as-plain}
-use Rattle.judging.specs.Judged.{judged, inNumbers, JudgesRows}
+use Rattle.judging.specs.Judged.{judged, inNumbers}
+use Rattle.judging.specs.Told.{JudgesRows}
 use Rattle.judging.specs.declared.judge.Judged.{Judged}
 
 -- b is what the call that reads by these tests is to answer

@@ -10,8 +10,7 @@ use Rattle.paper.specs.Index.{testsIndex, judgeWith}
 use Rattle.paper.specs.Edges.{EdgesAgree}
 use Rattle.paper.proofs.Edges.{judge-agrees}
 use Rattle.paper.proofs.Index.{index-reads, judge-plain}
-use Rattle.judging.specs.Told.{numbersOf}
-use Rattle.judging.specs.Judged.{InNumbers, edgesOf, judged, inNumbers}
+use Rattle.judging.specs.Judged.{numbersOf, InNumbers, edgesOf, judged, inNumbers}
 use Rattle.judging.specs.declared.verdict.Verdict.{Verdict}
 use Rattle.judging.specs.declared.verdict.Verdict.the-variants.{Kept, Missing, Apart, Unsure}
 use Rattle.judging.specs.declared.judge.Judged.{Judged}

@@ -27,8 +27,8 @@ use Rattle.shapes.proofs.Inside.{way-inside, path-inside}
 use Rattle.shapes.proofs.Places.{way-place}
 use Rattle.partners.specs.Closest.{aloneRows}
 use Rattle.partners.specs.declared.edges.Edges.{Edges}
-use Rattle.judging.specs.Told.{told, numbersOf}
-use Rattle.judging.specs.Judged.{edgesOf, numbersIn, judged, inNumbers}
+use Rattle.judging.specs.Told.{told, numbersIn}
+use Rattle.judging.specs.Judged.{numbersOf, edgesOf, judged, inNumbers}
 use Rattle.judging.specs.declared.verdict.Verdict.{Verdict}
 use Rattle.judging.specs.declared.verdict.Verdict.the-variants.{Kept, Missing, Apart, Unsure}
 use Rattle.judging.specs.declared.judge.Judged.{Judged}

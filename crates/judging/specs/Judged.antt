@@ -1,17 +1,20 @@
--- What judging answers, in the paper's terms. Assumes nothing.
+-- What judging answers, in the paper's terms: what the public contracts name. Assumes nothing.
 use Prim.Native.Nat.{ℕ}
-use mathlib.Core.Path.{_≡_}
 use mathlib.Core.Bool.{Bool}
-use mathlib.Core.List.{List}
-use Rattle.paper.specs.Format.{Format}
+use mathlib.Core.List.{List, [], _∷_}
 use Rattle.paper.specs.Partners.{EdgeNumbers}
 use Rattle.paper.specs.Verdict.{Judgement, verdictNumbers}
-use Rattle.paper.specs.Calls.{Reply, judge}
-use Rattle.closest.specs.Rows.{RowsIn}
-use Rattle.closest.specs.declared.rows.RowsRead.{RowsRead}
-use Rattle.judging.specs.Told.{numbersOf}
-use Rattle.partners.specs.declared.edges.Edges.{Edges}
+use Rattle.paper.specs.Calls.{Reply}
+use Rattle.judging.specs.declared.verdict.Verdict.{Verdict}
+use Rattle.judging.specs.declared.verdict.Verdict.the-variants.{Kept, Missing, Apart, Unsure}
 use Rattle.judging.specs.declared.judge.Judged.{Judged}
+
+-- document 01's number of a verdict, and its values
+abbrev pub numbersOf : Verdict → List ℕ
+numbersOf Kept = 0 ∷ []
+numbersOf (Missing e r) = 1 ∷ e ∷ r ∷ []
+numbersOf (Apart e f) = 2 ∷ e ∷ f ∷ []
+numbersOf (Unsure e f) = 3 ∷ e ∷ f ∷ []
 
 -- document 01's number and values of a verdict, the second answer, and the numbers of each edge
 pub record InNumbers : Type 0 where
@@ -19,17 +22,9 @@ pub record InNumbers : Type 0 where
   pub noneApart : Bool
   pub edges : EdgeNumbers
 
--- the numbers of each edge, as they are answered and as they are found
+-- the numbers of each edge
 abbrev pub edgesOf : Judged → EdgeNumbers
 edgesOf r = record {
-  leastChildren = r .«least_children»;
-  greatestChildren = r .«greatest_children»;
-  leastParents = r .«least_parents»;
-  greatestParents = r .«greatest_parents»;
-}
-
-abbrev pub numbersIn : Edges → EdgeNumbers
-numbersIn r = record {
   leastChildren = r .«least_children»;
   greatestChildren = r .«greatest_children»;
   leastParents = r .«least_parents»;
@@ -51,7 +46,3 @@ inNumbers r = record {
   place = r .place;
   rest = record { verdict = verdictNumbers (r .rest .verdict); noneApart = r .rest .noneApart; edges = r .rest .edges };
 }
-
--- whatever table the rows are of, r is what judging it says
-abbrev pub JudgesRows : Format → List ℕ → RowsRead → List ℕ → List ℕ → Judged → Type 0
-JudgesRows f s read levels types r = (t : List ℕ) → RowsIn f t read levels types → judged r ≡ inNumbers (judge f t s)

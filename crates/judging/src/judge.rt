@@ -17,7 +17,8 @@ ghost use Rattle.paper.specs.Calls.{judge, noJudgement};
 ghost use Rattle.paper.specs.Index.{judgeWith};
 ghost use Rattle.bytes.specs.Served.{Served};
 ghost use Rattle.closest.specs.Rows.{SomeRows};
-ghost use Rattle.judging.specs.Judged.{judged, inNumbers, edgesOf, numbersIn, JudgesRows};
+ghost use Rattle.judging.specs.Judged.{judged, inNumbers, edgesOf};
+ghost use Rattle.judging.specs.Told.{numbersIn, JudgesRows};
 
 // What judging answers: a refusal with verdict Kept, no and zeros, or the verdict, the second answer, and for each entry but the first how many
 // closest rows there are along its edge, both ways; entry 0 and unused entries hold zeros.

@@ -5,7 +5,7 @@ use names::put::put_byte;
 use names::put::put_bytes;
 ghost use mathlib.Core.List.{_∷_, []};
 ghost use Rattle.io.specs.Counts.{Counts};
-ghost use Rattle.judging.specs.Told.{numbersOf};
+ghost use Rattle.judging.specs.Judged.{numbersOf};
 ghost use Rattle.listing.specs.Listing.{refusedText, verdictText};
 ghost use Rattle.names.specs.Put.{Put};
 

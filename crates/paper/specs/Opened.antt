@@ -7,29 +7,17 @@ use Rattle.paper.specs.Adorned.{childrenOf, counts, summary, adorned}
 use Rattle.paper.specs.NewTable.{beneath, tops, lines, lineRow, newTable, sourceList}
 use Rattle.paper.specs.Figures.{entryLines, appears, differentRows, figures}
 use Rattle.paper.specs.Partners.{childNumbers, parentNumbers, edgeNumbers}
-<<<<<<< HEAD
-use Rattle.paper.specs.Verdict.{meeting, partners, alone, full, edgeLevel, meetsLeast, sure, lone, pairFault, verdict, noneApart}
+use Rattle.paper.specs.Verdict.{meeting, alone, full, edgeLevel, meetsLeast, sure, lone, pairFault, verdict, noneApart}
 use Rattle.paper.specs.Calls.{typeTooMany, typeMissing, tests1-3, tests1-4, tests5-6, tests5-7, test8, examine, lookUp}
 use Rattle.paper.specs.Calls.{readerRow, readerNext, adorning, adorn, judgeRows, judge, reshaping, reshapeRows, reshape, summariseRows, summarise}
-=======
-use Rattle.paper.specs.Verdict.{meeting, alone, full, edgeLevel, meetsLeast, sure, lone, pairFault, verdict, noneApart}
-use Rattle.paper.specs.Calls.{typeTooMany, typeMissing, tests1-3, tests1-4, tests5-6, tests1-7, test8, examine, lookUp}
-use Rattle.paper.specs.Calls.{readerRow, readerNext, adorning, adorn, judge, reshaping, reshape, summarise}
->>>>>>> 41d705d (House: alone and full are said by the number of closest rows)
 use Rattle.paper.specs.Links.{newNodes, sourceRow, shownPairs, sourcePairs, LinksKept}
 use Rattle.paper.specs.MadeUp.{forkEntry, NothingMadeUp, unshown}
 
 unfoldable pub opened : Unit {0}
 unfolding base signed rowOf rowBack rows fieldsKept follows rowKept badRow rowTypes types typeNumber nodes ofKind kindsMeet meetAt closest closestOf
     closestNumber closestPairs kindsDistance leastDistance entryOf entries entryKept badEntry shapeOver childrenOf counts summary adorned beneath
-<<<<<<< HEAD
-    tops lines lineRow childNumbers parentNumbers edgeNumbers newTable sourceList meeting partners alone full edgeLevel meetsLeast sure lone
+    tops lines lineRow childNumbers parentNumbers edgeNumbers newTable sourceList meeting alone full edgeLevel meetsLeast sure lone
     pairFault verdict noneApart typeTooMany typeMissing tests1-3 tests1-4 tests5-6 tests5-7 test8 examine lookUp readerRow readerNext adorning adorn
     judgeRows judge reshaping reshapeRows reshape summariseRows summarise entryLines appears differentRows figures newNodes sourceRow shownPairs sourcePairs LinksKept forkEntry
-=======
-    tops lines lineRow childNumbers parentNumbers edgeNumbers newTable sourceList meeting alone full edgeLevel meetsLeast sure lone
-    pairFault verdict noneApart typeTooMany typeMissing tests1-3 tests1-4 tests5-6 tests1-7 test8 examine lookUp readerRow readerNext adorning adorn
-    judge reshaping reshape summarise entryLines appears differentRows figures newNodes sourceRow shownPairs sourcePairs LinksKept forkEntry
->>>>>>> 41d705d (House: alone and full are said by the number of closest rows)
     NothingMadeUp unshown
 opened = tt

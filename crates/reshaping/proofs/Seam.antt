@@ -13,7 +13,8 @@ use Rattle.paper.proofs.Index.{reshape-with, reshape-plain}
 use Rattle.closest.specs.Rows.{Reads}
 use Rattle.closest.specs.declared.rows.RowsRead.{RowsRead}
 use Rattle.closest.proofs.Seam.{as-plain}
-use Rattle.reshaping.specs.Reshaped.{reshaped, summarised, SummarisesRows, Reshapes, ReshapesWith}
+use Rattle.reshaping.specs.Reshaped.{reshaped, summarised, Reshapes, ReshapesWith}
+use Rattle.reshaping.specs.Rows.{SummarisesRows}
 use Rattle.reshaping.specs.declared.reshape.Reshaped.{Reshaped}
 use Rattle.reshaping.specs.declared.summarise.Summary.{Summary}
 

@@ -1,4 +1,4 @@
--- What reshaping and summarising answer, in the paper's terms. Assumes nothing.
+-- What reshaping and summarising answer, in the paper's terms: what the public contracts name. Assumes nothing.
 use Prim.Native.Nat.{ℕ, _*_, _≤_}
 use mathlib.Core.Path.{_≡_}
 use mathlib.Core.Bool.{true}
@@ -12,10 +12,8 @@ use Rattle.paper.specs.MadeUp.{NothingMadeUp, unshown}
 use Rattle.paper.specs.Sound.{KeepsRules, SoundSource}
 use Rattle.paper.specs.Edges.{ChildrenShown, ChildrenBetween}
 use Rattle.paper.specs.Figures.{Figures}
-use Rattle.paper.specs.Calls.{Reply, given, reshape, summarise, judge}
+use Rattle.paper.specs.Calls.{Reply, given, reshape, judge}
 use Rattle.paper.specs.Index.{testsIndex, reshapeWith}
-use Rattle.closest.specs.Rows.{RowsIn}
-use Rattle.closest.specs.declared.rows.RowsRead.{RowsRead}
 use Rattle.reshaping.specs.declared.reshape.Reshaped.{Reshaped}
 use Rattle.reshaping.specs.declared.summarise.Summary.{Summary}
 
@@ -26,10 +24,6 @@ reshaped r = record { number = r .number; place = r .place; rest = r .lines }
 -- number, place, and the figures of 16 entries
 abbrev pub summarised : Summary → Reply Figures
 summarised r = record { number = r .number; place = r .place; rest = record { lines = r .lines; rows = r .rows; copies = r .copies; different = r .different } }
-
--- whatever table the rows are of, r is the summary of its reshape
-abbrev pub SummarisesRows : Format → List ℕ → RowsRead → List ℕ → List ℕ → Summary → Type 0
-SummarisesRows f s read levels types r = (t : List ℕ) → RowsIn f t read levels types → summarised r ≡ summarise f t s
 
 -- The whole promise of a reshape of the table t to the shape s: r is the answer, and new′ and sources′ are what the lent bytes and places
 -- hold afterwards.

@@ -12,7 +12,8 @@ ghost use Rattle.paper.specs.Calls.{summarise};
 ghost use Rattle.paper.specs.Index.{summariseWith};
 ghost use Rattle.bytes.specs.Served.{Served};
 ghost use Rattle.closest.specs.Rows.{SomeRows};
-ghost use Rattle.reshaping.specs.Reshaped.{summarised, SummarisesRows};
+ghost use Rattle.reshaping.specs.Reshaped.{summarised};
+ghost use Rattle.reshaping.specs.Rows.{SummarisesRows};
 
 // For each of 16 entries its lines, the source rows of its type, copies, and the different source rows that appear in its lines. Copies are
 // lines less different rows. Unused entries hold zeros, and so does a refusal.

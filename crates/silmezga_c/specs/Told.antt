@@ -14,7 +14,7 @@ use Rattle.paper.specs.Calls.{Reply, lookUp}
 use Rattle.paper.specs.declared.Width.{Width}
 use Rattle.paper.specs.declared.Width.the-variants.{Six, Eight}
 use Rattle.tables.specs.Reply.{startOf}
-use Rattle.judging.specs.Told.{numbersOf}
+use Rattle.judging.specs.Judged.{numbersOf}
 use Rattle.judging.specs.Judged.{edgesOf}
 use Rattle.judging.specs.declared.judge.Judged.{Judged}
 use Rattle.silmezga_c.specs.declared.LookedUp.{LookedUp}

@@ -3,7 +3,7 @@ use mathlib.Core.Path.{_≡_, sym, _∙_, ap₂}
 use mathlib.Core.List.{[], _∷_, _++_}
 use Rattle.paper.specs.Lists.{padded}
 use Rattle.paper.specs.Calls.{Reply}
-use Rattle.judging.specs.Told.{numbersOf}
+use Rattle.judging.specs.Judged.{numbersOf}
 use Rattle.judging.specs.declared.verdict.Verdict.{Verdict}
 use Rattle.silmezga_c.specs.Told.{InFour, toldOf, judgedNumbers}
 use borrow.Author.Needs.{needs}

@@ -1,6 +1,6 @@
 -- `answers::put_verdict`: each arm is given which verdict it is. Assumes nothing.
 use mathlib.Core.Path.{sym, ap}
-use Rattle.judging.specs.Told.{numbersOf}
+use Rattle.judging.specs.Judged.{numbersOf}
 use Rattle.listing.specs.Listing.{verdictText}
 use Rattle.names.proofs.Putting.{put-as}
 use borrow.Author.Needs.{needs}
