@@ -31,17 +31,20 @@ abbrev begun : tie.At-loop Inv-loop μ-loop → tie.Start Inv-loop μ-loop
 begun l = l .before .before .before
 
 -- the turn in which a label is read, and its row
+abbrev held : tie.After-word Inv-loop μ-loop → tie.After-record Inv-loop μ-loop
+held c = c .before .before .before
+
 abbrev turn : tie.After-word Inv-loop μ-loop → tie.At-loop Inv-loop μ-loop
-turn c = c .before .before .before .before .before .before
+turn c = held c .before .before .before
 
 abbrev rowOf : tie.At-loop Inv-loop μ-loop → List ℕ
 rowOf l = rec (rowBytes (begun l .args .f)) (l .loop .i) (begun l .args .table .now)
 
 here : (l : tie.At-loop Inv-loop μ-loop) → l .loop .i < begun l .args .rows → l .loop .i < whole (rowBytes (begun l .args .f)) (begun l .args .table .now)
-here l lt = omega (arith, begun l .pre .0 .rows-n, count-rows (begun l .args .f) (begun l .args .table .now))
+here l lt = let s : tie.Start Inv-loop μ-loop = search in omega (arith, s .pre .0 .rows-n, count-rows (s .args .f) (s .args .table .now))
 
 in-table : (c : tie.After-word Inv-loop μ-loop) → turn c .loop .i < whole (rowBytes (begun (turn c) .args .f)) (begun (turn c) .args .table .now)
-in-table c = here (turn c) (c .before .before .before .before .before .loop-test .taken)
+in-table c = let l : tie.At-loop Inv-loop μ-loop = search in let i : tie.In-loop Inv-loop μ-loop = search in here l (i .loop-test .taken)
 
 level-is : (c : tie.After-word Inv-loop μ-loop) → c .before .wide .result ≡ byte (rowOf (turn c)) 0
 level-is c = cc
@@ -54,28 +57,31 @@ loop-holds c = (omega arith, refl, labels-none _ _ (c .before .before .pre .0 .s
 
 record-requires : tie.Need-record-requires Inv-loop μ-loop
 record-requires c κs =
-    let l = c .before .before in
-    row-in (c .row-bytes .result) (l .loop .i) (begun l .args .table .now) (rw (c .row-bytes .ensures) (here l (c .before .loop-test .taken)))
+    let s : tie.Start Inv-loop μ-loop = search in
+    let l : tie.At-loop Inv-loop μ-loop = search in
+    row-in (c .row-bytes .result) (l .loop .i) (s .args .table .now) (rw (c .row-bytes .ensures) (here l (c .before .loop-test .taken)))
 
 put-labels-requires : tie.Need-put-labels-requires Inv-loop μ-loop
 put-labels-requires c κs =
+    let s : tie.Start Inv-loop μ-loop = search in
+    let l : tie.At-loop Inv-loop μ-loop = search in
+    let i : tie.In-loop Inv-loop μ-loop = search in
     let r = c .before in
-    let l = turn r in
-    let s = begun l in
     let kept = s .pre .0 .sound .kept in (
       l-pos _ _ kept _ (in-table r) _ _ (level-is r) (label-is r),
       omega (arith, l-fits _ _ kept _ (in-table r) _ _ (level-is r) (label-is r), s .pre .1),
-      omega (arith, s .pre .2, l .loop .inv .1, r .before .before .before .before .before .loop-test .taken),
+      omega (arith, s .pre .2, l .loop .inv .1, i .loop-test .taken),
       λ e. omega (arith, level-is r, first-level _ _ kept (l .loop .i) (in-table r) e),
     )
 
 loop-again : tie.Need-loop-again Inv-loop μ-loop
 loop-again c =
-    let p = c .before .before in
-    let r = p .before .before in
-    let l = turn r in
-    let s = begun l in (
-      omega (arith, r .before .before .before .before .before .loop-test .taken),
+    let s : tie.Start Inv-loop μ-loop = search in
+    let l : tie.At-loop Inv-loop μ-loop = search in
+    let i : tie.In-loop Inv-loop μ-loop = search in
+    let r : tie.After-word Inv-loop μ-loop = search in
+    let p : tie.After-put-labels Inv-loop μ-loop = search in (
+      omega (arith, i .loop-test .taken),
       search needs,
       labels-more _ _ (s .pre .0 .sound .kept) (s .pre .1) (l .loop .i) (in-table r) _ _ (l .loop .inv .2) _ _ (level-is r) (label-is r) (p .put-labels .ensures),
     )

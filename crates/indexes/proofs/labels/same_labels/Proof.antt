@@ -1,9 +1,9 @@
 -- `labels::same_labels` meets its contract. Assumes nothing.
 use Prim.Native.Nat.{ℕ, _+_, _*_, _-_, _≤_, _<_}
 use native.Mathlib.Omega.{arith}
-use mathlib.Core.Path.{_≡_, sym, _∙_, subst}
+use mathlib.Core.Path.{_≡_, sym, subst}
 use mathlib.Core.Logic.{⊎-elim}
-use mathlib.Core.Bool.{true, false, true≢false}
+use mathlib.Core.Bool.{true≢false}
 use lib.ListN.{length, getD}
 use borrow.Author.Needs.{needs}
 use Rattle.types.proofs.Step.{below}
@@ -18,19 +18,10 @@ Inv-loop levels labels rows i j m₀ m = (m ≤ getD levels i 0) × ((k : ℕ) �
 abbrev μ-loop : tie.MeasureT-loop
 μ-loop levels labels rows i j m₀ m = m
 
--- where the function begins, and where the two levels are found to be one
-abbrev begun : tie.At-loop Inv-loop μ-loop → tie.Start Inv-loop μ-loop
-begun w = w .before .before .before .before .before .before .before .before
-
-abbrev one : tie.At-loop Inv-loop μ-loop → tie.Else1 Inv-loop μ-loop
-one w = w .before .before .before
-
--- level m - 1 has its place in both lists
-inside : (w : tie.At-loop Inv-loop μ-loop) → let s = begun w in (w .loop .m ≤ 8) × (8 * s .args .i + 8 ≤ length (s .args .labels .now)) × (8 * s .args .j + 8 ≤ length (s .args .labels .now))
-inside w =
-    let s = begun w in
-    let p = s .pre in
-    (omega (arith, w .loop .inv .0, p .0 .shallow (s .args .i) (p .1)), omega (arith, p .0 .labels-long, p .1), omega (arith, p .0 .labels-long, p .2))
+-- a row has eight levels at the most, and both rows have their place among the labels
+inside : (s : tie.Start Inv-loop μ-loop) → let a = s .args in
+    (getD (a .levels .now) (a .i) 0 ≤ 8) × (8 * a .i + 8 ≤ length (a .labels .now)) × (8 * a .j + 8 ≤ length (a .labels .now))
+inside s = let p = s .pre in (p .0 .shallow (s .args .i) (p .1), omega (arith, p .0 .labels-long, p .1), omega (arith, p .0 .labels-long, p .2))
 
 returns : tie.Need-returns Inv-loop μ-loop
 returns c = (λ e. absurd (true≢false (sym e)), λ _ alike. c .if1 .taken (alike .level))
@@ -39,22 +30,31 @@ loop-holds : tie.Need-loop-holds Inv-loop μ-loop
 loop-holds c = (omega (arith, c .wide .ensures .0), λ k a b. let z : ⊥ = omega (arith, c .wide .ensures .0) in absurd z)
 
 shared-slice-read-if2 : tie.Need-shared-slice-read-if2 Inv-loop μ-loop
-shared-slice-read-if2 c = omega (arith, inside (c .before .before) .0, inside (c .before .before) .1, c .before .loop-test .taken)
+shared-slice-read-if2 c =
+    let s : tie.Start Inv-loop μ-loop = search in
+    let i : tie.In-loop Inv-loop μ-loop = search in
+    omega (arith, inside s, i .before .loop .inv .0, i .loop-test .taken)
 
 shared-slice-read-if2-2 : tie.Need-shared-slice-read-if2-2 Inv-loop μ-loop
-shared-slice-read-if2-2 c = omega (arith, inside (c .before .before .before) .0, inside (c .before .before .before) .2, c .before .before .loop-test .taken)
+shared-slice-read-if2-2 c =
+    let s : tie.Start Inv-loop μ-loop = search in
+    let i : tie.In-loop Inv-loop μ-loop = search in
+    omega (arith, inside s, i .before .loop .inv .0, i .loop-test .taken)
 
 returns-2 : tie.Need-returns-2 Inv-loop μ-loop
 returns-2 c =
-    let w = c .before .before .before .before in
-    let pos = c .before .before .before .loop-test .taken in
+    let w : tie.At-loop Inv-loop μ-loop = search in
+    let i : tie.In-loop Inv-loop μ-loop = search in
+    let pos = i .loop-test .taken in
     (λ e. absurd (true≢false (sym e)), λ _ alike. c .if2 .taken (alike .label (w .loop .m - 1) (omega (arith, w .loop .inv .0))))
 
 loop-again : tie.Need-loop-again Inv-loop μ-loop
 loop-again c =
-    let w = c .before .before .before .before in
-    let pos = c .before .before .before .loop-test .taken in
-    let s = begun w .args in (
+    let start : tie.Start Inv-loop μ-loop = search in
+    let w : tie.At-loop Inv-loop μ-loop = search in
+    let i : tie.In-loop Inv-loop μ-loop = search in
+    let pos = i .loop-test .taken in
+    let s = start .args in (
       omega (arith, w .loop .inv .0),
       λ k a b. ⊎-elim (λ lt. w .loop .inv .1 k (omega arith) b)
           (λ e. subst (λ k. labelOf (s .labels .now) (s .i) k ≡ labelOf (s .labels .now) (s .j) k) e (c .if2 .left)) (below (w .loop .m - 1) k (omega arith)),
@@ -62,8 +62,9 @@ loop-again c =
 
 returns-3 : tie.Need-returns-3 Inv-loop μ-loop
 returns-3 c =
+    let u : tie.Else1 Inv-loop μ-loop = search in
     let w = c .before in (
-      λ _. record { level = one w .if1 .left; label = λ k lt. w .loop .inv .1 k (omega (arith, c .loop-test .left)) lt },
+      λ _. record { level = u .if1 .left; label = λ k lt. w .loop .inv .1 k (omega (arith, c .loop-test .left)) lt },
       λ e. absurd (true≢false e),
     )
 

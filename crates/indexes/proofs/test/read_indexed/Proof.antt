@@ -4,27 +4,21 @@ use borrow.Author.Needs.{needs}
 use Rattle.indexes.proofs.test.read_indexed.Statement.{statement}
 use Rattle.indexes.proofs.test.read_indexed.Tie as tie
 
--- where the rows are read, and where the function begins
-abbrev read : tie.After-slice-known4 → tie.After-read-rows
-read s = s .before .before .before .before
-
-abbrev begun : tie.After-read-rows → tie.Start
-begun r = r .before .before .before .before .before .before .before .before
-
 returns : tie.Need-returns
-returns c = let r = read (c .before) in unread _ _ _ _ _ _ _ (r .read-rows .ensures) (c .if1 .taken)
+returns c = let r : tie.After-read-rows = search in unread _ _ _ _ _ _ _ (r .read-rows .ensures) (c .if1 .taken)
 
 test-lists-requires : tie.Need-test-lists-requires
 test-lists-requires c κs =
-    let e = c .before .before .before .before in
-    let r = read (e .before) in
+    let s : tie.Start = search in
+    let r : tie.After-read-rows = search in
+    let e : tie.Else1 = search in
     let in-rows = r .read-rows .ensures .read (e .if1 .left) in
-    (in-rows .rows-are, shallow-rows (begun r .pre .0) in-rows)
+    (in-rows .rows-are, shallow-rows (s .pre .0) in-rows)
 
 returns-2 : tie.Need-returns-2
 returns-2 c =
-    let e = c .before .before .before .before .before in
-    let r = read (e .before) in
+    let r : tie.After-read-rows = search in
+    let e : tie.Else1 = search in
     read-with _ _ _ _ _ _ _ (r .read-rows .ensures) (e .if1 .left) (c .test-lists .result) (c .test-lists .ensures)
 
 pub read-indexed-spec : {M : Type 1} → statement M
