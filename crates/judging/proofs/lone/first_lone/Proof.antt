@@ -43,7 +43,8 @@ abbrev begun : tie.At-entries Inv-loop μ-loop Inv-rows μ-rows Inv-entries μ-e
 begun e = e .before .before .before
 
 -- the parent of the entry whose rows are searched, and the entry
-abbrev widened : tie.After-run-bound Inv-loop μ-loop Inv-rows μ-rows Inv-entries μ-entries → tie.After-wide Inv-loop μ-loop Inv-rows μ-rows Inv-entries μ-entries
+abbrev widened :
+    tie.After-run-bound Inv-loop μ-loop Inv-rows μ-rows Inv-entries μ-entries → tie.After-wide Inv-loop μ-loop Inv-rows μ-rows Inv-entries μ-entries
 widened p = p .before .before .before
 
 abbrev entry : tie.After-run-bound Inv-loop μ-loop Inv-rows μ-rows Inv-entries μ-entries → tie.In-entries Inv-loop μ-loop Inv-rows μ-rows Inv-entries μ-entries

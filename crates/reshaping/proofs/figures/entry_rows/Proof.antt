@@ -31,12 +31,13 @@ loop-again c =
     let t : tie.Then1 Inv-loop μ-loop = search in
     let v = l .loop in
     let own = t .if1 .taken in
+    let once = c .smaller .ensures ∙ ap (λ n. min n 1) (c .before .wide16 .ensures .0) in
     let (_, few, fewer, held, different) = v .inv in (
       omega arith,
       omega arith,
       omega (arith, c .smaller .ensures),
       sum-row (a .types .now) (a .k) (v .i) (v .held) (λ _. 1) held 1 own refl,
-      sum-row (a .types .now) (a .k) (v .i) (v .different) _ different (c .smaller .result) own (c .smaller .ensures ∙ ap (λ n. min n 1) (c .before .wide16 .ensures .0)),
+      sum-row (a .types .now) (a .k) (v .i) (v .different) _ different (c .smaller .result) own once,
     )
 
 loop-again-2 : tie.Need-loop-again-2 Inv-loop μ-loop
