@@ -15,7 +15,7 @@ widths : (c : tie.After-row-bytes) → let a = c .before .before .before .args i
     (c .row-bytes .result * a .r ≡ rowBytes (a .f) * a .r) × (c .row-bytes .result * a .place ≡ rowBytes (a .f) * a .place)
     × (rowBytes (a .f) * a .r + rowBytes (a .f) ≤ length (a .table .now))
 widths c =
-    let s = c .before .before .before in
+    let s : tie.Start = search in
     let e = c .row-bytes .ensures in
     let within = row-within (s .args .f) (s .args .table .now) (s .args .r) (s .pre .row-in) in
     (ap (λ w. w * s .args .r) e, ap (λ w. w * s .args .place) e, within)
@@ -27,12 +27,9 @@ labelled c = c .before .before .before .before
 abbrev numbered : tie.After-new2 → tie.After-new
 numbered c = c .before .before .before .before
 
-abbrev positioned : tie.After-new3 → tie.After-new2
-positioned c = c .before .before .before .before
-
 -- The lent bytes stay as many.
 long : (c : tie.After-new2) → length (c .before .put-number .last .0) ≡ length (labelled (numbered c) .before .before .before .args .new .now)
-long c = omega (arith, c .new2 .given, simp length-set at (numbered c .new .given))
+long c = let n : tie.After-new = search in omega (arith, c .new2 .given, simp length-set at (n .new .given))
 
 mul-value-at : tie.Need-mul-value-at
 mul-value-at c = omega (arith, widths c)
@@ -62,39 +59,42 @@ put-word-requires : tie.Need-put-word-requires
 put-word-requires c κs = simp length-set (omega (arith, widths (c .before .before)))
 
 add-put-number : tie.Need-add-put-number
-add-put-number c = omega (arith, widths (labelled (c .before .before)))
+add-put-number c = let r : tie.After-row-bytes = search in omega (arith, widths r)
 
 put-number-requires : tie.Need-put-number-requires
-put-number-requires c κs = omega (arith, widths (labelled (c .before .before)), simp length-set at (c .before .before .new .given))
+put-number-requires c κs = let r : tie.After-row-bytes = search in omega (arith, widths r, simp length-set at (c .before .before .new .given))
 
 add-put-word-2 : tie.Need-add-put-word-2
-add-put-word-2 c = omega (arith, widths (labelled (numbered (c .before .before))))
+add-put-word-2 c = let r : tie.After-row-bytes = search in omega (arith, widths r)
 
 add-put-word-3 : tie.Need-add-put-word-3
-add-put-word-3 c = omega (arith, widths (labelled (numbered (c .before .before))))
+add-put-word-3 c = let r : tie.After-row-bytes = search in omega (arith, widths r)
 
 put-word-requires-2 : tie.Need-put-word-requires-2
-put-word-requires-2 c κs = omega (arith, widths (labelled (numbered (c .before .before))), long (c .before .before))
+put-word-requires-2 c κs = let r : tie.After-row-bytes = search in omega (arith, widths r, long (c .before .before))
 
 add-put-value : tie.Need-add-put-value
-add-put-value c = omega (arith, widths (labelled (numbered (positioned (c .before .before)))))
+add-put-value c = let r : tie.After-row-bytes = search in omega (arith, widths r)
 
 put-value-requires : tie.Need-put-value-requires
 put-value-requires c κs =
-    let p = c .before .before in
-    omega (arith, widths (labelled (numbered (positioned p))), long (positioned p), p .new3 .given)
+    let r : tie.After-row-bytes = search in
+    let n : tie.After-new2 = search in
+    let p : tie.After-new3 = search in
+    omega (arith, widths r, long n, p .new3 .given)
 
 same-length : tie.Need-same-length
 same-length c =
-    let p = c .before .before .before .before .before in
-    omega (arith, c .before .new4 .given, p .new3 .given, long (positioned p))
+    let n : tie.After-new2 = search in
+    let p : tie.After-new3 = search in
+    omega (arith, c .before .new4 .given, p .new3 .given, long n)
 
 returns : tie.Need-returns
 returns c =
-    let v = c .before .before in
-    let p = v .before .before .before in
-    let n = positioned p in
-    let w = numbered n in
+    let v : tie.After-put-value = search in
+    let p : tie.After-new3 = search in
+    let n : tie.After-new2 = search in
+    let w : tie.After-new = search in
     let m = labelled w in
     let s = m .before .before .before in
     let a = s .args in

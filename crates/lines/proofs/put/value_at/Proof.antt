@@ -6,7 +6,7 @@ use Rattle.lines.proofs.put.value_at.Tie as tie
 
 returns : tie.Need-returns
 returns c =
-    let a = c .before .before .before .before .before .before .before .before .args in
+    let s : tie.Start = search in let a = s .args in
     eight-read (a .table .now) (a .at)
 
 pub value-at-spec : {M : Type 1} → statement M
