@@ -3,7 +3,6 @@ use mathlib.Core.Path.{_≡_, sym, _∙_, ap, subst}
 use lib.Dec.{lit≤}
 use Rattle.paper.specs.Format.{Format, rowBytes, whole}
 use Rattle.paper.specs.Tables as Tables
-use Rattle.paper.specs.Shapes as Shapes
 use Rattle.paper.specs.Calls.{given, tests1-3, examine}
 use Rattle.paper.specs.Labels.{oldRange, convert}
 use Rattle.bytes.specs.Served.{Served}
@@ -18,8 +17,11 @@ use borrow.Author.Needs.{needs}
 use Rattle.labels.proofs.convert.convert.Statement.{statement}
 use Rattle.labels.proofs.convert.convert.Tie as tie
 
+abbrev lent : tie.After-slice-known → tie.Start
+lent x = x .before .before .before .before
+
 abbrev begun : tie.After-old-range → tie.Start
-begun x = x .before .before .before .before .before .before
+begun x = lent (x .before .before)
 
 -- the old range is served
 served : (f g : Format) → g ≡ oldRange f → Served f → Served g
@@ -32,20 +34,22 @@ Left s r =
     Converts (convert (a .f) (a .table .now) (a .shape .now) (a .list .now) (a .new-table .now) (a .new-shape .now)) r (a .new-table .now) (a .new-shape .now)
 
 examine-requires : tie.Need-examine-requires
-examine-requires c κs = let s = begun c in served (s .args .f) _ (c .old-range .ensures) (s .pre)
+examine-requires c κs = let s : tie.Start = search in served (s .args .f) _ (c .old-range .ensures) (s .pre)
 
 -- What examining tells is told on the old range.
 table-told : (x : tie.After-examine) →
     let r = x .examine .result in
     let a = begun (x .before) .args in
     examined r ≡ examine (oldRange (a .f)) (a .table .now)
-table-told x = let a = begun (x .before) .args in x .examine .ensures ∙ ap (λ (g : Format). examine g (a .table .now)) (x .before .old-range .ensures)
+table-told x =
+    let s : tie.Start = search in
+    let a = s .args in x .examine .ensures ∙ ap (λ (g : Format). examine g (a .table .now)) (x .before .old-range .ensures)
 
 shape-told : (y : tie.After-examine-shape) →
     let a = begun (y .before .before .before .before) .args in
     shapeExamined (y .examine-shape .result) ≡ shapeReply (oldRange (a .f)) (a .shape .now)
 shape-told y =
-    let a = begun (y .before .before .before .before) .args in
+    let s : tie.Start = search in let a = s .args in
     y .examine-shape .ensures ∙ ap (λ (g : Format). shapeReply g (a .shape .now)) (y .before .old-range2 .ensures)
 
 -- the table passes its tests
@@ -54,14 +58,14 @@ passed : (e : tie.Else1) →
     (tests1-3 (oldRange (a .f)) (a .table .now) ≡ given (Tables.rows (oldRange (a .f)) (a .table .now)))
     × (e .before .examine .result .rows ≡ whole (rowBytes (a .f)) (a .table .now))
 passed e =
-    let a = begun (e .before .before) .args in
+    let s : tie.Start = search in let a = s .args in
     let r = e .before .examine .result in
     Table.examined-given (oldRange (a .f)) (a .table .now) (r .number) (r .place) (r .rows) (table-told (e .before)) (e .if1 .left)
 
 returns : tie.Need-returns
 returns c =
-    let x = c .before .before in
-    let s = begun (x .before) in
+    let s : tie.Start = search in
+    let x : tie.After-examine = search in
     let a = s .args in
     let r = x .examine .result in
     subst (Left s) (sym (c .refused .ensures))
@@ -69,13 +73,13 @@ returns c =
     (Table.examined-refused (oldRange (a .f)) (a .table .now) (r .number) (r .place) (r .rows) (table-told x) (c .before .if1 .taken)))
 
 examine-shape-requires : tie.Need-examine-shape-requires
-examine-shape-requires c κs = let s = begun (c .before .before .before) in served (s .args .f) _ (c .old-range2 .ensures) (s .pre)
+examine-shape-requires c κs = let s : tie.Start = search in served (s .args .f) _ (c .old-range2 .ensures) (s .pre)
 
 returns-2 : tie.Need-returns-2
 returns-2 c =
-    let y = c .before .before in
-    let e = y .before .before in
-    let s = begun (e .before .before) in
+    let s : tie.Start = search in
+    let e : tie.Else1 = search in
+    let y : tie.After-examine-shape = search in
     let a = s .args in
     let r = y .examine-shape .result in
     subst (Left s) (sym (c .refused2 .ensures))
@@ -84,10 +88,10 @@ returns-2 c =
 
 convert-tested-requires : tie.Need-convert-tested-requires
 convert-tested-requires c κs =
-    let d = c .before .before in
-    let y = d .before in
-    let e = y .before .before in
-    let s = begun (e .before .before) in
+    let s : tie.Start = search in
+    let e : tie.Else1 = search in
+    let y : tie.After-examine-shape = search in
+    let d : tie.Else2 = search in
     let old = oldRange (s .args .f) in
     let shape = s .args .shape .now in
     let r = y .examine-shape .result in

@@ -18,8 +18,11 @@ use borrow.Author.Needs.{needs}
 use Rattle.labels.proofs.convert.convert_tested.Statement.{statement}
 use Rattle.labels.proofs.convert.convert_tested.Tie as tie
 
+abbrev lent : tie.After-slice-known → tie.Start
+lent x = x .before .before .before .before
+
 abbrev begun : tie.After-count-pairs → tie.Start
-begun x = x .before .before .before .before .before .before .before
+begun x = lent (x .before .before .before)
 
 -- what is met, and left as it was, by an answer
 abbrev Left : (s : tie.Start) → Converted → Type 0
@@ -29,8 +32,8 @@ Left s r =
 
 returns : tie.Need-returns
 returns c =
-    let q = c .before .before in
-    let s = begun q in
+    let s : tie.Start = search in
+    let q : tie.After-count-pairs = search in
     let a = s .args in
     subst (Left s) (sym (c .refused .ensures))
     (refused-25 (a .f) (a .table .now) (a .shape .now) (a .list .now) (a .new-table .now) (a .new-shape .now) (a .rows) (a .entries) (s .pre)
@@ -38,7 +41,7 @@ returns c =
 
 first-unlisted-requires : tie.Need-first-unlisted-requires
 first-unlisted-requires c κs =
-    let s = begun (c .before .before) in
+    let s : tie.Start = search in
     let w = c .row-bytes .ensures in
     let levels = s .pre .counted .served .shallow in
     (omega (arith, w), omega (arith, w, levels), s .pre .counted .rows-counted ∙ ap (λ n. whole n (s .args .table .now)) (sym w))
@@ -53,18 +56,16 @@ first-row : (u : tie.After-first-unlisted) →
     firstPlace (λ (r : Row). unlisted (a .f) (pairs (a .list .now)) (r .label)) (rows (oldRange (a .f)) (a .table .now))
     ≡ placeOf (u .first-unlisted .result) (a .rows)
 first-row u =
-    let e = u .before .before in
-    let s = begun (e .before) in
-    let a = s .args in
+    let s : tie.Start = search in let a = s .args in
     row-place (a .f) (a .table .now) (a .shape .now) (a .list .now) (a .new-table .now) (a .new-shape .now) (a .rows) (a .entries) (s .pre)
     _ _ (u .before .row-bytes .ensures) (u .first-unlisted .ensures)
 
 returns-2 : tie.Need-returns-2
 returns-2 c =
-    let u = c .before .before in
-    let e = u .before .before in
-    let q = e .before in
-    let s = begun q in
+    let s : tie.Start = search in
+    let q : tie.After-count-pairs = search in
+    let e : tie.Else1 = search in
+    let u : tie.After-first-unlisted = search in
     let a = s .args in
     subst (Left s) (sym (c .refused2 .ensures))
     (refused-row (a .f) (a .table .now) (a .shape .now) (a .list .now) (a .new-table .now) (a .new-shape .now) (a .rows) (a .entries) (s .pre)
@@ -72,30 +73,32 @@ returns-2 c =
 
 first-unlisted-requires-2 : tie.Need-first-unlisted-requires-2
 first-unlisted-requires-2 c κs =
-    let s = begun (c .before .before .before .before .before) in
+    let s : tie.Start = search in
     let w = c .entry-bytes .ensures in
     let levels = s .pre .counted .served .shallow in
     (omega (arith, w), omega (arith, w, levels), s .pre .counted .entries-counted ∙ ap (λ n. whole n (s .args .shape .now)) (sym w))
 
--- the first entry with one
+-- the first entry with one, the rows having none
+abbrev listed : tie.After-first-unlisted2 → tie.After-first-unlisted
+listed x = x .before .before .before
+
 first-entry : (x : tie.After-first-unlisted2) →
-    let a = begun (x .before .before .before .before .before .before) .args in
+    let a = begun (listed x .before .before .before) .args in
     firstPlace (λ (e : Entry). any (unlisted (a .f) (pairs (a .list .now))) (named e)) (entries (oldRange (a .f)) (a .shape .now))
     ≡ placeOf (x .first-unlisted2 .result) (a .entries)
 first-entry x =
-    let s = begun (x .before .before .before .before .before .before) in
-    let a = s .args in
+    let s : tie.Start = search in let a = s .args in
     entry-place (a .f) (a .table .now) (a .shape .now) (a .list .now) (a .new-table .now) (a .new-shape .now) (a .rows) (a .entries) (s .pre)
     _ _ (x .before .entry-bytes .ensures) (x .first-unlisted2 .ensures)
 
 returns-3 : tie.Need-returns-3
 returns-3 c =
-    let x = c .before .before in
-    let r = x .before .before in
-    let u = r .before in
-    let e = u .before .before in
-    let q = e .before in
-    let s = begun q in
+    let s : tie.Start = search in
+    let q : tie.After-count-pairs = search in
+    let e : tie.Else1 = search in
+    let u : tie.After-first-unlisted = search in
+    let r : tie.Else2 = search in
+    let x : tie.After-first-unlisted2 = search in
     let a = s .args in
     subst (Left s) (sym (c .refused3 .ensures))
     (refused-entry (a .f) (a .table .now) (a .shape .now) (a .list .now) (a .new-table .now) (a .new-shape .now) (a .rows) (a .entries) (s .pre)
@@ -104,13 +107,13 @@ returns-3 c =
 
 returns-4 : tie.Need-returns-4
 returns-4 c =
-    let y = c .before .before in
-    let x = y .before in
-    let r = x .before .before in
-    let u = r .before in
-    let e = u .before .before in
-    let q = e .before in
-    let s = begun q in
+    let s : tie.Start = search in
+    let q : tie.After-count-pairs = search in
+    let e : tie.Else1 = search in
+    let u : tie.After-first-unlisted = search in
+    let r : tie.Else2 = search in
+    let x : tie.After-first-unlisted2 = search in
+    let y : tie.Else3 = search in
     let a = s .args in
     subst (Left s) (sym (c .refused4 .ensures))
     (refused-table (a .f) (a .table .now) (a .shape .now) (a .list .now) (a .new-table .now) (a .new-shape .now) (a .rows) (a .entries) (s .pre)
@@ -119,13 +122,13 @@ returns-4 c =
 
 returns-5 : tie.Need-returns-5
 returns-5 c =
-    let y = c .before .before .before in
-    let x = y .before in
-    let r = x .before .before in
-    let u = r .before in
-    let e = u .before .before in
-    let q = e .before in
-    let s = begun q in
+    let s : tie.Start = search in
+    let q : tie.After-count-pairs = search in
+    let e : tie.Else1 = search in
+    let u : tie.After-first-unlisted = search in
+    let r : tie.Else2 = search in
+    let x : tie.After-first-unlisted2 = search in
+    let y : tie.Else3 = search in
     let a = s .args in
     subst (Left s) (sym (c .refused5 .ensures))
     (refused-shape (a .f) (a .table .now) (a .shape .now) (a .list .now) (a .new-table .now) (a .new-shape .now) (a .rows) (a .entries) (s .pre)
@@ -138,9 +141,9 @@ within w n b lent e room = omega (arith, ap (λ k. w * k) e, mul-div-le (length 
 
 put-records-requires : tie.Need-put-records-requires
 put-records-requires c κs =
-    let t = c .before .before in
-    let u = t .before .before .before .before .before in
-    let s = begun (u .before .before .before) in
+    let s : tie.Start = search in
+    let u : tie.After-first-unlisted = search in
+    let t : tie.Else4 = search in
     let w = u .before .row-bytes .ensures in
     let levels = s .pre .counted .served .shallow in
     let counted = s .pre .counted .rows-counted ∙ ap (λ n. whole n (s .args .table .now)) (sym w) in
@@ -148,9 +151,9 @@ put-records-requires c κs =
 
 put-records-requires-2 : tie.Need-put-records-requires-2
 put-records-requires-2 c κs =
-    let z = c .before .before .before .before .before in
-    let x = z .before .before .before in
-    let s = begun (x .before .before .before .before .before .before) in
+    let s : tie.Start = search in
+    let x : tie.After-first-unlisted2 = search in
+    let z : tie.Else5 = search in
     let w = x .before .entry-bytes .ensures in
     let levels = s .pre .counted .served .shallow in
     let counted = s .pre .counted .entries-counted ∙ ap (λ n. whole n (s .args .shape .now)) (sym w) in
@@ -158,14 +161,14 @@ put-records-requires-2 c κs =
 
 returns-6 : tie.Need-returns-6
 returns-6 c =
-    let shown = c .before .before in
-    let put = shown .before .before .before .before in
-    let z = put .before .before in
-    let y = z .before .before in
-    let x = y .before in
-    let r = x .before .before in
-    let u = r .before in
-    let e = u .before .before in
+    let shown : tie.After-put-records2 = search in
+    let put : tie.After-put-records = search in
+    let z : tie.Else5 = search in
+    let y : tie.Else3 = search in
+    let x : tie.After-first-unlisted2 = search in
+    let r : tie.Else2 = search in
+    let u : tie.After-first-unlisted = search in
+    let e : tie.Else1 = search in
     let q = e .before in
     let s = begun q in
     let a = s .args in

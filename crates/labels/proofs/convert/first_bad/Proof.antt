@@ -15,39 +15,37 @@ Inv-loop table rows shape entries f list n i₀ i = Breaking f (standing f table
 abbrev μ-loop : tie.MeasureT-loop
 μ-loop table rows shape entries f list n i₀ i = n - i
 
-abbrev begun : tie.At-loop Inv-loop μ-loop → tie.Start Inv-loop μ-loop
-begun l = l .before .before .before .before .before
-
 loop-holds : tie.Need-loop-holds Inv-loop μ-loop
 loop-holds c =
-    let a = c .before .before .before .before .args in
+    let s : tie.Start Inv-loop μ-loop = search in let a = s .args in
     breaking-start (a .f) (standing (a .f) (a .table .now) (a .shape .now)) (a .list .now)
 
 pair-kept-requires : tie.Need-pair-kept-requires Inv-loop μ-loop
 pair-kept-requires c κs =
+    let s : tie.Start Inv-loop μ-loop = search in
     let l = c .before in
-    (begun l .pre, omega (arith, c .loop-test .taken, l .before .count-pairs .ensures))
+    (s .pre, omega (arith, c .loop-test .taken, l .before .count-pairs .ensures))
 
 returns : tie.Need-returns Inv-loop μ-loop
 returns c =
+    let s : tie.Start Inv-loop μ-loop = search in let a = s .args in
+    let l : tie.At-loop Inv-loop μ-loop = search in
     let k = c .before in
-    let l = k .before .before in
-    let a = begun l .args in
     breaking-stop (a .f) (standing (a .f) (a .table .now) (a .shape .now)) (a .list .now) (l .loop .i) (l .loop .inv) _ (l .before .count-pairs .ensures)
     (k .before .loop-test .taken) (sym (k .pair-kept .ensures) ∙ not-true _ (c .if1 .taken))
 
 loop-again : tie.Need-loop-again Inv-loop μ-loop
 loop-again c =
+    let s : tie.Start Inv-loop μ-loop = search in let a = s .args in
+    let l : tie.At-loop Inv-loop μ-loop = search in
     let k = c .before in
-    let l = k .before .before in
-    let a = begun l .args in
     breaking-on (a .f) (standing (a .f) (a .table .now) (a .shape .now)) (a .list .now) (l .loop .i) (l .loop .inv) _ (l .before .count-pairs .ensures)
     (k .before .loop-test .taken) (sym (k .pair-kept .ensures) ∙ not-false _ (c .if1 .left))
 
 returns-2 : tie.Need-returns-2 Inv-loop μ-loop
 returns-2 c =
+    let s : tie.Start Inv-loop μ-loop = search in let a = s .args in
     let l = c .before in
-    let a = begun l .args in
     breaking-end (a .f) (standing (a .f) (a .table .now) (a .shape .now)) (a .list .now) (l .loop .i) (l .loop .inv) _ (l .before .count-pairs .ensures)
     (c .loop-test .left)
 

@@ -6,10 +6,10 @@ use Rattle.labels.proofs.records.put_record.Tie as tie
 
 returns : tie.Need-returns
 returns c =
-    let back = c .before .before in
-    let labels = back .before .before .before .before .before in
-    let front = labels .before .before .before .before in
-    let s = front .before .before .before .before .before .before in
+    let s : tie.Start = search in
+    let front : tie.After-put = search in
+    let labels : tie.After-put-labels = search in
+    let back : tie.After-put2 = search in
     let a = s .args in
     record-written _ (a .from) (a .n) (a .r .now) (s .pre .0) (a .at) (a .new .now) _ _ _ (front .put .ensures) (labels .put-labels .ensures)
     (back .put2 .ensures)
