@@ -11,11 +11,15 @@ use paper::Format;
 use paper::Width;
 use silmezga::Reshaped;
 use silmezga::Verdict;
-use silmezga::reader::handed;
+use silmezga::reader::make;
+use silmezga::reader::next;
+use silmezga::reader::row;
 ghost use mathlib.Core.Path.{_≡_};
+ghost use mathlib.Core.Bool.{true};
 ghost use Prim.Native.Nat.{_≤_};
 ghost use lib.ListN.{length};
 ghost use Rattle.paper.specs.Format.{rowBytes};
+ghost use Rattle.paper.specs.Widths.{formatOf};
 ghost use Rattle.bytes.specs.Served.{Served};
 
 // Prints a refusal, as every screen does.
@@ -40,23 +44,28 @@ fn print_line(row: &[u8], f: Format, source: u32) -> bool
     print(&text[..n])
 }
 
-// The lines of a new table, in order, each written as soon as its text is made.
-fn print_lines(width: Width, table: &[u8], sources: &[u32], lines: usize) -> bool {
-    if sources.len() < lines {
+// A whole row's line, with its source; false where the row is not whole or has no source.
+fn print_row(row: &[u8], width: Width, sources: &[u32], at: usize) -> bool
+    ensures { λ r. ⌜ (r ≡ true → length (now (row .entry)) ≡ rowBytes (formatOf width)) ⌝ }
+{
+    let f = paper::format_of(width);
+    if row.len() != bytes::row_bytes(f) {
         return false;
     }
-    let f = served(width);
-    let w = bytes::row_bytes(f);
-    let mut i = 0;
-    while i < lines {
-        let row = handed(width, table, i);
-        if row.len() != w {
+    if sources.len() <= at {
+        return false;
+    }
+    print_line(row, f, sources[at])
+}
+
+// The lines of a new table, in order, each written as soon as its text is made: a reader steps from row to row.
+fn print_lines(width: Width, table: &[u8], sources: &[u32], lines: usize) -> bool {
+    let mut r = make(width, table, 0);
+    while r.at < lines {
+        if !print_row(row(r), width, sources, r.at) {
             return false;
         }
-        if !print_line(row, f, sources[i]) {
-            return false;
-        }
-        i += 1;
+        r = next(r);
     }
     true
 }
