@@ -10,6 +10,9 @@ import indexed, paper01, typed_trees
 # numbers of a list of pairs, the bytes of a text, and some places more than a table has rows
 MOST_RECORDS, MOST_SUMMARIES, MOST_MOVED, MOST_NUMBERS, MOST_HELD, MOST_PLACES = 4100, 65, 30000, 1024, 4096, 1100
 
+# the greatest number that C can say
+MOST_SAID = 2**32 - 1
+
 # a narrow file is widened, and a wide one narrowed
 OTHER = {6: 8, 8: 6}
 
@@ -21,7 +24,8 @@ class Case(typing.NamedTuple):
     """What a case leaves open, `filled` chooses. The room is of whole records, of bytes past them, and of places. Where there is a shape of
     a second reshape, the case is a chain. `moved` is the bytes lent for the table and for the shape in the other width, and as many for both with
     their labels converted. The numbers are a list of pairs of labels. `typed` is the bytes lent for the shape of a text and for a printed line. Where
-    there is an index, its two lists are lent for reading, and as many places of each for building."""
+    there is an index, its two lists are lent for reading, and as many places of each for building. The width is said to C by a number, which is
+    that of the levels where no other is said."""
     table: bytes
     shape: bytes = b""
     row: typing.Optional[int] = None
@@ -34,6 +38,7 @@ class Case(typing.NamedTuple):
     text: bytes = b""
     typed: typing.Optional[typing.Tuple[int, int]] = None
     index: typing.Optional[typing.Tuple[typing.Tuple[int, ...], typing.Tuple[int, ...]]] = None
+    said: typing.Optional[int] = None
 
     @property
     def row_length(self):
@@ -138,6 +143,14 @@ def in_bytes(numbers):
     return paper01.written(numbers, len(numbers))
 
 
+def width_byte(case):
+    """The byte of the number that says the width: 255 stands for the greatest number."""
+    said = case.levels if case.said is None else case.said
+    assert said < 255 or said == MOST_SAID, "a number that has no byte"
+    assert (said == 8) == (case.levels == 8), "8 says eight levels, and every other number six"
+    return min(said, 255)
+
+
 def packed(all_cases):
     """The bytes of all cases, each as what differs from those before."""
     held = bytearray(65536)
@@ -153,7 +166,7 @@ def packed(all_cases):
                  (57344, in_bytes(case.numbers)), (61440, case.text))
         made = [change for start, data in parts for change in changes(held, start, data)]
         lengths = ((len(made), 2), (len(case.table), 2), (len(case.shape), 2))
-        fields = (*lengths, (case.row, 8), (records, 2), (past, 1), (case.summaries, 1), (places, 2), (len(case.again), 2), (case.levels, 1),
+        fields = (*lengths, (case.row, 8), (records, 2), (past, 1), (case.summaries, 1), (places, 2), (len(case.again), 2), (width_byte(case), 1),
                   *((lent, 2) for lent in case.moved), (len(case.numbers), 2), (len(case.text), 2), *((lent, 2) for lent in case.typed),
                   (int(case.index is not None), 1), *((len(numbers), 2) for numbers in lists))
         yield b"".join(x.to_bytes(size, "little") for x, size in fields) + b"".join(made)

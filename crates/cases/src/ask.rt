@@ -36,6 +36,14 @@ fn bytes_lent(width: Width, records: usize, past: usize) -> usize
     record_bytes(width) * records + past
 }
 
+// The number that says the width to C: 255 stands for the greatest there is.
+fn number_said(levels: u8) -> u32 {
+    if levels == 255 {
+        return u32::MAX;
+    }
+    levels as u32
+}
+
 pub fn asked(head: &[u8]) -> Ask
     requires { ⌜ length (now head) ≡ 40 ⌝ }
 {
@@ -43,7 +51,7 @@ pub fn asked(head: &[u8]) -> Ask
     let width = width_of(levels);
     Ask {
         width,
-        said: levels as u32,
+        said: number_said(head[22]),
         row: bytes::long(head, 6),
         summaries: bytes::wide(head[17]),
         bytes: bytes_lent(width, bytes::word(head, 14), bytes::wide(head[16])),

@@ -8,10 +8,11 @@
 // from 32,768, the last descendants of the index from 40,960 and its next rows from 45,056, the second shape's from 49,152, the list's from 57,344
 // and the text's from 61,440, and all begin as zeros. A head of 40 bytes, least byte first: the number of changes (2 bytes), the length of the
 // table (2) and of the shape (2), the row (8), the whole records lent (2), the bytes lent past them (1), the summaries lent (1), the places lent
-// for the source list (2), the length of the second shape (2), 0 where there is none, the levels of the width (1), 8 or else 6, the bytes lent for
-// the table (2) and for the shape (2) in the other width, how many numbers the list has (2), the length of the text (2), the bytes lent for its
-// shape (2) and for the line (2), whether there is an index (1), and how many last descendants (2) and next rows (2) it has. Then each change: its
-// place (2 bytes), its length (1) and its bytes. Records are counted because the bytes of 4,096 do not fit two bytes.
+// for the source list (2), the length of the second shape (2), 0 where there is none, the number that says the width to C (1), where 255 stands for
+// 4,294,967,295, the bytes lent for the table (2) and for the shape (2) in the other width, how many numbers the list has (2), the length of the
+// text (2), the bytes lent for its shape (2) and for the line (2), whether there is an index (1), and how many last descendants (2) and next rows
+// (2) it has. Then each change: its place (2 bytes), its length (1) and its bytes. Records are counted because the bytes of 4,096 do not fit two
+// bytes. 8 says eight levels, and every other number six.
 //
 // The line has a part for each call, with ": " between them, and pieces of a part have "; " between them:
 // - examining's number, place and rows;
