@@ -4,7 +4,7 @@ use mathlib.Core.Path.{_≡_, refl}
 use mathlib.Core.List.{List, [], _∷_, _++_, map}
 use Rattle.paper.specs.Format.{base, eight}
 use Rattle.paper.specs.Opened.{opened}
-use Rattle.paper.specs.Samples.{row, entry, portfolio, lessee, lease, asset}
+use Rattle.paper.specs.samples.Files.{row, entry, portfolio, lessee, lease, asset}
 use Rattle.grammar.specs.Text.{ascii, digitsIn, decimal, signedText, followed, parted}
 use Rattle.grammar.specs.Names.{names, nameOf, nameText}
 use Rattle.listing.specs.Listing.{deweyText}

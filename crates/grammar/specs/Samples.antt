@@ -9,7 +9,7 @@ use lib.ListN.{length, replicate}
 use Rattle.paper.specs.Lists.{joinMap, padded}
 use Rattle.paper.specs.Format.{Format, base, eight, bytes}
 use Rattle.paper.specs.Opened.{opened}
-use Rattle.paper.specs.Samples.{row, table, entry, A, table7, table10, portfolio, lessee, lease, asset}
+use Rattle.paper.specs.samples.Files.{row, table, entry, A, table7, table10, portfolio, lessee, lease, asset}
 use Rattle.grammar.specs.Text.{ascii, space, digitsIn, decimal, followed, parted}
 use Rattle.grammar.specs.Names.{names, nameOf, nameText}
 use Rattle.grammar.specs.Grammar.{tokensFrom, tokens, Name, nameKept, dotted, spelled, Trees, noTrees, tree, treesTokens, namesKept}
@@ -143,6 +143,14 @@ samples =
     ∷ (refused "lease.21", at 13 0)
     ∷ (refused "lease [ lessee asset ]\n", at 12 22)
     ∷ (refused "lease [ lessee\tasset ]", at 12 8)
+    -- NUL and bytes above 127 are no spaces, no brackets and no letters: each belongs to a word that is no name
+    ∷ (refusal (0 ∷ []), at 12 0)
+    ∷ (refusal (ascii "lease" ++ 0 ∷ []), at 12 0)
+    ∷ (refusal (ascii "lease " ++ 0 ∷ []), at 12 6)
+    ∷ (refusal (ascii "lease" ++ 160 ∷ []), at 12 0)
+    ∷ (refusal (236 ∷ ascii "ease"), at 12 0)
+    ∷ (refusal (ascii "lease " ++ 219 ∷ ascii " asset ]"), at 12 6)
+    ∷ (refusal (ascii "lease [ " ++ 255 ∷ ascii " ]"), at 12 8)
     -- brackets: never empty, never one too many; two trees side by side at the root
     ∷ (refused "lease [ ]", at 12 8)
     ∷ (refused "[ lease ]", at 12 0)

@@ -10,7 +10,8 @@ use Rattle.paper.specs.Shapes.{entries}
 use Rattle.paper.specs.Calls.{judge}
 use Rattle.paper.specs.NewTable.{entryUnit}
 use Rattle.paper.specs.Opened.{opened}
-use Rattle.paper.specs.Samples.{row, table, entry, A, table10, portfolio, lessee, lease, asset, reshaped}
+use Rattle.paper.specs.samples.Files.{row, table, entry, A, table10, portfolio, lessee, lease, asset}
+use Rattle.paper.specs.samples.Told.{reshaped}
 use Rattle.grammar.specs.Text.{ascii, digitsIn, decimal, signedText, followed, parted}
 use Rattle.grammar.specs.Names.{names, nameOf, nameText}
 use Rattle.listing.specs.Listing.{refusedText, verdictText, deweyText, lineText, linesText, edgeText, edgesText, listingText}

@@ -12,13 +12,13 @@ use lib.Seq.{take-at}
 use borrow.Author.Tests.{eqb-true, eq-eqb, ne-eqb, leb-true, leb-false}
 use Rattle.paper.specs.Lists.{Has, keep, all, any, isEmpty, lastOr, between, most, least, joined, joinMap, same, up, count}
 -- A wrong definition is refused first by the sample that it breaks, so the samples stand before every law.
-use Rattle.paper.specs.Samples
-use Rattle.paper.specs.Tried
-use Rattle.paper.specs.Further
-use Rattle.paper.specs.WidthSamples
-use Rattle.paper.specs.LabelSamples
-use Rattle.paper.specs.PartnerSamples
-use Rattle.paper.specs.IndexSamples
+use Rattle.paper.specs.samples.Marked
+use Rattle.paper.specs.samples.Tried
+use Rattle.paper.specs.samples.Further
+use Rattle.paper.specs.samples.Widths
+use Rattle.paper.specs.samples.Labels
+use Rattle.paper.specs.samples.Partners
+use Rattle.paper.specs.samples.Index
 
 -- ---- tests
 pub both : (a b : Bool) → a && b ≡ true → (a ≡ true) × (b ≡ true)

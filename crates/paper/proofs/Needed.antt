@@ -17,10 +17,11 @@ use Rattle.paper.specs.Verdict.{missing, apart, unsure}
 use Rattle.paper.specs.Calls.{judge}
 use Rattle.paper.specs.Links.{LinksKept, newNodes, sourceRow, shownPairs, sourcePairs}
 use Rattle.paper.specs.MadeUp.{NothingMadeUp, forkEntry}
-use Rattle.paper.specs.Samples.{row, table, entry, A, table7, reshaped, portfolio, lessee, lease, asset}
 use Rattle.paper.specs.Opened.{opened}
-use Rattle.paper.specs.Tried.{among, under, forked, justified, noneMadeUp}
-use Rattle.paper.specs.Further.{single}
+use Rattle.paper.specs.samples.Files.{row, table, entry, A, table7, portfolio, lessee, lease, asset}
+use Rattle.paper.specs.samples.Told.{reshaped}
+use Rattle.paper.specs.samples.Tried.{among, under, forked, justified, noneMadeUp}
+use Rattle.paper.specs.samples.Further.{single}
 use Rattle.paper.proofs.Lists.{both, and, eq-same, all-has, any-has, has-any}
 
 has-among : (p : ℕ × ℕ) (l : List (ℕ × ℕ)) → Has p l → among p l ≡ true

@@ -19,10 +19,4 @@ pub mod Sound
 pub mod Shown
 pub mod Faithful
 pub mod Opened
-pub mod Samples
-pub mod Further
-pub mod Tried
-pub mod WidthSamples
-pub mod LabelSamples
-pub mod PartnerSamples
-pub mod IndexSamples
+pub mod samples

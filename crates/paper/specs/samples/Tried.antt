@@ -15,9 +15,9 @@ use Rattle.paper.specs.Verdict.{Verdict, kept, missing, apart, unsure}
 use Rattle.paper.specs.Calls.{examine, judge, reshape, Reshaping}
 use Rattle.paper.specs.Links.{newNodes, sourceRow, shownPairs, sourcePairs}
 use Rattle.paper.specs.MadeUp.{forkEntry, unshown}
-use Rattle.paper.specs.Samples.{row, table, entry, A, table7, table8, table10, portfolio, lessee, lease, asset}
-use Rattle.paper.specs.Further.{orphaned}
 use Rattle.paper.specs.Opened.{opened}
+use Rattle.paper.specs.samples.Files.{table, entry, A, table7, table8, table10, portfolio, lessee, lease, asset, shape4, shape5, files}
+use Rattle.paper.specs.samples.Further.{orphaned}
 
 -- a test for membership of a pair
 abbrev pub among : ℕ × ℕ → List (ℕ × ℕ) → Bool
@@ -59,8 +59,8 @@ later = table 0 ((1 ∷ [], 1) ∷ (1 ∷ 1 ∷ [], 3) ∷ (1 ∷ 2 ∷ [], 3) �
 
 pub cases : List (List ℕ × List ℕ)
 cases =
-    (A, entry 1 lease ++ entry 2 lessee ++ entry 2 asset)
-    ∷ (A, entry 1 asset ++ entry 2 lease ++ entry 3 lessee)
+    (A, shape4)
+    ∷ (A, shape5)
     ∷ (A, entry 1 portfolio ++ entry 2 lessee ++ entry 2 asset)
     ∷ (table7, entry 1 (1 ∷ 3 ∷ []) ++ entry 2 (1 ∷ 3 ∷ 4 ∷ []) ++ entry 3 (1 ∷ 5 ∷ []))
     -- lessee and lease meet at 2, and on their path by way of the asset, which another lessee has, the least level is 1
@@ -91,11 +91,11 @@ sound c =
     eqb (r .reply .number) 0 && eqb (x .number) 0 && eqb (x .rest) n && leb (length (types (rows base new))) (length (entries base (c .1)))
 
 pub sound-tried : all sound cases ≡ true
-unfolding opened sound later cases row table entry A table7 table8 table10 portfolio lessee lease asset
+unfolding opened sound later cases files
 sound-tried = refl
 
 pub demand3-tried : all holds cases ≡ true
-unfolding opened holds linksHold later cases row table entry A table7 table8 table10 portfolio lessee lease asset
+unfolding opened holds linksHold later cases files
 demand3-tried = refl
 
 -- ---- what is not made up
@@ -143,5 +143,5 @@ madeUp c =
     && elim (j .noneApart) [ false ↦ true | true ↦ noneMadeUp b sb (take (n * rowBytes base) (r .table)) sources ]
 
 pub made-up-tried : all madeUp cases ≡ true
-unfolding opened madeUp forked justified noneMadeUp namedUnshown later cases row table entry A table7 table8 table10 portfolio lessee lease asset
+unfolding opened madeUp forked justified noneMadeUp namedUnshown later cases files
 made-up-tried = refl

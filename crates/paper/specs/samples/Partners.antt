@@ -7,8 +7,8 @@ use Rattle.paper.specs.Lists.{count}
 use Rattle.paper.specs.Format.{base, mostEntries}
 use Rattle.paper.specs.Partners.{EdgeNumbers}
 use Rattle.paper.specs.Calls.{judge}
-use Rattle.paper.specs.Samples.{row, table, entry, A, table7, table10, portfolio, lessee, lease, asset}
 use Rattle.paper.specs.Opened.{opened}
+use Rattle.paper.specs.samples.Files.{entry, A, table7, table10, portfolio, lessee, lease, asset, shape4, shape5, files}
 
 -- of each of the first n entries: least and greatest children under a parent row, least and greatest parents of a child row
 edged : List ℕ → List ℕ → ℕ → List (List ℕ)
@@ -32,12 +32,12 @@ pub samples : List (List (List ℕ) × List (List ℕ))
 samples =
     -- P4: `edge 1 1 1 1 2` and `edge 2 0 2 1 1`: lease 8 has no asset; entry 0 and entries past the last hold zeros
     (
-      edged A (entry 1 lease ++ entry 2 lessee ++ entry 2 asset) mostEntries,
+      edged A shape4 mostEntries,
       none ∷ (1 ∷ 1 ∷ 1 ∷ 2 ∷ []) ∷ (0 ∷ 2 ∷ 1 ∷ 1 ∷ []) ∷ replicate 13 none,
     )
-    ∷ (places A (entry 1 lease ++ entry 2 lessee ++ entry 2 asset), (16 ∷ 16 ∷ 16 ∷ 16 ∷ []) ∷ [])
+    ∷ (places A shape4, (16 ∷ 16 ∷ 16 ∷ 16 ∷ []) ∷ [])
     -- P5, verdict 1 at entry 1: all edges. Lease 8 has no asset for a parent; lessee 7 has lease 8, which no line shows
-    ∷ (edged A (entry 1 asset ++ entry 2 lease ++ entry 3 lessee) 4, none ∷ (1 ∷ 1 ∷ 0 ∷ 2 ∷ []) ∷ (1 ∷ 1 ∷ 1 ∷ 2 ∷ []) ∷ none ∷ [])
+    ∷ (edged A shape5 4, none ∷ (1 ∷ 1 ∷ 0 ∷ 2 ∷ []) ∷ (1 ∷ 1 ∷ 1 ∷ 2 ∷ []) ∷ none ∷ [])
     -- P6, verdict 2: both edges
     ∷ (edged A (entry 1 portfolio ++ entry 2 lessee ++ entry 2 asset) 3, none ∷ (2 ∷ 2 ∷ 1 ∷ 1 ∷ []) ∷ (3 ∷ 3 ∷ 1 ∷ 1 ∷ []) ∷ [])
     -- P7, verdict 3: of two leases one has an asset; an asset and a payment meet in their portfolio
@@ -52,5 +52,5 @@ samples =
 
 -- every sample says what document 02 says
 pub samples-hold : map (λ (p : List (List ℕ) × List (List ℕ)). p .0) samples ≡ map (λ (p : List (List ℕ) × List (List ℕ)). p .1) samples
-unfolding opened samples row table entry A table7 table10 portfolio lessee lease asset edged places none
+unfolding opened files samples edged places none
 samples-hold = refl

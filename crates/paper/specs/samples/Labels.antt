@@ -1,17 +1,14 @@
 -- Samples of request 10, one list under one statement like the marked ones: a table and its shape converted, judged and reshaped as before, at
 -- both widths, and each refusal with its place, alone and beside the next. Assumes nothing.
-use Prim.Native.Nat.{ℕ, zero, suc, _*_}
+use Prim.Native.Nat.{ℕ, _*_}
 use mathlib.Core.Path.{_≡_, refl}
 use mathlib.Core.List.{List, [], _∷_, _++_, map}
-use lib.ListN.{take, replicate}
-use Rattle.paper.specs.Format.{Format, base, eight, rowBytes}
-use Rattle.paper.specs.Verdict.{verdictNumbers}
-use Rattle.paper.specs.Calls.{examine, judge, reshape}
-use Rattle.paper.specs.Widths.{recordTo, recordsTo, tableTo, shapeTo}
-use Rattle.paper.specs.Labels.{oldRange, pairs, occurring, pairKept, badPair, unlisted, recordWith, recordsWith, tableWith, converting}
-use Rattle.paper.specs.Labels.{Converting, convert}
-use Rattle.paper.specs.Samples.{row, table, entry}
+use Rattle.paper.specs.Format.{base, eight}
+use Rattle.paper.specs.Widths.{tableTo, shapeTo}
+use Rattle.paper.specs.Labels.{oldRange, pairs, tableWith, Converting, convert}
 use Rattle.paper.specs.Opened.{opened}
+use Rattle.paper.specs.samples.Files.{row, table, entry, lent, files}
+use Rattle.paper.specs.samples.Told.{added, examined, judged, rewritten, said}
 
 -- ---- sample files
 -- portfolio over two machines (label 100), each over a meter (label 999); x and y stand for 100 and 999
@@ -30,18 +27,9 @@ one x = row (1 ∷ []) x 0
 abbrev only : ℕ → List ℕ
 only x = entry 1 (x ∷ [])
 
--- the pairs of old labels from k on with new labels 2, 3 and so on, n of them
-abbrev run : ℕ → ℕ → ℕ → List ℕ
-run k j zero = []
-run k j (suc n) = k ∷ j ∷ run (suc k) (suc j) n
-
 -- ---- what the definitions say, as lists of figures
--- n lent bytes of 7
-abbrev lent : ℕ → List ℕ
-lent n = replicate n 7
-
 -- number, place and the counts of rows and entries, and the lent bytes afterwards
-abbrev told : Converting → List (List ℕ)
+told : Converting → List (List ℕ)
 told c = (c .reply .number ∷ c .reply .place ∷ c .reply .rest .rows ∷ c .reply .rest .entries ∷ []) ∷ c .table ∷ c .shape ∷ []
 
 -- with bytes lent for n rows and m entries
@@ -49,23 +37,9 @@ abbrev told-in : ℕ → ℕ → List ℕ → List ℕ → List ℕ → List (Li
 told-in n m b s numbers = told (convert base b s numbers (lent (24 * n)) (lent (16 * m)))
 
 -- number and place, with no byte lent
-abbrev refusal : List ℕ → List ℕ → List ℕ → List (List ℕ)
+refusal : List ℕ → List ℕ → List ℕ → List (List ℕ)
+unfolding added
 refusal b s numbers = let r = convert base b s numbers [] [] .reply in (r .number ∷ r .place ∷ []) ∷ []
-
--- number, place and count of rows
-abbrev examined : Format → List ℕ → List (List ℕ)
-examined f b = let r = examine f b in (r .number ∷ r .place ∷ r .rest ∷ []) ∷ []
-
--- number and place, and the verdict's numbers
-abbrev judged : Format → List ℕ → List ℕ → List (List ℕ)
-judged f b sb = let j = judge f b sb in (j .number ∷ j .place ∷ []) ∷ verdictNumbers (j .rest .verdict) ∷ []
-
--- number, place, the new table as it is written, and its source list, with room for ten lines
-abbrev reshaped : Format → List ℕ → List ℕ → (List ℕ → List ℕ) → List (List ℕ)
-reshaped f b sb as-written =
-    let r = reshape f b sb (replicate (10 * rowBytes f) 0) (replicate 10 0) in
-    let n = r .reply .rest in
-    (r .reply .number ∷ r .reply .place ∷ []) ∷ as-written (take (n * rowBytes f) (r .table)) ∷ take n (r .sources) ∷ []
 
 -- 100 becomes 21 and 999 becomes 99; 500 occurs nowhere
 abbrev three : List ℕ
@@ -90,14 +64,13 @@ labels =
     -- it is judged and reshaped as before, and the new table's labels are the converted ones
     ∷ (judged base (tape 21 99) (wanted 21 99), judged (oldRange base) (tape 100 999) (wanted 100 999))
     ∷ (
-      reshaped base (tape 21 99) (wanted 21 99) (λ b. b),
-      reshaped (oldRange base) (tape 100 999) (wanted 100 999) (tableWith base (pairs three)),
+      rewritten base (tape 21 99) (wanted 21 99) (λ b. b),
+      rewritten (oldRange base) (tape 100 999) (wanted 100 999) (tableWith base (pairs three)),
     )
     -- a table without rows; labels to 99 need no list
     ∷ (told-in 0 1 [] (only 100) (100 ∷ 1 ∷ []), (0 ∷ 0 ∷ 0 ∷ 1 ∷ []) ∷ [] ∷ only 1 ∷ [])
     ∷ (told-in 1 1 (one 99) (only 1) [], (0 ∷ 0 ∷ 1 ∷ 1 ∷ []) ∷ one 99 ∷ only 1 ∷ [])
-    -- 1, 2, 3, 5 and 6 on the old range, each before the next and all before 25
-    ∷ (refusal (lent 24577) [] (1 ∷ []), (1 ∷ 0 ∷ []) ∷ [])
+    -- 2, 3, 5 and 6 on the old range, each before the next and all before 25
     ∷ (refusal (lent 25) [] (1 ∷ []), (2 ∷ 0 ∷ []) ∷ [])
     ∷ (refusal (one 1 ++ one 1) [] (1 ∷ []), (3 ∷ 1 ∷ []) ∷ [])
     ∷ (refusal (one 1000) (only 1) [], (3 ∷ 0 ∷ []) ∷ [])
@@ -119,9 +92,6 @@ labels =
     ∷ (refusal (one 1) (only 1) (100 ∷ []), (25 ∷ 0 ∷ []) ∷ [])
     ∷ (refusal (one 1) (only 1) (100 ∷ 2 ∷ 101 ∷ 3 ∷ 102 ∷ []), (25 ∷ 2 ∷ []) ∷ [])
     ∷ (refusal (one 1) (only 1) (100 ∷ 2 ∷ 101 ∷ 2 ∷ 102 ∷ []), (25 ∷ 1 ∷ []) ∷ [])
-    -- 98 pairs beside label 1 can be right, the 99th cannot
-    ∷ (refusal (one 1) (only 1) (run 100 2 98), (29 ∷ 0 ∷ []) ∷ [])
-    ∷ (refusal (one 1) (only 1) (run 100 2 99), (25 ∷ 98 ∷ []) ∷ [])
     -- 25 before 26; 26 with the first row, though an entry before it is at fault; else with the first entry; 26 before 29
     ∷ (refusal (one 500) (only 500) (100 ∷ []), (25 ∷ 0 ∷ []) ∷ [])
     ∷ (refusal (tape 100 999) (only 500) (100 ∷ 2 ∷ []), (26 ∷ 2 ∷ []) ∷ [])
@@ -133,5 +103,5 @@ labels =
 
 -- every sample says what request 10 says
 pub labels-hold : map (λ (p : List (List ℕ) × List (List ℕ)). p .0) labels ≡ map (λ (p : List (List ℕ) × List (List ℕ)). p .1) labels
-unfolding opened labels eight recordTo recordsTo occurring pairKept badPair unlisted recordWith recordsWith converting convert row table entry
+unfolding opened added files said labels told refusal
 labels-hold = refl

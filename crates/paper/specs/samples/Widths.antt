@@ -1,26 +1,19 @@
 -- Samples of the two widths, one list under one statement like the marked ones: table A widened, judged and reshaped, files moved there and
 -- back, and what is too deep. Assumes nothing.
-use Prim.Native.Nat.{ℕ, zero, suc, _*_}
+use Prim.Native.Nat.{ℕ, zero, suc}
 use mathlib.Core.Path.{_≡_, refl}
 use mathlib.Core.List.{List, [], _∷_, _++_, map}
 use lib.ListN.{length, take, drop, replicate}
 use Rattle.paper.specs.Lists.{joinMap, padded}
-use Rattle.paper.specs.Format.{Format, base, eight, valueBytes, rowBytes, bytes}
+use Rattle.paper.specs.Format.{base, eight, valueBytes, bytes}
 use Rattle.paper.specs.Tables.{rowBack}
-use Rattle.paper.specs.Verdict.{verdictNumbers}
-use Rattle.paper.specs.Calls.{examine, lookUp, judge, reshape}
-use Rattle.paper.specs.Widths.{recordTo, recordsTo, tableTo, shapeTo, moving, Moved, moveTable, moveShape}
-use Rattle.paper.specs.Samples.{row, table, entry, A, lessee, lease, asset}
+use Rattle.paper.specs.Calls.{lookUp}
+use Rattle.paper.specs.Widths.{recordTo, tableTo, shapeTo, Moved, moveTable, moveShape}
 use Rattle.paper.specs.Opened.{opened}
+use Rattle.paper.specs.samples.Files.{row, A, entry, shape4, shape5, new4, sources4, lent, files}
+use Rattle.paper.specs.samples.Told.{added, examined, judged, rewritten, said}
 
 -- ---- sample files
--- the shape of P4, and that of P5
-abbrev shape4 : List ℕ
-shape4 = entry 1 lease ++ entry 2 lessee ++ entry 2 asset
-
-abbrev shape5 : List ℕ
-shape5 = entry 1 asset ++ entry 2 lease ++ entry 3 lessee
-
 -- a row of a wide table with label 1
 abbrev wideRow : List ℕ → List ℕ
 wideRow d = rowBack (record { level = length d; spare = 0; label = 1; components = padded (eight .levels) d; value = bytes valueBytes 0 })
@@ -47,27 +40,8 @@ abbrev narrowNested : ℕ → List ℕ
 narrowNested n = nested (λ l. entry l (1 ∷ [])) n
 
 -- ---- what the definitions say, as lists of figures
--- number, place and count of rows
-abbrev examined : Format → List ℕ → List (List ℕ)
-examined f b = let r = examine f b in (r .number ∷ r .place ∷ r .rest ∷ []) ∷ []
-
--- number and place, and the verdict's numbers
-abbrev judged : Format → List ℕ → List ℕ → List (List ℕ)
-judged f b sb = let j = judge f b sb in (j .number ∷ j .place ∷ []) ∷ verdictNumbers (j .rest .verdict) ∷ []
-
--- number, place, the new table and its source list, with room for ten lines
-abbrev reshaped : Format → List ℕ → List ℕ → (List ℕ → List ℕ) → List (List ℕ)
-reshaped f b sb as-written =
-    let r = reshape f b sb (replicate (10 * rowBytes f) 0) (replicate 10 0) in
-    let n = r .reply .rest in
-    (r .reply .number ∷ r .reply .place ∷ []) ∷ as-written (take (n * rowBytes f) (r .table)) ∷ take n (r .sources) ∷ []
-
--- n lent bytes of 7
-abbrev lent : ℕ → List ℕ
-lent n = replicate n 7
-
 -- number, place and count, and the lent bytes afterwards
-abbrev told : Moved → List (List ℕ)
+told : Moved → List (List ℕ)
 told m = (m .reply .number ∷ m .reply .place ∷ m .reply .rest ∷ []) ∷ m .bytes ∷ []
 
 -- ---- the list: what the definitions say, beside what request 9 says
@@ -90,7 +64,7 @@ widths =
     ∷ (judged base (row (1 ∷ []) 1 0) (narrowNested 7), (6 ∷ 6 ∷ []) ∷ (0 ∷ []) ∷ [])
     ∷ (judged eight (tableTo base eight (row (1 ∷ []) 1 0)) (shapeTo base eight (narrowNested 7)), (0 ∷ 0 ∷ []) ∷ (0 ∷ []) ∷ [])
     -- P4's new table, widened line by line, and its source list
-    ∷ (reshaped eight (tableTo base eight A) (shapeTo base eight shape4) (λ b. b), reshaped base A shape4 (tableTo base eight))
+    ∷ (rewritten eight (tableTo base eight A) (shapeTo base eight shape4) (λ b. b), (0 ∷ 0 ∷ []) ∷ tableTo base eight new4 ∷ sources4 ∷ [])
     -- row 8 of it has 28 bytes
     ∷ ((lookUp eight (tableTo base eight A) 8 .rest ∷ []), (recordTo base eight (row (1 ∷ 2 ∷ 1 ∷ []) 3 800) ∷ []))
     -- widened into 254 bytes, table A takes 252 and the last two stay; a byte short, it is refused and none changes
@@ -114,14 +88,12 @@ widths =
     ∷ (told (moveShape eight base (wideNested 6) (lent 0)), (29 ∷ 0 ∷ 0 ∷ []) ∷ [] ∷ [])
     ∷ (told (moveShape eight base (wideEntry 1 6 ++ wideEntry 2 7 ++ wideEntry 2 8) (lent 3)), (24 ∷ 1 ∷ 0 ∷ []) ∷ lent 3 ∷ [])
     ∷ (told (moveShape eight base (wideEntry 1 7 ++ lent 20) (lent 0)), (6 ∷ 1 ∷ 0 ∷ []) ∷ [] ∷ [])
-    -- the tests of the file come first: 1, 2 and 5 by its own width
-    ∷ (examined eight (lent 28673), (1 ∷ 0 ∷ 0 ∷ []) ∷ [])
-    ∷ (examined eight (lent 28672), (3 ∷ 0 ∷ 0 ∷ []) ∷ [])
+    -- the tests of the file come first: 2 and 5 by its own width
     ∷ (told (moveTable eight base (lent 24) (lent 0)), (2 ∷ 0 ∷ 0 ∷ []) ∷ [] ∷ [])
     ∷ (told (moveShape base eight (lent 20) (lent 0)), (5 ∷ 0 ∷ 0 ∷ []) ∷ [] ∷ [])
     ∷ []
 
 -- every sample says what request 9 says
 pub widths-hold : map (λ (p : List (List ℕ) × List (List ℕ)). p .0) widths ≡ map (λ (p : List (List ℕ) × List (List ℕ)). p .1) widths
-unfolding opened widths eight recordTo recordsTo moving moveTable moveShape row table entry A lessee lease asset
+unfolding opened added files said widths told
 widths-hold = refl
