@@ -1,24 +1,29 @@
 -- Laws of the answers in numbers: where a looked-up row stands, the verdict and the second answer. Assumes nothing.
 use Prim.Native.Nat.{ℕ, _*_, _≤_, _<_}
 use native.Mathlib.Omega.{arith}
-use mathlib.Core.Path.{_≡_, sym, _∙_, ap}
+use mathlib.Core.Path.{_≡_, refl, sym, _∙_, ap}
 use mathlib.Core.List.{List, [], _∷_, _++_}
-use lib.ListN.{length, take, drop}
+use lib.ListN.{length, take, drop, getD}
 use Rattle.paper.specs.Lists.{padded}
 use Rattle.paper.specs.Format.{Format, mostRows, rowBytes, whole}
 use Rattle.paper.specs.Tables.{rows}
-use Rattle.paper.specs.Verdict.{Judgement}
+use Rattle.paper.specs.Verdict as paper
+use Rattle.paper.specs.Verdict.{Judgement, kept, missing, apart, unsure, verdictNumbers}
 use Rattle.paper.specs.Calls.{given, Reply, tests1-3, lookUp}
 use Rattle.judging.specs.Judged.{InNumbers, judged, inNumbers}
+use Rattle.judging.specs.Told.{numbersOf}
 use Rattle.judging.specs.declared.judge.Judged.{Judged}
+use Rattle.judging.specs.declared.verdict.Verdict.{Verdict}
+use Rattle.judging.specs.declared.verdict.Verdict.the-variants.{Kept, Missing, Apart, Unsure}
 use Rattle.paper.proofs.Calls.{passed1-3}
 use Rattle.bytes.proofs.Laws.{record-length}
 use Rattle.tables.specs.Reply.{startOf}
 use Rattle.tables.proofs.Back.{refused-start}
 use Rattle.tables.proofs.Examine.{lookUp-row}
 use Rattle.tables.proofs.Rows.{row-in}
-use Rattle.silmezga_c.specs.Told.{LooksUp, asNumber, InFour, judgedNumbers, fourNumbers}
+use Rattle.silmezga_c.specs.Told.{LooksUp, asNumber, InFour, inFour, judgedNumbers, fourNumbers}
 use Rattle.silmezga_c.specs.declared.LookedUp.{LookedUp}
+use Rattle.silmezga_c.specs.declared.JudgedNumbers.{JudgedNumbers}
 
 -- ---- look-up
 module _ (f : Format) (t : List ℕ) (i : ℕ) where
@@ -54,6 +59,15 @@ module _ (f : Format) (t : List ℕ) (i : ℕ) where
           part-is = sym rest;
         }
 
+-- two answers that say where the row stands are one
+pub look-up-unique : {f : Format} {t : List ℕ} {i : ℕ} {r s : LookedUp} → LooksUp f t i r → LooksUp f t i s → r ≡ s
+look-up-unique a b = λ j. record {
+  number = (a .number-is ∙ sym (b .number-is)) j;
+  place = (a .place-is ∙ sym (b .place-is)) j;
+  start = (a .start-is ∙ sym (b .start-is)) j;
+  length = (a .length-is ∙ sym (b .length-is)) j;
+}
+
 -- ---- judging
 -- the four numbers of a verdict in numbers and a second answer
 abbrev four : InNumbers → List ℕ
@@ -66,3 +80,44 @@ in-four j x e = ap {B = Reply InFour} (λ (y : Reply InNumbers). record {
   place = y .place;
   rest = record { four = four (y .rest); edges = y .rest .edges };
 }) e
+
+-- a verdict as Rattle's call answers it
+answered : (v : paper.Verdict) → (w : Verdict) × (numbersOf w ≡ verdictNumbers v)
+answered kept = (Kept, refl)
+answered (missing e r) = (Missing e r, refl)
+answered (apart e f) = (Apart e f, refl)
+answered (unsure e f) = (Unsure e f, refl)
+
+-- who is told a judgement in numbers is told an answer of Rattle's call
+pub tells : (x : Reply Judgement) (r : JudgedNumbers) → inFour r ≡ fourNumbers x → (j : Judged) × ((judged j ≡ inNumbers x) × (inFour r ≡ judgedNumbers j))
+tells x r told =
+    let (v, e) = answered (x .rest .verdict) in
+    let edges = x .rest .edges in
+    let j : Judged = record {
+      number = x .number;
+      place = x .place;
+      verdict = v;
+      «none_apart» = x .rest .noneApart;
+      «least_children» = edges .leastChildren;
+      «greatest_children» = edges .greatestChildren;
+      «least_parents» = edges .leastParents;
+      «greatest_parents» = edges .greatestParents;
+    } in
+    let is : judged j ≡ inNumbers x =
+    λ i. record { number = x .number; place = x .place; rest = record { verdict = e i; noneApart = x .rest .noneApart; edges = edges } } in
+    (j, (is, told ∙ sym (in-four j x is)))
+
+-- two answers that are one reply are one
+pub judged-same : (a b : JudgedNumbers) → inFour a ≡ inFour b → a ≡ b
+judged-same a b = ap {B = JudgedNumbers} (λ (x : Reply InFour). record {
+  number = x .number;
+  place = x .place;
+  verdict = getD (x .rest .four) 0 0;
+  first = getD (x .rest .four) 1 0;
+  second = getD (x .rest .four) 2 0;
+  «none_apart» = getD (x .rest .four) 3 0;
+  «least_children» = x .rest .edges .leastChildren;
+  «greatest_children» = x .rest .edges .greatestChildren;
+  «least_parents» = x .rest .edges .leastParents;
+  «greatest_parents» = x .rest .edges .greatestParents;
+})
