@@ -7,6 +7,7 @@ use mathlib.Core.List.{List}
 use denote.Ref.{now}
 use Rattle.paper.specs.declared.Width.{Width}
 use Rattle.paper.specs.Calls.{Reply, given, judge}
+use Rattle.paper.specs.Tables.{Row}
 use Rattle.paper.specs.Index.{testsIndex, judgeWith}
 use Rattle.paper.specs.Edges.{EdgesAgree}
 use Rattle.judging.specs.declared.judge.Judged.{Judged}
@@ -157,9 +158,9 @@ judge-with-index-settled = (
 
 -- where the lists are this table's, it is what judging without an index says
 pub judge-with-index-plain : Promises judge-with-index.Learnt (λ κs a r e.
-    testsIndex (formatNumbered (a .0)) (now (a .1 .0)) (now (a .1 .1 .1 .0)) (now (a .1 .1 .1 .1 .0)) ≡ given tt
+    (rs : List Row) → testsIndex (formatNumbered (a .0)) (now (a .1 .0)) (now (a .1 .1 .1 .0)) (now (a .1 .1 .1 .1 .0)) ≡ given rs
     → inFour r ≡ fourNumbers (judge (formatNumbered (a .0)) (now (a .1 .0)) (now (a .1 .1 .0))))
-judge-with-index-plain κs a r e x g =
+judge-with-index-plain κs a r e x rs g =
     let (j, (p, u)) = judge-with-index-tells κs a r e x in
-    let plain = indexed.judge-with-index-plain κs (wide a) j (wide e) p g in
+    let plain = indexed.judge-with-index-plain κs (wide a) j (wide e) p rs g in
     u ∙ in-four j (judge (formatNumbered (a .0)) (now (a .1 .0)) (now (a .1 .1 .0))) plain
