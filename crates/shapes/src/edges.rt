@@ -1,6 +1,6 @@
 // The edges of a shape, each named by its lower entry: the level at which its two types meet. And where the children of an entry end.
 ghost use mathlib.Core.Path.{_≡_};
-ghost use Prim.Native.Nat.{_≤_, _<_};
+ghost use Prim.Native.Nat.{_<_};
 ghost use lib.ListN.{length, getD};
 ghost use Rattle.shapes.specs.Edges.{Known, Inside, meetingOf, EdgeLevels, Ends};
 

@@ -21,8 +21,11 @@ Inv-loop s f entries parents labels count w types₀ e₀ types e =
 abbrev μ-loop : tie.MeasureT-loop
 μ-loop s f entries parents labels count w types₀ e₀ types e = entries - e
 
+abbrev lent : tie.After-shared-slice-known3 Inv-loop μ-loop → tie.Start Inv-loop μ-loop
+lent l = l .before .before .before
+
 abbrev begun : tie.At-loop Inv-loop μ-loop → tie.Start Inv-loop μ-loop
-begun l = l .before .before .before .before .before
+begun l = lent (l .before .before)
 
 abbrev turn : tie.After-record Inv-loop μ-loop → tie.At-loop Inv-loop μ-loop
 turn r = r .before .before
@@ -34,7 +37,7 @@ read k = k .before .before .before
 here : (r : tie.After-record Inv-loop μ-loop) →
     let a = begun (turn r) .args in
     turn r .loop .e < whole (entryBytes (a .f)) (a .shape .now)
-here r = let l = turn r in omega (arith, begun l .pre .0 .0, r .before .loop-test .taken)
+here r = let s : tie.Start Inv-loop μ-loop = search in omega (arith, s .pre .0 .0, r .before .loop-test .taken)
 
 -- and the bytes that are looked at are its own
 entry-is : (r : tie.After-record Inv-loop μ-loop) →
@@ -42,8 +45,9 @@ entry-is : (r : tie.After-record Inv-loop μ-loop) →
     let a = begun l .args in
     now (r .«record» .result) ≡ rec (entryBytes (a .f)) (l .loop .e) (a .shape .now)
 entry-is r =
-    let l = turn r in
-    r .«record» .ensures .0 ∙ ap (λ w. rec w (l .loop .e) (begun l .args .shape .now)) (l .before .entry-bytes .ensures)
+    let s : tie.Start Inv-loop μ-loop = search in
+    let l : tie.At-loop Inv-loop μ-loop = search in
+    r .«record» .ensures .0 ∙ ap (λ w. rec w (l .loop .e) (s .args .shape .now)) (l .before .entry-bytes .ensures)
 
 -- the number that is found is that of the type which the entry names
 number-is : (k : tie.After-type-of Inv-loop μ-loop) →
@@ -51,53 +55,56 @@ number-is : (k : tie.After-type-of Inv-loop μ-loop) →
     let a = begun l .args in
     Numbers (a .parents .now) (a .labels .now) (a .count) (named (entry (a .f) (a .shape .now) (l .loop .e))) (k .type-of .result)
 number-is k =
-    let r = read k in
-    let l = turn r in
-    let a = begun l .args in
+    let s : tie.Start Inv-loop μ-loop = search in let a = s .args in
+    let l : tie.At-loop Inv-loop μ-loop = search in
+    let r : tie.After-record Inv-loop μ-loop = search in
     read-numbers (a .f) (a .shape .now) (a .parents .now) (a .labels .now) (a .count) (l .loop .e) (now (r .«record» .result)) (k .before .wide .result)
     (k .type-of .result) (entry-is r) (k .before .wide .ensures .0) (k .type-of .ensures .1)
 
 record-requires : tie.Need-record-requires Inv-loop μ-loop
 record-requires c κs =
+    let start : tie.Start Inv-loop μ-loop = search in
     let l = c .before in
-    let s = begun l .args .shape .now in
+    let s = start .args .shape .now in
     let w = l .before .entry-bytes in
-    row-in (w .result) (l .loop .e) s (omega (arith, begun l .pre .0 .0, ap (λ w. whole w s) (w .ensures), c .loop-test .taken))
+    row-in (w .result) (l .loop .e) s (omega (arith, start .pre .0 .0, ap (λ w. whole w s) (w .ensures), c .loop-test .taken))
 
 type-of-requires : tie.Need-type-of-requires Inv-loop μ-loop
 type-of-requires c κs =
-    let r = c .before .before in
-    let l = turn r in
-    let s = begun l in
+    let s : tie.Start Inv-loop μ-loop = search in
+    let l : tie.At-loop Inv-loop μ-loop = search in
+    let r : tie.After-record Inv-loop μ-loop = search in
     let size = c .wide .ensures .0 ∙ ap (λ b. byte b 1) (entry-is r) in
     let (lo, hi) = entry-size (s .args .f) (s .args .shape .now) (l .loop .e) (here r) (s .pre .1 .0) in
     ((omega (arith, r .«record» .ensures .1, l .before .entry-bytes .ensures), omega (arith, size), omega (arith, size), omega arith), s .pre .1 .1)
 
 returns : tie.Need-returns Inv-loop μ-loop
 returns c =
+    let s : tie.Start Inv-loop μ-loop = search in
+    let l : tie.At-loop Inv-loop μ-loop = search in
+    let r : tie.After-record Inv-loop μ-loop = search in
     let k = c .before in
-    let l = turn (read k) in
-    let s = begun l in
     let a = s .args in
-    numbered-stop (a .f) (a .shape .now) (a .parents .now) (a .labels .now) (a .count) (l .loop .e) (l .loop .types) (l .loop .inv .2) (here (read k))
+    numbered-stop (a .f) (a .shape .now) (a .parents .now) (a .labels .now) (a .count) (l .loop .e) (l .loop .types) (l .loop .inv .2) (here r)
     (k .type-of .result) (number-is k) (omega (arith, c .if1 .taken)) (a .entries) (s .pre .0 .0)
 
 loop-again : tie.Need-loop-again Inv-loop μ-loop
 loop-again c =
+    let s : tie.Start Inv-loop μ-loop = search in let a = s .args in
+    let l : tie.At-loop Inv-loop μ-loop = search in
+    let r : tie.After-record Inv-loop μ-loop = search in
     let k = c .before in
-    let l = turn (read k) in
-    let a = begun l .args in
     let v = l .loop in (
       omega arith,
       length-set (v .types) (v .e) (k .type-of .result) ∙ v .inv .1,
-      numbered-step (a .f) (a .shape .now) (a .parents .now) (a .labels .now) (a .count) (v .e) (v .types) (v .inv .2) (here (read k))
+      numbered-step (a .f) (a .shape .now) (a .parents .now) (a .labels .now) (a .count) (v .e) (v .types) (v .inv .2) (here r)
           (k .type-of .result) (number-is k) (omega arith) (omega (arith, c .if1 .left)),
     )
 
 returns-2 : tie.Need-returns-2 Inv-loop μ-loop
 returns-2 c =
+    let s : tie.Start Inv-loop μ-loop = search in
     let l = c .before in
-    let s = begun l in
     let a = s .args in
     numbered-end (a .f) (a .shape .now) (a .parents .now) (a .labels .now) (a .count) (l .loop .e) (l .loop .types) (l .loop .inv .2)
     (a .entries) (s .pre .0 .0) (omega (arith, l .loop .inv .0))
