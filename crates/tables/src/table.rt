@@ -5,7 +5,7 @@ use crate::row::follows;
 use paper::Format;
 ghost use mathlib.Core.Path.{_≡_};
 ghost use mathlib.Core.List.{[]};
-ghost use Prim.Native.Nat.{_+_, _*_, _≤_, _<_};
+ghost use Prim.Native.Nat.{_*_, _≤_, _<_};
 ghost use lib.ListN.{length};
 ghost use Rattle.paper.specs.Format.{rowBytes, whole, byte};
 ghost use Rattle.paper.specs.Tables as Tables;

@@ -6,15 +6,18 @@ use borrow.Author.Needs.{needs}
 use Rattle.tables.proofs.row.follows.Statement.{statement}
 use Rattle.tables.proofs.row.follows.Tie as tie
 
+abbrev lent : tie.After-shared-slice-known3 → tie.Start
+lent w = w .before .before .before
+
 abbrev begun : tie.After-wide2 → tie.Start
-begun w = w .before .before .before .before .before .before
+begun w = lent (w .before .before .before)
 
 -- the two rows as they are read
 read : (w : tie.After-wide2) →
     let a = begun w .args in
     Read (a .f) (a .before .now) (a .row .now) (w .before .before .wide .result) (w .wide2 .result)
 read w =
-    let levels = begun w .pre .1 in
+    let s : tie.Start = search in let levels = s .pre .1 in
     record {
       fits-x = levels .0;
       fits-y = levels .1;
@@ -33,17 +36,17 @@ returns-2 c =
 
 returns-3 : tie.Need-returns-3
 returns-3 c =
+    let g : tie.After-agree = search in
+    let e : tie.Else2 = search in
     let p = c .before in
-    let e = p .before in
-    let g = e .before in
     rows-child (read (g .before .before)) (sym (g .agree .ensures) ∙ not-false _ (e .if2 .left)) (g .before .if1 .left) (c .if3 .taken)
     (p .component .result) (p .component .ensures .0)
 
 returns-4 : tie.Need-returns-4
 returns-4 c =
-    let p = c .before .before in
-    let e = p .before in
-    let g = e .before in
+    let g : tie.After-agree = search in
+    let e : tie.Else2 = search in
+    let p : tie.After-component = search in
     rows-next (read (g .before .before)) (sym (g .agree .ensures) ∙ not-false _ (e .if2 .left)) (c .before .if3 .left)
     (p .component .result) (c .component2 .result) (p .component .ensures .0) (c .component2 .ensures .0)
 
