@@ -1,5 +1,5 @@
 -- A name is told by its first byte and its length. Assumes nothing.
-use Prim.Native.Nat.{ℕ, _+_, _*_, _%_, _-_, _≤_, _<_}
+use Prim.Native.Nat.{ℕ, _+_, _*_, _%_, _≤_, _<_}
 use native.Mathlib.Omega.{arith}
 use mathlib.Core.Path.{_≡_, refl, sym, _∙_, ap, ap₂}
 use mathlib.Core.Bool.{true, false, true≢false}

@@ -7,14 +7,15 @@ use Rattle.bytes.proofs.long.Tie as tie
 
 returns : tie.Need-returns
 returns c =
-    let s = c .before .before .before .before .before in
+    let s : tie.Start = search in
+    let w : tie.After-word = search in
     omega (
       arith,
       four-words (s .args .b .now) (s .args .i),
       c .word4 .ensures .0,
       c .before .word3 .ensures .0,
       c .before .before .word2 .ensures .0,
-      c .before .before .before .word .ensures .0,
+      w .word .ensures .0,
     )
 
 pub long-spec : {M : Type 1} → statement M

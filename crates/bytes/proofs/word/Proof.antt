@@ -5,11 +5,12 @@ use Rattle.bytes.proofs.word.Statement.{statement}
 use Rattle.bytes.proofs.word.Tie as tie
 
 returns : tie.Need-returns
-returns c = (
-  word-bytes (c .before .before .before .before .before .args .b .now) (c .before .before .before .before .before .args .i)
-      (c .before .before .wide .result) (c .wide2 .result) (c .before .before .wide .ensures .0) (c .wide2 .ensures .0),
-  search needs,
-)
+returns c =
+    let s : tie.Start = search in (
+      word-bytes (s .args .b .now) (s .args .i)
+          (c .before .before .wide .result) (c .wide2 .result) (c .before .before .wide .ensures .0) (c .wide2 .ensures .0),
+      search needs,
+    )
 
 pub word-spec : {M : Type 1} → statement M
 word-spec =

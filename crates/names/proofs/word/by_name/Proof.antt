@@ -10,8 +10,12 @@ use Rattle.names.proofs.Guesses.{first-of, empty-part, long-part, no-gu
 use Rattle.names.proofs.word.by_name.Statement.{statement}
 use Rattle.names.proofs.word.by_name.Tie as tie
 
+-- the part that is guessed from, which is not empty
+abbrev some : tie.After-guess → tie.Else1
+some g = g .before .before .before
+
 abbrev partAt : tie.After-guess → List ℕ
-partAt g = g .before .before .before .before .before .args .part .now
+partAt g = some g .before .before .args .part .now
 
 -- the guess is by the part's own first byte
 guessed : (g : tie.After-guess) → Guessed (firstOr 0 (partAt g)) (length (partAt g)) (g .guess .result)
@@ -28,12 +32,12 @@ returns-3 c = no-guess (partAt (c .before)) (c .before .guess .result) (guessed 
 
 returns-4 : tie.Need-returns-4
 returns-4 c =
-    let g = c .before .before .before in
+    let g : tie.After-guess = search in
     named-part (partAt g) (g .guess .result) (guessed g) (c .before .before .if3 .left) (sym (c .before .is-name .ensures) ∙ c .if4 .taken)
 
 returns-5 : tie.Need-returns-5
 returns-5 c =
-    let g = c .before .before .before in
+    let g : tie.After-guess = search in
     other-part (partAt g) (g .guess .result) (guessed g) (sym (c .before .is-name .ensures) ∙ c .if4 .left)
 
 pub by-name-spec : {M : Type 1} → statement M

@@ -18,10 +18,6 @@ Inv-loop word f start labels₀ size₀ p₀ labels size p = (p ≤ length word 
 abbrev μ-loop : tie.MeasureT-loop
 μ-loop word f start labels₀ size₀ p₀ labels size p = length word + 1 - p
 
--- the function's start, from where a part's end is known
-abbrev begun : tie.After-part-end Inv-loop μ-loop → tie.Start Inv-loop μ-loop
-begun c = c .before .before .before .before .before
-
 loop-holds : tie.Need-loop-holds Inv-loop μ-loop
 loop-holds c =
     let w = c .before .before .args .word .now in
@@ -37,12 +33,12 @@ part-label-of-end : tie.Need-part-label-of-end Inv-loop μ-loop
 part-label-of-end c = omega (arith, c .part-end .ensures .begins, c .part-end .ensures .within)
 
 label-of-requires : tie.Need-label-of-requires Inv-loop μ-loop
-label-of-requires c κs = begun (c .before) .pre .0
+label-of-requires c κs = let s : tie.Start Inv-loop μ-loop = search in s .pre .0
 
 returns : tie.Need-returns Inv-loop μ-loop
 returns c =
-    let l = c .before .before in
-    let e = l .before .before in
+    let e : tie.After-part-end Inv-loop μ-loop = search in
+    let l : tie.After-label-of Inv-loop μ-loop = search in
     let none = c .no-name .ensures in
     record {
       name = _;
@@ -53,14 +49,15 @@ returns c =
 
 cast-labels : tie.Need-cast-labels Inv-loop μ-loop
 cast-labels c =
-    let l = c .before .before in
-    let small = label-small _ _ (l .label-of .ensures) (begun (l .before .before) .pre .0 .small) in
+    let s : tie.Start Inv-loop μ-loop = search in
+    let l : tie.After-label-of Inv-loop μ-loop = search in
+    let small = label-small _ _ (l .label-of .ensures) (s .pre .0 .small) in
     omega arith
 
 loop-again : tie.Need-loop-again Inv-loop μ-loop
 loop-again c =
-    let l = c .before .before in
-    let e = l .before .before in
+    let e : tie.After-part-end Inv-loop μ-loop = search in
+    let l : tie.After-label-of Inv-loop μ-loop = search in
     let r = e .before .before .loop .inv in
     let some : 0 < l .label-of .result = omega (arith, c .before .if1 .left) in (
       omega (arith, e .part-end .ensures .within),

@@ -18,18 +18,18 @@ loop-holds c = (omega arith, λ k lt. absurd (not-suc-le-zero lt))
 
 returns : tie.Need-returns Inv-loop μ-loop
 returns c =
-    let l = c .before .before .before .before .before in
+    let l : tie.At-loop Inv-loop μ-loop = search in
     record { within = omega arith; found = λ lt. (c .before .before .if1 .taken, c .if2 .taken); passed = l .loop .inv .1 }
 
 loop-again : tie.Need-loop-again Inv-loop μ-loop
 loop-again c =
-    let l = c .before .before .before .before .before in
+    let l : tie.At-loop Inv-loop μ-loop = search in
     let a = l .before .args in
     (omega arith, missed-more (a .parents .now) (a .labels .now) (a .p) (a .a) (l .loop .k) (l .loop .inv .1) (λ e q. c .if2 .left q))
 
 loop-again-2 : tie.Need-loop-again-2 Inv-loop μ-loop
 loop-again-2 c =
-    let l = c .before .before .before in
+    let l : tie.At-loop Inv-loop μ-loop = search in
     let a = l .before .args in
     (omega arith, missed-more (a .parents .now) (a .labels .now) (a .p) (a .a) (l .loop .k) (l .loop .inv .1) (λ e q. c .if1 .left e))
 

@@ -24,18 +24,18 @@ begun l = l .before .before .before
 abbrev rowOf : tie.At-loop Inv-loop μ-loop → List ℕ
 rowOf l = rec (rowBytes (begun l .args .f)) (l .loop .i) (begun l .args .table .now)
 
-abbrev turn : tie.After-word Inv-loop μ-loop → tie.At-loop Inv-loop μ-loop
-turn c = c .before .before .before .before .before .before
+abbrev held : tie.After-word Inv-loop μ-loop → tie.After-record Inv-loop μ-loop
+held c = c .before .before .before
 
-abbrev read : tie.After-find-near Inv-loop μ-loop → tie.After-word Inv-loop μ-loop
-read c = c .before .before .before .before .before .before .before
+abbrev turn : tie.After-word Inv-loop μ-loop → tie.At-loop Inv-loop μ-loop
+turn c = held c .before .before .before
 
 abbrev levelOf : tie.After-word Inv-loop μ-loop → ℕ
 levelOf c = c .before .wide .result
 
 -- row i is a row of the table, and its level and label are those that are read
 here : (c : tie.After-word Inv-loop μ-loop) → turn c .loop .i < whole (rowBytes (begun (turn c) .args .f)) (begun (turn c) .args .table .now)
-here c = omega (arith, begun (turn c) .pre .0 .0)
+here c = let s : tie.Start Inv-loop μ-loop = search in omega (arith, s .pre .0 .0)
 
 level-is : (c : tie.After-word Inv-loop μ-loop) → levelOf c ≡ byte (rowOf (turn c)) 0
 level-is c = cc
@@ -45,7 +45,7 @@ label-is c = cc
 
 level-within : (c : tie.After-word Inv-loop μ-loop) → (1 ≤ levelOf c) × (levelOf c ≤ 8)
 level-within c =
-    let s = begun (turn c) in
+    let s : tie.Start Inv-loop μ-loop = search in
     let fits = l-fits _ _ (s .pre .1 .0) _ (here c) _ _ (level-is c) (label-is c) in
     (l-pos _ _ (s .pre .1 .0) _ (here c) _ _ (level-is c) (label-is c), omega (arith, fits, s .pre .0 .2))
 
@@ -54,9 +54,10 @@ loop-holds c = (omega arith, walk-start _ _ _ _ _ _ _ refl (c .before .before .p
 
 record-requires : tie.Need-record-requires Inv-loop μ-loop
 record-requires c κs =
-    let l = c .before .before in
-    row-in (c .row-bytes .result) (l .loop .i) (begun l .args .table .now)
-    (rw (c .row-bytes .ensures) (omega (arith, begun l .pre .0 .0, c .before .loop-test .taken)))
+    let s : tie.Start Inv-loop μ-loop = search in
+    let l : tie.At-loop Inv-loop μ-loop = search in
+    row-in (c .row-bytes .result) (l .loop .i) (s .args .table .now)
+    (rw (c .row-bytes .ensures) (omega (arith, s .pre .0 .0, c .before .loop-test .taken)))
 
 sub-p : tie.Need-sub-p Inv-loop μ-loop
 sub-p c = omega (arith, level-within c .0)
@@ -65,13 +66,14 @@ array-read-p : tie.Need-array-read-p Inv-loop μ-loop
 array-read-p c = omega (arith, level-within c)
 
 array-write-stack-2 : tie.Need-array-write-stack-2 Inv-loop μ-loop
-array-write-stack-2 c = omega (arith, level-within (read (c .before)) .1)
+array-write-stack-2 c = let w : tie.After-word Inv-loop μ-loop = search in omega (arith, level-within w .1)
 
 loop-again : tie.Need-loop-again Inv-loop μ-loop
 loop-again c =
-    let r = read (c .before) in
-    let s = begun (turn r) in
-    let v = turn r .loop in
+    let s : tie.Start Inv-loop μ-loop = search in
+    let l : tie.At-loop Inv-loop μ-loop = search in
+    let r : tie.After-word Inv-loop μ-loop = search in
+    let v = l .loop in
     let found = c .before .find-near .ensures .found (c .if1 .taken) in (
       omega arith,
       walk-known _ _ (s .pre .1 .0) _ (here r) _ _ (level-is r) (label-is r) _ _ _ _ _ _ _ (v .inv .1) refl (omega (arith, s .pre .0 .0)) (s .pre .0 .2)
@@ -81,19 +83,20 @@ loop-again c =
 
 returns : tie.Need-returns Inv-loop μ-loop
 returns c =
-    let x = c .before .before in
-    let r = read x in
-    let s = begun (turn r) in
-    walk-full _ _ (s .pre .1 .0) _ (here r) _ _ (level-is r) (label-is r) _ _ _ _ _ _ _ (turn r .loop .inv .1) refl
+    let s : tie.Start Inv-loop μ-loop = search in
+    let l : tie.At-loop Inv-loop μ-loop = search in
+    let r : tie.After-word Inv-loop μ-loop = search in
+    let x : tie.After-find-near Inv-loop μ-loop = search in
+    walk-full _ _ (s .pre .1 .0) _ (here r) _ _ (level-is r) (label-is r) _ _ _ _ _ _ _ (l .loop .inv .1) refl
     (omega (arith, s .pre .0 .0)) (s .pre .0 .2) (x .find-near .ensures .none (omega arith)) (c .if2 .taken)
 
 array-write-stack-3 : tie.Need-array-write-stack-3 Inv-loop μ-loop
-array-write-stack-3 c = omega (arith, level-within (read (c .before .before)) .1)
+array-write-stack-3 c = let w : tie.After-word Inv-loop μ-loop = search in omega (arith, level-within w .1)
 
 loop-again-2 : tie.Need-loop-again-2 Inv-loop μ-loop
 loop-again-2 c =
-    let x = c .before .before in
-    let r = read x in
+    let x : tie.After-find-near Inv-loop μ-loop = search in
+    let r : tie.After-word Inv-loop μ-loop = search in
     let s = begun (turn r) in
     let v = turn r .loop in (
       omega arith,
@@ -104,8 +107,8 @@ loop-again-2 c =
 
 returns-2 : tie.Need-returns-2 Inv-loop μ-loop
 returns-2 c =
+    let s : tie.Start Inv-loop μ-loop = search in
     let l = c .before in
-    let s = begun l in
     let v = l .loop in
     let count = count-rows (s .args .f) (s .args .table .now) in
     let all : v .i ≡ s .args .rows = omega (arith, v .inv .0) in
