@@ -27,25 +27,25 @@ entry l = l .before .args .first + l .loop .e
 
 -- the entry has an edge
 inside : (c : tie.Then1 Inv-loop μ-loop) → (0 < entry (turn c)) × (entry (turn c) < turn c .before .args .t1 .entries)
-inside c = has-edge (turn c .before .args .t1) (entry (turn c)) (c .if1 .taken)
+inside c = let s : tie.Start Inv-loop μ-loop = search in let l : tie.At-loop Inv-loop μ-loop = search in has-edge (s .args .t1) (entry l) (c .if1 .taken)
 
 element-copy-out-over : tie.Need-element-copy-out-over Inv-loop μ-loop
 element-copy-out-over c =
-    let t = c .before .before .before .before in
-    let l = turn t in
+    let l : tie.At-loop Inv-loop μ-loop = search in
+    let t : tie.Then1 Inv-loop μ-loop = search in
     omega (arith, c .wide .ensures .0, l .before .pre .0 .under (entry l) (inside t .0) (inside t .1), l .before .pre .0 .few, inside t .1)
 
 cast-own : tie.Need-cast-own Inv-loop μ-loop
 cast-own c =
-    let t = c .before .before .before .before .before .before in
-    let l = turn t in
+    let l : tie.At-loop Inv-loop μ-loop = search in
+    let t : tie.Then1 Inv-loop μ-loop = search in
     omega (arith, l .before .pre .0 .typed (entry l) (inside t .1))
 
 loop-again : tie.Need-loop-again Inv-loop μ-loop
 loop-again c =
-    let b = c .before .before .before .before in
-    let t = b .before .before in
-    let l = turn t in
+    let l : tie.At-loop Inv-loop μ-loop = search in
+    let t : tie.Then1 Inv-loop μ-loop = search in
+    let b : tie.After-run-bound Inv-loop μ-loop = search in
     let a = l .before .args in (
       omega arith,
       filling-more _ _ (omega arith) (l .loop .inv .1) _ _ _ (walking-edge (a .t1) (entry l) (b .run-bound .ensures) (inside t .0) (inside t .1)
@@ -54,7 +54,7 @@ loop-again c =
 
 loop-again-2 : tie.Need-loop-again-2 Inv-loop μ-loop
 loop-again-2 c =
-    let l = c .before .before in (
+    let l : tie.At-loop Inv-loop μ-loop = search in (
       omega arith,
       filling-more _ _ (omega arith) (l .loop .inv .1) _ _ _
           (walking-none (l .before .args .t1) (entry l) (no-edge (l .before .args .t1) (entry l) (c .if1 .left))),

@@ -15,36 +15,34 @@ Inv-loop levels types rows over own bound parents₀ children₀ i₀ parents ch
 abbrev μ-loop : tie.MeasureT-loop
 μ-loop levels types rows over own bound parents₀ children₀ i₀ parents children i = rows - i
 
--- where the function begins, and the turn, seen from where the type of its row is read
-abbrev begun : tie.At-loop Inv-loop μ-loop → tie.Start Inv-loop μ-loop
-begun l = l .before .before .before .before .before
-
-abbrev turn : tie.After-shared-slice-known4 Inv-loop μ-loop → tie.At-loop Inv-loop μ-loop
-turn c = c .before .before .before .before
-
 loop-holds : tie.Need-loop-holds Inv-loop μ-loop
 loop-holds c =
-    let s = c .before .before .before .before in
-    let a = s .args in
+    let s : tie.Start Inv-loop μ-loop = search in let a = s .args in
     deep-none (a .levels .now) (a .types .now) (a .rows) (a .over) (a .own) (a .bound) (a .at) (s .pre .1)
 
 cast-if1 : tie.Need-cast-if1 Inv-loop μ-loop
 cast-if1 c = omega (arith, c .shared-slice-known3 .given (c .before .before .loop .i))
 
 cast-k : tie.Need-cast-k Inv-loop μ-loop
-cast-k c = omega (arith, c .shared-slice-known4 .given (c .before .before .before .before .loop .i))
+cast-k c = let l : tie.At-loop Inv-loop μ-loop = search in omega (arith, c .shared-slice-known4 .given (l .loop .i))
 
 add-own-requires : tie.Need-add-own-requires Inv-loop μ-loop
-add-own-requires c κs e lt = let l = turn c in omega (arith, l .loop .inv .few .parents-few e lt, begun l .pre .0 .few)
+add-own-requires c κs e lt =
+    let s : tie.Start Inv-loop μ-loop = search in
+    let l : tie.At-loop Inv-loop μ-loop = search in
+    omega (arith, l .loop .inv .few .parents-few e lt, s .pre .0 .few)
 
 add-own-requires-2 : tie.Need-add-own-requires-2 Inv-loop μ-loop
-add-own-requires-2 c κs e lt = let l = turn (c .before) in omega (arith, l .loop .inv .few .children-few e lt, begun l .pre .0 .few)
+add-own-requires-2 c κs e lt =
+    let s : tie.Start Inv-loop μ-loop = search in
+    let l : tie.At-loop Inv-loop μ-loop = search in
+    omega (arith, l .loop .inv .few .children-few e lt, s .pre .0 .few)
 
 loop-again : tie.Need-loop-again Inv-loop μ-loop
 loop-again c =
+    let s : tie.Start Inv-loop μ-loop = search in let a = s .args in
+    let l : tie.At-loop Inv-loop μ-loop = search in
     let p = c .before in
-    let l = turn (p .before) in
-    let a = begun l .args in
     let level = getD (a .levels .now) (l .loop .i) 0 in
     let deeper : a .bound < level = ltb-true (a .bound) level (p .before .before .if1 .taken) in
     deep-more (a .levels .now) (a .types .now) (a .rows) (a .over) (a .own) (a .bound) (l .loop .inv) (omega arith) deeper (p .add-own .ensures)

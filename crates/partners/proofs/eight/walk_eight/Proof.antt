@@ -20,8 +20,11 @@ abbrev μ-loop : tie.MeasureT-loop
 μ-loop levels types rows bounds over own bound found₀ parents₀ children₀ i₀ found parents children i = rows - i
 
 -- where the function begins, and the turn, seen from where the runs that end are closed
+abbrev lent : tie.After-nothing Inv-loop μ-loop → tie.Start Inv-loop μ-loop
+lent l = l .before .before .before .before
+
 abbrev begun : tie.At-loop Inv-loop μ-loop → tie.Start Inv-loop μ-loop
-begun l = l .before .before .before .before .before
+begun l = lent (l .before)
 
 abbrev turn : tie.After-close Inv-loop μ-loop → tie.At-loop Inv-loop μ-loop
 turn c = c .before .before
@@ -36,7 +39,7 @@ Walks l = let a = begun l .args in WalkedTo (a .levels .now) (a .types .now) (a 
 -- no more rows are counted than came before
 few : (l : tie.At-loop Inv-loop μ-loop) → Few (begun l .args .rows) (upTo (l .loop .parents) (l .loop .children) (l .loop .i))
 few l =
-    let a = begun l .args in
+    let s : tie.Start Inv-loop μ-loop = search in let a = s .args in
     walked-few (a .levels .now) (a .types .now) (a .bounds) (a .over) (a .own) (l .loop .inv .1) (a .rows) (l .loop .inv .0)
 
 -- the level of this turn's row, where there is one
@@ -44,7 +47,7 @@ level-is : (k : tie.After-shared-slice-known3 Inv-loop μ-loop) →
     let d = closed k in
     let l = turn d in
     d .before .level-at .result ≡ getD (begun l .args .levels .now) (l .loop .i) 0
-level-is k = let d = closed k in d .before .level-at .ensures .own (omega (arith, k .before .if1 .left))
+level-is k = let d : tie.After-close Inv-loop μ-loop = search in d .before .level-at .ensures .own (omega (arith, k .before .if1 .left))
 
 -- the row of this turn is walked
 one-more : (c : tie.After-count-on2 Inv-loop μ-loop) →
@@ -53,56 +56,62 @@ one-more : (c : tie.After-count-on2 Inv-loop μ-loop) →
     let l = turn d in
     Walks l (l .loop .i + 1) (d .close .result) (p .count-on .result) (c .count-on2 .result)
 one-more c =
+    let s : tie.Start Inv-loop μ-loop = search in let a = s .args in
+    let l : tie.At-loop Inv-loop μ-loop = search in
+    let d : tie.After-close Inv-loop μ-loop = search in
     let p = c .before in
-    let d = closed (p .before) in
-    let l = turn d in
-    let a = begun l .args in
     walked-more (a .levels .now) (a .types .now) (a .bounds) (a .over) (a .own) (l .loop .inv .1) (level-is (p .before)) (d .close .ensures)
     (p .count-on .ensures) (c .count-on2 .ensures)
 
 loop-holds : tie.Need-loop-holds Inv-loop μ-loop
 loop-holds c =
-    let a = c .before .before .before .before .args in
+    let s : tie.Start Inv-loop μ-loop = search in let a = s .args in
     (omega arith, walked-none (a .levels .now) (a .types .now) (a .bounds) (a .over) (a .own) (c .nothing .ensures))
 
 level-at-requires : tie.Need-level-at-requires Inv-loop μ-loop
-level-at-requires c κs = begun c .pre .levels-long
+level-at-requires c κs = let s : tie.Start Inv-loop μ-loop = search in s .pre .levels-long
 
 returns : tie.Need-returns Inv-loop μ-loop
 returns c =
+    let s : tie.Start Inv-loop μ-loop = search in let a = s .args in
+    let l : tie.At-loop Inv-loop μ-loop = search in
     let d = c .before in
-    let l = turn d in
-    let a = begun l .args in
     let q : l .loop .i ≡ a .rows = omega (arith, l .loop .inv .0, c .if1 .taken) in
     let all = walked-all (a .levels .now) (a .types .now) (a .bounds) (a .over) (a .own) (l .loop .inv .1)
     (d .before .level-at .ensures .past (omega (arith, q))) (d .close .ensures) in
     subst (λ n. WalkedAll (a .levels .now) (a .types .now) n (a .bounds) (a .over) (a .own) (d .close .result)) q all
 
 cast-k : tie.Need-cast-k Inv-loop μ-loop
-cast-k c = omega (arith, c .shared-slice-known3 .given (turn (closed c) .loop .i))
+cast-k c = let l : tie.At-loop Inv-loop μ-loop = search in omega (arith, c .shared-slice-known3 .given (l .loop .i))
 
 count-on-requires : tie.Need-count-on-requires Inv-loop μ-loop
-count-on-requires c κs e lt = let l = turn (closed c) in omega (arith, few l .parents-few e lt, begun l .pre .few)
+count-on-requires c κs e lt =
+    let s : tie.Start Inv-loop μ-loop = search in
+    let l : tie.At-loop Inv-loop μ-loop = search in
+    omega (arith, few l .parents-few e lt, s .pre .few)
 
 count-on-requires-2 : tie.Need-count-on-requires-2 Inv-loop μ-loop
-count-on-requires-2 c κs e lt = let l = turn (closed (c .before)) in omega (arith, few l .children-few e lt, begun l .pre .few)
+count-on-requires-2 c κs e lt =
+    let s : tie.Start Inv-loop μ-loop = search in
+    let l : tie.At-loop Inv-loop μ-loop = search in
+    omega (arith, few l .children-few e lt, s .pre .few)
 
 count-deep-requires : tie.Need-count-deep-requires Inv-loop μ-loop
 count-deep-requires c κs =
-    let l = turn (closed (c .before .before)) in
-    let a = begun l .args in
-    (begun l .pre, walked-few (a .levels .now) (a .types .now) (a .bounds) (a .over) (a .own) (one-more c) (a .rows) (omega arith))
+    let s : tie.Start Inv-loop μ-loop = search in let a = s .args in
+    (s .pre, walked-few (a .levels .now) (a .types .now) (a .bounds) (a .over) (a .own) (one-more c) (a .rows) (omega arith))
 
 loop-less : tie.Need-loop-less Inv-loop μ-loop
 loop-less c =
-    let r = c .before .before in
+    let r : tie.After-count-deep Inv-loop μ-loop = search in
     omega (arith, r .count-deep .ensures .row-on)
 
 loop-again : tie.Need-loop-again Inv-loop μ-loop
 loop-again c =
-    let r = c .before .before in
-    let l = turn (closed (r .before .before .before)) in
-    let a = begun l .args in (
+    let s : tie.Start Inv-loop μ-loop = search in
+    let l : tie.At-loop Inv-loop μ-loop = search in
+    let r : tie.After-count-deep Inv-loop μ-loop = search in
+    let a = s .args in (
       r .count-deep .ensures .row-in,
       walked-deep (a .levels .now) (a .types .now) (a .bounds) (a .over) (a .own) (one-more (r .before)) (l .before .before .deepest .ensures)
           (r .count-deep .ensures),
