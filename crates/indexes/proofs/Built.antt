@@ -5,12 +5,12 @@ use mathlib.Core.Path.{_≡_, refl, sym, _∙_, ap, ap₂}
 use mathlib.Core.Logic.{_⊎_, inl, inr}
 use mathlib.Core.Bool.{Bool, true, false, _||_}
 use mathlib.Core.List.{List, _++_, map, map-map}
-use lib.Dec.{ltb, leb}
+use lib.Dec.{ltb}
 use lib.ListN.{length, getD, drop, length-append, length-drop, length-map}
 use lib.Seq.{ext-getD, getD-append-add, getD-drop, getD-take, take-at}
 use borrow.Author.Tests.{lt-ltb, le-ltb, ltb-true, ltb-false}
 use Rattle.paper.specs.Lists.{count}
-use Rattle.paper.specs.Format.{Format, rowBytes, whole}
+use Rattle.paper.specs.Format.{Format}
 use Rattle.paper.specs.Tables.{Row, rows, rowTypes}
 use Rattle.paper.specs.Closeness.{Node, nodes}
 use Rattle.paper.specs.Calls.{Answer, refused, given, _>>=_, refuse, reply, after, tests1-3}
@@ -20,7 +20,7 @@ use Rattle.paper.proofs.Kept.{length-count}
 use Rattle.paper.proofs.Index.{length-nodes}
 use Rattle.types.specs.Types.{kinds}
 use Rattle.closest.specs.Node.{node, Typed}
-use Rattle.closest.specs.Runs.{SoundRows, LevelsOf, NextRow}
+use Rattle.closest.specs.Runs.{SoundRows, LevelsOf}
 use Rattle.closest.proofs.Meets.{nodes-are}
 use Rattle.indexes.specs.Last.{LastRows}
 use Rattle.indexes.specs.Labels.{LabelLists, NextsAlike}

@@ -7,7 +7,6 @@ use mathlib.Core.List.{List, [], _∷_, _++_, map}
 use mathlib.Core.Option.{none}
 use lib.ListN.{length, getD, take, length-append, length-take, length-map}
 use lib.Seq.{getD-take, getD-at, take-at}
-use Rattle.paper.specs.Lists.{ways}
 use Rattle.paper.specs.Format.{Format, rowBytes, byte, word, whole}
 use Rattle.paper.specs.Tables.{rows, rowTypes, badRow}
 use Rattle.paper.proofs.Tables.{step}

@@ -1,15 +1,14 @@
 -- Rows are alike exactly where their types have one number. Assumes nothing.
-use Prim.Native.Nat.{ℕ, zero, suc, _+_, _*_, _≤_, _<_}
-use native.Mathlib.Nat.{not-suc-le-zero, le-of-suc-le-suc}
+use Prim.Native.Nat.{ℕ, _*_, _≤_, _<_}
 use native.Mathlib.Omega.{arith}
-use mathlib.Core.Path.{_≡_, refl, sym, _∙_, ap}
-use mathlib.Core.List.{List, [], _∷_, map}
+use mathlib.Core.Path.{_≡_, sym, _∙_, ap}
+use mathlib.Core.List.{List, [], map}
 use lib.ListN.{length, getD, length-map}
 use lib.Seq.{ext-getD, take-all}
 use Rattle.paper.specs.Lists.{Has}
-use Rattle.paper.specs.Format.{Format, rowBytes, byte, whole}
+use Rattle.paper.specs.Format.{Format, rowBytes, whole}
 use Rattle.paper.specs.Tables as Tables
-use Rattle.paper.specs.Tables.{rowTypes, types, typeNumber, dewey}
+use Rattle.paper.specs.Tables.{rowTypes, types, typeNumber}
 use Rattle.paper.specs.Closeness.{level}
 use Rattle.paper.proofs.Lists.{getD-has}
 use Rattle.paper.proofs.Tables.{step, length-ways, has-distinct, number-same}
@@ -19,11 +18,10 @@ use Rattle.tables.proofs.Rows.{rec}
 use Rattle.tables.proofs.Laws.{dewey-length}
 use Rattle.types.specs.Types.{kinds}
 use Rattle.types.proofs.Listed.{map-at}
-use Rattle.closest.specs.Node.{node}
 use Rattle.closest.specs.Runs.{SoundRows, LevelsOf, Levelled}
 use Rattle.closest.proofs.Nodes.{row-level, length-kinds}
 use Rattle.indexes.specs.Last.{Shallow}
-use Rattle.indexes.specs.Labels.{labelOf, LabelLists, LabelRows, Alike, Numbers}
+use Rattle.indexes.specs.Labels.{LabelLists, LabelRows, Alike, Numbers}
 use Rattle.indexes.proofs.Labelled.{way-long}
 
 module _ (f : Format) (n : ℕ) (t levels : List ℕ) (sound : SoundRows f n t) (ls : LevelsOf f n t levels) where

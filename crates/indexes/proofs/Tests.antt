@@ -19,7 +19,7 @@ use Rattle.closest.specs.Rows.{RowsIn, ReadRows}
 use Rattle.closest.specs.declared.rows.RowsRead.{RowsRead}
 use Rattle.indexes.specs.Last.{Shallow, LastRow}
 use Rattle.indexes.specs.Wrong.{FirstWrong}
-use Rattle.indexes.specs.Tested.{Says, NextIn, Holds, ReadsIndexed}
+use Rattle.indexes.specs.Tested.{Holds, ReadsIndexed}
 use Rattle.indexes.proofs.Held.{wrong-row, no-wrong-row, lists-short, lists-wrong, lists-right}
 
 module _ (n : ℕ) (levels types last next : List ℕ) where

@@ -1,8 +1,7 @@
 // The last descendant of each row. A row's descendants are the rows behind it that are deeper, up to the first that is not; so a walk back
 // over the levels finds them all.
-ghost use Prim.Native.Nat.{ℕ, _≤_, _<_};
-ghost use lib.ListN.{length, getD};
-ghost use Rattle.paper.specs.Format.{mostRows};
+ghost use Prim.Native.Nat.{_≤_, _<_};
+ghost use lib.ListN.{length};
 ghost use Rattle.bytes.specs.Served.{mostLevels};
 ghost use Rattle.indexes.specs.Last.{Stepped, Shallow, LastRow, LastRows};
 ghost use Rattle.indexes.specs.Wrong.{FirstWrong};

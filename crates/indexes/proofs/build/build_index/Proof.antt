@@ -1,5 +1,4 @@
 -- `build::build_index` meets its contract. Assumes nothing.
-use native.Mathlib.Omega.{arith}
 use mathlib.Core.Logic.{inl, inr}
 use Rattle.indexes.proofs.Built.{refused-table, builds-refused, builds-short, builds-given}
 use Rattle.indexes.proofs.Passed.{passed}

@@ -8,7 +8,6 @@ use Rattle.indexes.specs.Labels.{Alike}
 use borrow.Author.Needs.{needs}
 use Rattle.indexes.proofs.labels.next_alike.Statement.{statement}
 use Rattle.indexes.proofs.labels.next_alike.Tie as tie
-use Rattle.indexes.proofs.labels.same_labels.Reads as same-labels-reads
 
 abbrev Inv-loop : tie.InvT-loop
 Inv-loop levels labels rows i j₀ j = (i < j) × (j ≤ rows) × ((x : ℕ) → i < x → x < j → Alike levels labels i x → ⊥)

@@ -1,12 +1,11 @@
 -- `labels::put_next` meets its contract. Assumes nothing.
-use Prim.Native.Nat.{_-_, _≤_}
+use Prim.Native.Nat.{_-_}
 use native.Mathlib.Omega.{arith}
 use Rattle.indexes.specs.Labels.{NextAlike}
 use Rattle.indexes.proofs.Filled.{Placing, placing-start, placing-step}
 use borrow.Author.Needs.{needs}
 use Rattle.indexes.proofs.labels.put_next.Statement.{statement}
 use Rattle.indexes.proofs.labels.put_next.Tie as tie
-use Rattle.indexes.proofs.labels.next_alike.Reads as next-alike-reads
 
 abbrev Inv-loop : tie.InvT-loop
 Inv-loop levels labels rows next₀ i₀ next i = Placing (NextAlike rows levels labels) rows next₀ next i

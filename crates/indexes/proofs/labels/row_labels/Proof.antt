@@ -15,11 +15,6 @@ use Rattle.indexes.proofs.Labelled.{first-level, labels-none, labels-mo
 use borrow.Author.Needs.{needs}
 use Rattle.indexes.proofs.labels.row_labels.Statement.{statement}
 use Rattle.indexes.proofs.labels.row_labels.Tie as tie
-use Rattle.bytes.proofs.record.Reads as record-reads
-use Rattle.bytes.proofs.row_bytes.Reads as row-bytes-reads
-use Rattle.bytes.proofs.wide.Reads as wide-reads
-use Rattle.bytes.proofs.word.Reads as word-reads
-use Rattle.indexes.proofs.labels.put_labels.Reads as put-labels-reads
 
 abbrev Inv-loop : tie.InvT-loop
 Inv-loop table f rows labels₀ i₀ labels i = (i ≤ rows) × (length labels ≡ length labels₀) × LabelLists i (rowTypes (Tables.rows f table)) labels

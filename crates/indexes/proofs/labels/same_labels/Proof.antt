@@ -10,7 +10,6 @@ use Rattle.types.proofs.Step.{below}
 use Rattle.indexes.specs.Labels.{labelOf}
 use Rattle.indexes.proofs.labels.same_labels.Statement.{statement}
 use Rattle.indexes.proofs.labels.same_labels.Tie as tie
-use Rattle.bytes.proofs.wide.Reads as wide-reads
 
 abbrev Inv-loop : tie.InvT-loop
 Inv-loop levels labels rows i j m₀ m = (m ≤ getD levels i 0) × ((k : ℕ) → m ≤ k → k < getD levels i 0 → labelOf labels i k ≡ labelOf labels j k)

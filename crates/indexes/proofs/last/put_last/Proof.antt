@@ -1,14 +1,12 @@
 -- `last::put_last` meets its contract. Assumes nothing.
-use Prim.Native.Nat.{_-_, _≤_}
+use Prim.Native.Nat.{_-_}
 use native.Mathlib.Omega.{arith}
-use mathlib.Core.Path.{_≡_, refl, _∙_}
+use mathlib.Core.Path.{_≡_, refl}
 use lib.ListN.{length}
 use borrow.Author.Needs.{needs}
 use Rattle.indexes.proofs.Ends.{Ends, ends-start, ends-step, last-here, Putting, putting-start, putting-step}
 use Rattle.indexes.proofs.last.put_last.Statement.{statement}
 use Rattle.indexes.proofs.last.put_last.Tie as tie
-use Rattle.bytes.proofs.wide.Reads as wide-reads
-use Rattle.indexes.proofs.last.end_of.Reads as end-of-reads
 
 abbrev Inv-loop : tie.InvT-loop
 Inv-loop levels rows last₀ ends₀ behind₀ i₀ last ends behind i = (length ends ≡ 9) × Ends rows levels ends behind i × Putting rows levels last₀ last i

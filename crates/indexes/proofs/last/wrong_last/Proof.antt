@@ -1,5 +1,5 @@
 -- `last::wrong_last` meets its contract. Assumes nothing.
-use Prim.Native.Nat.{_-_, _≤_, _<_}
+use Prim.Native.Nat.{_-_, _<_}
 use native.Mathlib.Omega.{arith}
 use mathlib.Core.Path.{_≡_, refl}
 use lib.ListN.{length}
@@ -9,8 +9,6 @@ use Rattle.indexes.proofs.Ends.{Ends, ends-start, ends-step, last-here}
 use Rattle.indexes.proofs.Wrong.{WrongFrom, wrong-start, wrong-end, wrong-not, wrong-here}
 use Rattle.indexes.proofs.last.wrong_last.Statement.{statement}
 use Rattle.indexes.proofs.last.wrong_last.Tie as tie
-use Rattle.bytes.proofs.wide.Reads as wide-reads
-use Rattle.indexes.proofs.last.end_of.Reads as end-of-reads
 
 abbrev Inv-loop : tie.InvT-loop
 Inv-loop levels rows last ends₀ behind₀ wrong₀ i₀ ends behind wrong i = (length ends ≡ 9) × Ends rows levels ends behind i × WrongFrom rows (LastRow rows levels) last i wrong

@@ -8,7 +8,6 @@ use Rattle.closest.proofs.Index.{Firsts, firsts-start, firsts-step, next-own}
 use Rattle.indexes.proofs.Wrong.{WrongFrom, wrong-start, wrong-end, wrong-not, wrong-here}
 use Rattle.indexes.proofs.next.wrong_next.Statement.{statement}
 use Rattle.indexes.proofs.next.wrong_next.Tie as tie
-use Rattle.bytes.proofs.wide.Reads as wide-reads
 
 abbrev Inv-loop : tie.InvT-loop
 Inv-loop types rows next seen₀ wrong₀ i₀ seen wrong i = Firsts rows types seen i × (i ≤ rows) × WrongFrom rows (NextRow rows types) next i wrong

@@ -1,5 +1,4 @@
 -- `test::test_lists` meets its contract. Assumes nothing.
-use native.Mathlib.Omega.{arith}
 use Rattle.indexes.proofs.Tests.{holds-short-last, holds-short, holds-wrong, holds-right}
 use borrow.Author.Needs.{needs}
 use Rattle.indexes.proofs.test.test_lists.Statement.{statement}
