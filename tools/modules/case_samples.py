@@ -27,7 +27,7 @@ VALUES = range(0, 1000, 100)
 P8_TABLE = "1[2[3] 2[4]]"
 
 # these folders are about what the program prints, which no call gives, or reports, or reads; case_verdicts.py has the hidden ones
-OF_TEXT = "labels_22a", "labels_22b", "cut_off", "label_100", "hidden_by_1", "hidden_by_3", "source8_missing"
+OF_TEXT = "labels_22a", "labels_22b", "cut_off", "label_100", "hidden_by_1", "hidden_by_3", "source8_missing", "both_trees"
 
 
 def expect(what, hand, said):

@@ -21,6 +21,9 @@ class Samples(unittest.TestCase):
         "level_8": ("verdict 0", 8), "level_9": ("refused 3 8", 0), "both_widths": ("verdict 0", 8), "shape8_missing": ("refused 5 0", 0),
         "source8_missing": ("verdict 0", 9), "typed": ("verdict 0", 9), "typed_wide": ("verdict 0", 6), "typed_early": ("refused 12 20", 0),
         "typed_empty": ("refused 12 17", 0), "typed_none": ("refused 13 2", 0), "typed_several": ("refused 13 2", 0),
+        "rows8_1024": ("verdict 0", 1), "bytes8_28673": ("refused 1 0", 0), "entries8_16": ("verdict 0", 48), "entries8_17": ("refused 5 0", 0),
+        "typed_deep": ("refused 6 6", 0), "typed_1536": ("verdict 0", 3), "typed_1539": ("refused 12 1536", 0), "both_trees": ("verdict 0", 9),
+        "types_deep": ("verdict 0", 1),
     }
 
     # request 5: the numbers of each edge, by hand
@@ -49,6 +52,7 @@ class Samples(unittest.TestCase):
             self.assertEqual(self.parts(name)[2], edges, name)
         self.assertEqual(self.listed("p4"), P4)
         self.assertEqual((self.listed("source8_missing"), self.listed("both_widths"), self.listed("typed")), (P4, self.listed("level_8"), P4))
+        self.assertEqual((self.listed("both_trees"), self.listed("entries8_16")), (P4, self.listed("entries_16")))
         for name, verdict in (("fans_by_lessee", 0), ("fans_by_asset", 0), ("fans_lost", 1), ("fans_made_up", 2), ("fans_missing", 3),
                               ("subleases", 0), ("subleases_up", 1)):
             self.assertTrue(self.listed(name).startswith(f"verdict {verdict}"), name)
@@ -81,9 +85,9 @@ class Samples(unittest.TestCase):
             self.assertEqual(made, shape.read_bytes(), folder.name)
 
     # what is wrong with the tables and shapes that no text can say
-    TABLES = {"rows_1025": "at most 1,024 rows", "level_7": "row 6 breaks a rule: its level is 7", "cut_off": "the last 23 bytes are no whole row",
+    TABLES = {"rows_1025": "at most 1,024 rows", "bytes8_28673": "at most 1,024 rows", "level_7": "row 6 breaks a rule: its level is 7", "cut_off": "the last 23 bytes are no whole row",
               "level_9": "row 8 breaks a rule: its level is 9"}
-    SHAPES = {"entries_17": "at most 16 entries", "label_100": "entry 2 breaks a rule", "shape8_missing": "no entry"}
+    SHAPES = {"entries_17": "at most 16 entries", "entries8_17": "at most 16 entries", "label_100": "entry 2 breaks a rule", "shape8_missing": "no entry"}
 
     def test_round_trips(self):
         for name, table, shape, levels in samples.samples():
@@ -155,23 +159,53 @@ class Samples(unittest.TestCase):
 
     def test_folders(self):
         """The program folders is run on every folder, by tables and shapes of its own, and must write what stands in the folders."""
-        home = ROOT / "crates/folders"
+        home, made = ROOT / "crates/folders", loaded("make_folders")
         names = sorted(folder.name for folder in samples.folders())
-        self.assertEqual((home / "args").read_text().splitlines(), names)
-        files = {str(path.relative_to(samples.FOLDER)) for folder in samples.folders() for path in samples.read_files(folder)}
-        self.assertEqual({str(path.relative_to(home / "data")) for path in (home / "data").rglob("*") if not path.is_dir()}, files)
-        for file in files:
+        words = (home / "args").read_text().splitlines()
+        self.assertEqual([word for word in words if not word.startswith(" ")], [*names, *made.UNREAD])
+        self.assertEqual({words[at - 1]: word for at, word in enumerate(words) if word.startswith(" ")}, made.TREES)
+        files = {str(path.relative_to(samples.FOLDER)): path for folder in samples.folders() for path in samples.read_files(folder)}
+        files.update({f"{name}/{file}": samples.FOLDER / like / file for name, (_, like, beside) in made.UNREAD.items() for file in beside})
+        kept = {str(path.relative_to(home / "data")) for path in (home / "data").rglob("*") if not path.is_dir()}
+        self.assertEqual(kept, {*files, *(f"{name}/{file}/README.md" for name, (file, _, _) in made.UNREAD.items())})
+        for file, path in files.items():
             self.assertFalse((home / "data" / file).is_symlink())
-            self.assertEqual((home / "data" / file).read_bytes(), (samples.FOLDER / file).read_bytes(), file)
-        parts = re.split(r"(?m)^== (\w+)\n", (home / "stdout").read_text())
-        self.assertEqual(parts[:2] + parts[3::2], ["", *names])
+            self.assertEqual((home / "data" / file).read_bytes(), path.read_bytes(), file)
+        parts = re.split(r"(?m)^== (\w+(?:, typed)?)\n", (home / "stdout").read_text())
+        typed = [[name, f"{name}, typed"][:1 + (name in made.TREES)] for name in names]
+        self.assertEqual(parts[:1] + parts[1::2], ["", *sum(typed, []), *made.UNREAD])
         both = samples.by_name()
         for name, text in zip(parts[1::2], parts[2::2]):
-            table, _, levels = both[name]
-            texts = re.split("(?m)^-- (?:report|summary|types|print)\n", text)
-            screens = [samples.summary(*both[name]), samples.types(table, levels), samples.printed(*both[name])]
-            self.assertEqual([texts[0], *texts[2:]], [self.listed(name), *screens], name)
-            self.assert_reported(texts[1].splitlines(), self.listed(name).splitlines(), explained.reported(*both[name]), name)
+            if name in made.UNREAD:
+                self.assert_unread(name, text)
+            elif name in both:
+                self.assert_screens(name, text, self.listed(name), both[name], samples.types(both[name][0], both[name][2]))
+            else:
+                table, _, levels = both[name.split(",")[0]]
+                given = table, samples.Typed(made.TREES[name.split(",")[0]].encode()), levels
+                self.assert_screens(name, text, samples.listing(*given), given)
+
+    def assert_screens(self, name, text, listing, sample, *types):
+        """The screens of a folder, or of a tree typed behind one, which has no types."""
+        heads = ["report", "summary", *["types"] * len(types), "print"]
+        self.assertEqual(re.findall("(?m)^-- (.*)\n", text), heads, name)
+        texts = re.split("(?m)^-- (?:report|summary|types|print)\n", text)
+        screens = [samples.summary(*sample), *types, samples.printed(*sample)]
+        self.assertEqual([texts[0], *texts[2:]], [listing, *screens], name)
+        self.assert_reported(texts[1].splitlines(), listing.splitlines(), explained.reported(*sample), name)
+
+    def assert_unread(self, name, text):
+        """No screen of a file that cannot be read is whole, but the types where it is the typed tree."""
+        types = Texts.A_TYPES if name == "unread_tree" else "not whole\n"
+        self.assertEqual(text, f"not whole\n-- report\nnot whole\n-- summary\nnot whole\n-- types\n{types}-- print\nnot whole\n", name)
+
+    # trees typed behind a folder, by hand
+    TYPED = {"p4": "verdict 1 1 8", "both_widths": "verdict 0", "typed_none": "verdict 0", "typed": "refused 12 18", "shape8_missing": "verdict 0",
+             "cut_off": "refused 2 0", "p5": "refused 13 1", "p2": "verdict 0", "p3": "refused 12 1536"}
+
+    def test_typed_behind_folders(self):
+        told = (ROOT / "crates/folders/stdout").read_text()
+        self.assertEqual(dict(re.findall(r"(?m)^== (\w+), typed\n(.*)$", told)), self.TYPED)
 
     def assert_reported(self, together, listing, report, name):
         """A listing with its report: both in order, each edge behind its own line and all else behind the first line."""
