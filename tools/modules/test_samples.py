@@ -404,6 +404,14 @@ portfolio 1 row
         shown = "".join(f"    {line}\n" for line in self.SUMMARIES["p5"].splitlines())
         self.assertIn(f"\n    $ ./intake --summary samples/p5\n{shown}\n", explained.PAGE.read_text())
 
+    def test_types_on_eight_levels(self):
+        """Behind a type of level 8 comes one of level 2, and behind another a root."""
+        table, _, levels = samples.by_name()["types_deep"]
+        lines = samples.types(table, levels).splitlines()
+        self.assertEqual([len(line) - len(line.lstrip(" ")) for line in lines], [2 * level for level in (*range(8), *range(1, 8), 0)])
+        self.assertEqual(lines[7:9] + lines[14:], [f"{'  ' * 7}reading 1 row, 1..1 under a meter", "  site 1 row, 1..1 under a portfolio",
+                                                   f"{'  ' * 7}tax 1 row, 1..1 under an invoice", "vendor 1 row"])
+
     def test_types_stand_beneath_theirs(self):
         """A type whose first row comes after other roots stands beneath its own."""
         table = table_text.table_from("asset\n  lease\n99\n  7\nasset\n  lessee\n  lessee\n")
