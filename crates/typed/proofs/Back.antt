@@ -78,6 +78,15 @@ first-kept p d (x ∷ xs) = go (p x) refl (first-kept p d xs)
     go true e ih = ap (firstOr d) (keep-here p x xs e) ∙ sym (ap (λ n. getD (x ∷ xs) n d) (place-here p x xs e))
     go false e ih = ap (firstOr d) (keep-later p x xs e) ∙ ih ∙ sym (ap (λ n. getD (x ∷ xs) n d) (place-later p x xs e))
 
+-- where one is kept, its place is in the list
+pub kept-place : {A : Type 0} (p : A → Bool) (xs : List A) → 0 < length (keep p xs) → place p xs < length xs
+kept-place p [] lt = lt
+kept-place p (x ∷ xs) lt = go (p x) refl (kept-place p xs)
+  where
+    go : (b : Bool) → p x ≡ b → (0 < length (keep p xs) → place p xs < length xs) → place p (x ∷ xs) < length (x ∷ xs)
+    go true e ih = omega (arith, place-here p x xs e)
+    go false e ih = omega (arith, place-later p x xs e, ih (omega (arith, ap length (keep-later p x xs e))))
+
 module _ (ts : List (List ℕ)) (few : length ts ≤ mostTypes) where
   -- that type is the one
   sole-type : (e : Wanted) → soleNumber ts (e .name) < length ts → getD ts (soleNumber ts (e .name)) [] ≡ firstOr [] (matched ts e)

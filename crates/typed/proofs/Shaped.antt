@@ -26,7 +26,7 @@ use Rattle.typed.specs.Walk.{levelsOf, numbersOf}
 use Rattle.typed.specs.Read.{readingOf, shapedAs, Of}
 use Rattle.typed.specs.declared.walk.Walked.{Walked}
 use Rattle.typed.proofs.Soles.{sole-one, sole-none}
-use Rattle.typed.proofs.Back.{shape-back}
+use Rattle.typed.proofs.Back.{kept-place, shape-back}
 
 -- what is given: the count of entries and the shape
 abbrev pub Given : Type 0
