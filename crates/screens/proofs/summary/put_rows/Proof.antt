@@ -9,10 +9,10 @@ use Rattle.screens.proofs.summary.put_rows.Tie as tie
 returns : tie.Need-returns
 unfolding rowsText
 returns c =
-    let rows = c .before .before in
-    let gap = rows .before .before .before .before .before .before in
-    let name = gap .before .before .before .before in
-    let indent = name .before .before .before .before in
+    let rows : tie.After-put-counted = search in
+    let gap : tie.After-put-byte = search in
+    let name : tie.After-put-name = search in
+    let indent : tie.After-put-indent = search in
     let label = put-then (indent .put-indent .ensures .0) (name .put-name .ensures .0) in
     let whole = put-then label (put-then (gap .put-byte .ensures) (rows .put-counted .ensures .0)) in
     (whole, omega arith)

@@ -9,12 +9,12 @@ use Rattle.screens.proofs.summary.put_under.Tie as tie
 returns : tie.Need-returns
 unfolding underText
 returns c =
-    let name = c .before .before in
-    let under = name .before .before .before .before in
-    let high = under .before .before .before .before .before in
-    let dots = high .before .before .before .before in
-    let low = dots .before .before .before .before .before in
-    let comma = low .before .before .before .before in
+    let name : tie.After-put-with-article = search in
+    let under : tie.After-put-bytes3 = search in
+    let high : tie.After-put-number2 = search in
+    let dots : tie.After-put-bytes2 = search in
+    let low : tie.After-put-number = search in
+    let comma : tie.After-put-bytes = search in
     let least = put-then (comma .put-bytes .ensures) (low .put-number .ensures .0) in
     let greatest = put-then (put-then least (dots .put-bytes2 .ensures)) (high .put-number2 .ensures .0) in
     let whole = put-then (put-then greatest (under .put-bytes3 .ensures)) (name .put-with-article .ensures .0) in

@@ -8,21 +8,21 @@ use Rattle.screens.proofs.words.put_counted.Tie as tie
 
 returns : tie.Need-returns
 returns c =
-    let word = c .before .before in
-    let test = word .before .before in
-    let gap = test .before .before .before in
-    let number = gap .before .before .before .before in
-    let a = number .before .before .before .before .before .args in
+    let s : tie.Start = search in let a = s .args in
+    let number : tie.After-put-number = search in
+    let gap : tie.After-put-byte = search in
+    let test : tie.Then1 = search in
+    let word : tie.After-put-bytes = search in
     let whole = put-then (number .put-number .ensures .0) (put-then (gap .put-byte .ensures) (word .put-bytes .ensures)) in
     (put-as whole (counted-one (a .n) (a .one .now) (a .more .now) (omega arith)), omega arith)
 
 returns-2 : tie.Need-returns-2
 returns-2 c =
-    let word = c .before .before in
-    let test = word .before .before in
-    let gap = test .before .before .before in
-    let number = gap .before .before .before .before in
-    let a = number .before .before .before .before .before .args in
+    let s : tie.Start = search in let a = s .args in
+    let number : tie.After-put-number = search in
+    let gap : tie.After-put-byte = search in
+    let test : tie.Else1 = search in
+    let word : tie.After-put-bytes2 = search in
     let whole = put-then (number .put-number .ensures .0) (put-then (gap .put-byte .ensures) (word .put-bytes2 .ensures)) in
     (put-as whole (counted-more (a .n) (a .one .now) (a .more .now) (λ e. let z : ⊥ = omega arith in z)), omega arith)
 
