@@ -18,10 +18,11 @@ use Rattle.reshaping.specs.Rows.{SummarisesRows}
 use Rattle.reshaping.specs.declared.reshape.Reshaped.{Reshaped}
 use Rattle.reshaping.specs.declared.summarise.Summary.{Summary}
 
-module _ {tests : Answer (List Row)} {f : Format} {t s levels types : List ℕ} {read : RowsRead} where
+module _ {tests : Answer (List Row)} {f : Format} {t levels types : List ℕ} {read : RowsRead} (s : List ℕ) where
   -- ---- the summary; b is what the call that reads by these tests is to answer
   module _ {b : Reply Figures} {r : Summary} (call : summariseRows f tests s ≡ b) (reads : Reads tests f t read levels types) where
-    pub refused-summary : (read .number ≡ 0 → ⊥) → summarised r ≡ record { number = read .number; place = read .place; rest = noFigures } → summarised r ≡ b
+    pub refused-summary : (read .number ≡ 0 → ⊥) → summarised r ≡ record { number = read .number; place = read .place; rest = noFigures }
+        → summarised r ≡ b
     refused-summary ne is =
         is ∙ sym (ap (λ a. summariseRows f a s) (reads .refused-is ne) ∙ seam-refused f (read .number) (read .place) .summarises s) ∙ call
 
@@ -30,7 +31,8 @@ module _ {tests : Answer (List Row)} {f : Format} {t s levels types : List ℕ} 
 
   -- ---- the reshape
   pub refused-reshape : (new sources : List ℕ) {x : Reshaping} → reshapeRows f tests s new sources ≡ x → Reads tests f t read levels types
-      → (read .number ≡ 0 → ⊥) → x ≡ record { reply = record { number = read .number; place = read .place; rest = 0 }; table = new; sources = sources }
+      → (read .number ≡ 0 → ⊥)
+      → x ≡ record { reply = record { number = read .number; place = read .place; rest = 0 }; table = new; sources = sources }
   refused-reshape new sources call reads ne =
       sym call ∙ ap (λ a. reshapeRows f a s new sources) (reads .refused-is ne) ∙ seam-refused f (read .number) (read .place) .reshapes s new sources
 
@@ -41,7 +43,7 @@ module _ {f : Format} {t s last next levels types new sources : List ℕ} {read 
   pub leaves-with : (read .number ≡ 0 → ⊥) → {r : Reshaped} → reshaped r ≡ record { number = read .number; place = read .place; rest = 0 }
       → ReshapesWith f t s last next new sources r new sources
   leaves-with ne is =
-      let q = refused-reshape new sources (reshape-with f t s last next new sources) reads ne in
+      let q = refused-reshape s new sources (reshape-with f t s last next new sources) reads ne in
       record {
         answer = is ∙ sym (ap (λ (x : Reshaping). x .reply) q);
         bytes = sym (ap (λ (x : Reshaping). x .table) q);

@@ -1,5 +1,5 @@
 -- `judging::judge::judge` meets its contract. Assumes nothing.
-use mathlib.Core.Path.{refl}
+use mathlib.Core.Path.{refl, _∙_}
 use Rattle.paper.specs.Calls.{tests1-4}
 use Rattle.paper.proofs.Seam.{seam}
 use Rattle.judging.proofs.Seam.{refused-rows, judged-rows}
@@ -12,8 +12,8 @@ returns c =
     let s : tie.Start = search in
     let x : tie.After-read-rows = search in
     let a = s .args in
-    refused-rows (seam (a .f) (a .table .now) (tests1-4 (a .f) (a .table .now)) refl .judges (a .shape .now)) (x .read-rows .ensures) (c .before .if1 .taken)
-    (c .refused .ensures)
+    let call = seam (a .f) (a .table .now) (tests1-4 (a .f) (a .table .now)) refl .judges (a .shape .now) in
+    c .refused .ensures ∙ refused-rows (a .shape .now) call (x .read-rows .ensures) (c .before .if1 .taken)
 
 judge-rows-requires : tie.Need-judge-rows-requires
 judge-rows-requires c κs =
@@ -28,8 +28,9 @@ returns-2 c =
     let x : tie.After-read-rows = search in
     let u : tie.Else1 = search in
     let a = s .args in
-    judged-rows (seam (a .f) (a .table .now) (tests1-4 (a .f) (a .table .now)) refl .judges (a .shape .now)) (x .read-rows .ensures) (u .if1 .left)
-    (c .judge-rows .ensures)
+    let call = seam (a .f) (a .table .now) (tests1-4 (a .f) (a .table .now)) refl .judges (a .shape .now) in
+    c .judge-rows .ensures (a .table .now) (x .read-rows .ensures .read (u .if1 .left))
+    ∙ judged-rows (a .shape .now) call (x .read-rows .ensures) (u .if1 .left)
 
 pub judge-spec : {M : Type 1} → statement M
 judge-spec =

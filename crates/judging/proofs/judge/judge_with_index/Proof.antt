@@ -1,4 +1,5 @@
 -- `judging::judge::judge_with_index` meets its contract. Assumes nothing.
+use mathlib.Core.Path.{_∙_}
 use Rattle.paper.proofs.Index.{judge-with}
 use Rattle.judging.proofs.Seam.{refused-rows, judged-rows}
 use borrow.Author.Needs.{needs}
@@ -10,8 +11,8 @@ returns c =
     let s : tie.Start = search in
     let x : tie.After-read-indexed = search in
     let a = s .args in
-    refused-rows (judge-with (a .f) (a .table .now) (a .shape .now) (a .last .now) (a .next .now)) (x .read-indexed .ensures .reads)
-    (c .before .if1 .taken) (c .refused .ensures)
+    let call = judge-with (a .f) (a .table .now) (a .shape .now) (a .last .now) (a .next .now) in
+    c .refused .ensures ∙ refused-rows (a .shape .now) call (x .read-indexed .ensures .reads) (c .before .if1 .taken)
 
 judge-rows-requires : tie.Need-judge-rows-requires
 judge-rows-requires c κs =
@@ -26,8 +27,9 @@ returns-2 c =
     let x : tie.After-read-indexed = search in
     let u : tie.Else1 = search in
     let a = s .args in
-    judged-rows (judge-with (a .f) (a .table .now) (a .shape .now) (a .last .now) (a .next .now)) (x .read-indexed .ensures .reads) (u .if1 .left)
-    (c .judge-rows .ensures)
+    let call = judge-with (a .f) (a .table .now) (a .shape .now) (a .last .now) (a .next .now) in
+    c .judge-rows .ensures (a .table .now) (x .read-indexed .ensures .reads .read (u .if1 .left))
+    ∙ judged-rows (a .shape .now) call (x .read-indexed .ensures .reads) (u .if1 .left)
 
 pub judge-with-index-spec : {M : Type 1} → statement M
 judge-with-index-spec =

@@ -99,9 +99,13 @@ module _ {M : Type 1} (𝓤 : URA M) (H : Heap 𝓤) (A : Atoms 𝓤) (W : Given
       (are .1 .1 .1 .0 .1) (are .1 .0) (are .1 .1 .0)))
 
   lines-meets : Meets 𝓤 H A lines.signature Run (lines.spec 𝓤 H A mem run)
-  lines-meets = walk-meets 𝓤 H A lines.ended stayed W
-      (goes-none 𝓤 H A W 2 (λ _. E.the-row) yes (λ κs x f. refl), (goes-none-slice 𝓤 H A W 2 (0 ∷ []) tt (plain (λ _. u8)) yes,
-      (goes-none-slice 𝓤 H A W 2 (1 ∷ []) tt (plain (λ _. u32)) yes, (goes-none 𝓤 H A W 2 (λ _. usize) yes (λ κs x f. refl), tt))))
+  lines-meets = walk-meets 𝓤 H A lines.ended stayed W (
+    goes-none 𝓤 H A W 2 (λ _. E.the-row) yes (λ κs x f. refl),
+    (
+      goes-none-slice 𝓤 H A W 2 (0 ∷ []) tt (plain (λ _. u8)) yes,
+      (goes-none-slice 𝓤 H A W 2 (1 ∷ []) tt (plain (λ _. u32)) yes, (goes-none 𝓤 H A W 2 (λ _. usize) yes (λ κs x f. refl), tt)),
+    ),
+  )
       (lines.clauses 𝓤 H A mem run) Run (WpFn-mono 𝓤 H (W .laws) 𝓣 code.function) lines-walks
 
 pub print-lines-spec : {M : Type 1} → stated.statement M

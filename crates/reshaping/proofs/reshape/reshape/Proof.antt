@@ -17,7 +17,7 @@ returns c =
     let r = x .read-rows .result in
     let call = seam (a .f) (a .table .now) (tests1-4 (a .f) (a .table .now)) refl .reshapes (a .shape .now) (a .new .now) (a .sources .now) in
     leaves (s .pre) _ _ (a .new .now) (a .sources .now) (c .refused .result) (r .number) (r .place) (c .refused .ensures)
-    (refused-reshape (a .new .now) (a .sources .now) call (x .read-rows .ensures) (c .before .if1 .taken))
+    (refused-reshape (a .shape .now) (a .new .now) (a .sources .now) call (x .read-rows .ensures) (c .before .if1 .taken))
 
 next-rows-requires : tie.Need-next-rows-requires
 next-rows-requires c κs =

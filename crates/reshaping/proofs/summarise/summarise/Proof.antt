@@ -12,7 +12,7 @@ returns c =
     let s : tie.Start = search in
     let x : tie.After-read-rows = search in
     let a = s .args in
-    refused-summary (seam (a .f) (a .table .now) (tests1-4 (a .f) (a .table .now)) refl .summarises (a .shape .now)) (x .read-rows .ensures)
+    refused-summary (a .shape .now) (seam (a .f) (a .table .now) (tests1-4 (a .f) (a .table .now)) refl .summarises (a .shape .now)) (x .read-rows .ensures)
     (c .before .if1 .taken) (c .refused .ensures)
 
 summarise-rows-requires : tie.Need-summarise-rows-requires
@@ -28,7 +28,7 @@ returns-2 c =
     let x : tie.After-read-rows = search in
     let u : tie.Else1 = search in
     let a = s .args in
-    summarised-rows (seam (a .f) (a .table .now) (tests1-4 (a .f) (a .table .now)) refl .summarises (a .shape .now)) (x .read-rows .ensures)
+    summarised-rows (a .shape .now) (seam (a .f) (a .table .now) (tests1-4 (a .f) (a .table .now)) refl .summarises (a .shape .now)) (x .read-rows .ensures)
     (u .if1 .left) (c .summarise-rows .ensures)
 
 pub summarise-spec : {M : Type 1} → statement M
