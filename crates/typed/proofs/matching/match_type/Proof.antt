@@ -21,8 +21,11 @@ Inv-loop parents labels count size whole held found₀ k₀ found k =
 abbrev μ-loop : tie.MeasureT-loop
 μ-loop parents labels count size whole held found₀ k₀ found k = count - k
 
+abbrev short : tie.Else1 Inv-loop μ-loop → tie.Start Inv-loop μ-loop
+short e = e .before .before .before
+
 abbrev begun : tie.At-loop Inv-loop μ-loop → tie.Start Inv-loop μ-loop
-begun l = l .before .before .before .before .before
+begun l = short (l .before .before)
 
 -- the name that is held
 abbrev held : tie.Start Inv-loop μ-loop → Name
@@ -52,14 +55,12 @@ matched t b e =
 
 returns : tie.Need-returns Inv-loop μ-loop
 returns c =
-    let s = c .before .before .before in
-    let a = s .args in
+    let s : tie.Start Inv-loop μ-loop = search in let a = s .args in
     (λ n h. seeking-long (a .parents .now) (a .labels .now) (a .count) n (omega (arith, h .size-is, c .if1 .taken)), omega arith)
 
 loop-holds : tie.Need-loop-holds Inv-loop μ-loop
 loop-holds c =
-    let s = c .before .before .before .before in
-    let a = s .args in
+    let s : tie.Start Inv-loop μ-loop = search in let a = s .args in
     (omega arith, omega arith, seeking-start (a .parents .now) (a .labels .now) (a .count) (nameWith (a .name .whole) (take (a .name .size) (a .name .labels))))
 
 slice-aggregate-type-matches : tie.Need-slice-aggregate-type-matches Inv-loop μ-loop
@@ -74,8 +75,8 @@ type-matches-requires c κs =
 
 returns-2 : tie.Need-returns-2 Inv-loop μ-loop
 returns-2 c =
-    let t = c .before .before in
-    let l = t .before .before .before in
+    let t : tie.After-type-matches Inv-loop μ-loop = search in
+    let l : tie.At-loop Inv-loop μ-loop = search in
     let a = begun l .args in
     let twice =
     seeking-twice (a .parents .now) (a .labels .now) (a .count) (held (begun l)) (l .loop .found) (l .loop .k) (l .loop .inv .2)
@@ -84,8 +85,8 @@ returns-2 c =
 
 loop-again : tie.Need-loop-again Inv-loop μ-loop
 loop-again c =
-    let t = c .before .before in
-    let l = t .before .before .before in
+    let t : tie.After-type-matches Inv-loop μ-loop = search in
+    let l : tie.At-loop Inv-loop μ-loop = search in
     let a = begun l .args in (
       omega arith,
       omega arith,
@@ -96,7 +97,7 @@ loop-again c =
 loop-again-2 : tie.Need-loop-again-2 Inv-loop μ-loop
 loop-again-2 c =
     let t = c .before in
-    let l = t .before .before .before in
+    let l : tie.At-loop Inv-loop μ-loop = search in
     let a = begun l .args in (
       omega arith,
       omega arith,

@@ -18,8 +18,11 @@ Inv-loop levels types entries f parents labels count new₀ w e₀ new e =
 abbrev μ-loop : tie.MeasureT-loop
 μ-loop levels types entries f parents labels count new₀ w e₀ new e = entries - e
 
+abbrev lent : tie.After-shared-slice-known3 Inv-loop μ-loop → tie.Start Inv-loop μ-loop
+lent c = c .before .before .before
+
 abbrev begun : tie.At-loop Inv-loop μ-loop → tie.Start Inv-loop μ-loop
-begun l = l .before .before .before .before .before .before .before
+begun l = lent (l .before .before .before .before)
 
 -- the level and the type of the entry
 known : (i : tie.In-loop Inv-loop μ-loop) →
@@ -47,7 +50,7 @@ inside r = r .before .before .before .before
 
 loop-holds : tie.Need-loop-holds Inv-loop μ-loop
 loop-holds c =
-    let a = c .before .before .before .before .before .before .args in (
+    let s : tie.Start Inv-loop μ-loop = search in let a = s .args in (
       omega arith,
       refl,
       putting-start (a .f) (a .parents .now) (a .labels .now) (a .count) (a .levels .now) (a .types .now) (a .entries) (c .entry-bytes .result) (a .new .now),
@@ -55,13 +58,13 @@ loop-holds c =
 
 cast-entry-record : tie.Need-cast-entry-record Inv-loop μ-loop
 cast-entry-record c =
-    let s = begun (c .before .before) in
+    let s : tie.Start Inv-loop μ-loop = search in
     omega (arith, known (c .before) .0, s .pre .0 .0 .shallow)
 
 entry-record-requires : tie.Need-entry-record-requires Inv-loop μ-loop
 entry-record-requires c κs =
-    let i = c .before .before .before in
-    let s = begun (i .before) in
+    let s : tie.Start Inv-loop μ-loop = search in
+    let i : tie.In-loop Inv-loop μ-loop = search in
     (s .pre .0 .0, s .pre .1 .0 .0, s .pre .1 .0 .1, omega (arith, known i .1, c .wide16 .ensures .0))
 
 mul-put : tie.Need-mul-put Inv-loop μ-loop
@@ -69,14 +72,15 @@ mul-put c = let fits = room (inside (c .before)) in search needs
 
 put-requires : tie.Need-put-requires Inv-loop μ-loop
 put-requires c κs =
-    let r = c .before .before .before in
-    let w = inside r .before .before .entry-bytes .result in
+    let r : tie.After-entry-record Inv-loop μ-loop = search in
+    let b : tie.After-entry-bytes Inv-loop μ-loop = search in
+    let w = b .entry-bytes .result in
     omega (arith, room (inside r), length-take (w - 0) (r .entry-record .result))
 
 loop-again : tie.Need-loop-again Inv-loop μ-loop
 loop-again c =
-    let p = c .before .before in
-    let r = p .before .before .before .before in
+    let p : tie.After-put Inv-loop μ-loop = search in
+    let r : tie.After-entry-record Inv-loop μ-loop = search in
     let i = inside r in
     let l = i .before in
     let s = begun l in

@@ -4,7 +4,7 @@ use native.Mathlib.Numerals.{add-one}
 use native.Mathlib.Omega.{arith}
 use mathlib.Core.Path.{_≡_, refl, sym, _∙_, ap}
 use mathlib.Core.Logic.{⊎-elim}
-use mathlib.Core.Bool.{true, false, true≢false}
+use mathlib.Core.Bool.{true≢false}
 use mathlib.Core.List.{List}
 use lib.ListN.{length, set}
 use lib.Seq.{set-out}
@@ -20,8 +20,11 @@ use Rattle.typed.proofs.walk.keep_word.Tie as tie
 abbrev begun : tie.After-read-word → tie.Start
 begun r = r .before .before .before .before
 
+abbrev one : tie.Joined2 → tie.Else1
+one c = c .before .before .before
+
 abbrev read : tie.Joined2 → tie.After-read-word
-read c = c .before .before .before .before .before
+read c = one c .before .before
 
 -- level and type are put at the entry's place, where there is one
 put : (c : tie.Joined2) →
@@ -51,7 +54,7 @@ put c =
 
 returns : tie.Need-returns
 returns c =
-    let r = c .before .before .before in
+    let r : tie.After-read-word = search in
     let read = r .read-word .ensures in
     let wrong = c .no-entry .ensures .0 in
     let none = not-true _ (c .before .if1 .taken) in
@@ -71,7 +74,7 @@ returns-2 c =
     record {
       name = word .name;
       spells-none = λ t. absurd (true≢false t);
-      spells-one = λ _. word .spells-one (not-false _ (c .before .before .before .if1 .left));
+      spells-one = λ _. word .spells-one (not-false _ (one c .if1 .left));
       one-more = λ _. refl;
       level-put = λ _. put c .0;
       type-put = λ _. put c .1 (word .name) (word .held);

@@ -25,8 +25,11 @@ Inv-loop text f parents labels count w₀ stage₀ depth₀ p₀ w stage depth p
 abbrev μ-loop : tie.MeasureT-loop
 μ-loop text f parents labels count w₀ stage₀ depth₀ p₀ w stage depth p = length text - p
 
+abbrev lent : tie.After-no-entry Inv-loop μ-loop → tie.Start Inv-loop μ-loop
+lent c = c .before .before .before .before
+
 abbrev begun : tie.At-loop Inv-loop μ-loop → tie.Start Inv-loop μ-loop
-begun l = l .before .before .before .before .before
+begun l = lent (l .before)
 
 -- the loop's turn in which a byte is read
 abbrev turn : tie.After-shared-slice-known4 Inv-loop μ-loop → tie.At-loop Inv-loop μ-loop
@@ -77,7 +80,7 @@ long k = let ok = k .keep-word .ok in search needs
 
 loop-holds : tie.Need-loop-holds Inv-loop μ-loop
 loop-holds c =
-    let s = c .before .before .before .before in
+    let s = lent c in
     let a = s .args in
     let (right, _, none) = c .no-entry .ensures in (
       omega arith,
