@@ -27,8 +27,11 @@ abbrev begun : tie.After-entry-bytes Inv-loop μ-loop → tie.Start Inv-loop μ-
 begun x = x .before .before
 
 -- the first entry's bytes are read
+abbrev sized : tie.After-wide2 Inv-loop μ-loop → tie.After-wide Inv-loop μ-loop
+sized x = x .before .before .before
+
 abbrev opened : tie.After-wide2 Inv-loop μ-loop → tie.After-record Inv-loop μ-loop
-opened x = x .before .before .before .before .before .before
+opened x = sized x .before .before .before
 
 abbrev start : tie.At-loop Inv-loop μ-loop → tie.Start Inv-loop μ-loop
 start l = begun (opened (l .before) .before)
@@ -103,22 +106,24 @@ record-requires-2 c κs =
 put-brackets-requires : tie.Need-put-brackets-requires Inv-loop μ-loop
 put-brackets-requires c κs =
     let w = c .before in
-    let few = fits (start (w .before .before .before .before)) .1 in
+    let l : tie.At-loop Inv-loop μ-loop = search in
+    let few = fits (start l) .1 in
     let level = next-level w in
     search needs
 
 put-byte-requires : tie.Need-put-byte-requires Inv-loop μ-loop
 put-byte-requires c κs =
-    let w = c .before .before .before in
-    let few = fits (start (w .before .before .before .before)) .1 in
+    let w : tie.After-wide3 Inv-loop μ-loop = search in
+    let l : tie.At-loop Inv-loop μ-loop = search in
+    let few = fits (start l) .1 in
     search needs
 
 put-path-requires-2 : tie.Need-put-path-requires-2 Inv-loop μ-loop
 put-path-requires-2 c κs =
-    let g = c .before .before .before in
-    let b = g .before .before in
-    let r = b .before .before .before .before in
-    let l = r .before .before in
+    let g : tie.After-put-byte Inv-loop μ-loop = search in
+    let b : tie.After-put-brackets Inv-loop μ-loop = search in
+    let r : tie.After-record2 Inv-loop μ-loop = search in
+    let l : tie.At-loop Inv-loop μ-loop = search in
     let s = start l in
     let a = s .args in
     let few = fits s .1 in
@@ -129,19 +134,20 @@ put-path-requires-2 c κs =
 
 add-e : tie.Need-add-e Inv-loop μ-loop
 add-e c =
-    let g = c .before .before .before .before in
-    let w = g .before .before .before .before in
-    let few = fits (start (w .before .before .before .before)) .1 in
+    let g : tie.After-put-byte Inv-loop μ-loop = search in
+    let w : tie.After-wide3 Inv-loop μ-loop = search in
+    let l : tie.At-loop Inv-loop μ-loop = search in
+    let few = fits (start l) .1 in
     search needs
 
 loop-again : tie.Need-loop-again Inv-loop μ-loop
 loop-again c =
     let v = c .before in
-    let g = v .before .before .before in
-    let b = g .before .before in
-    let w = b .before .before in
-    let r = w .before .before in
-    let l = r .before .before in
+    let g : tie.After-put-byte Inv-loop μ-loop = search in
+    let b : tie.After-put-brackets Inv-loop μ-loop = search in
+    let w : tie.After-wide3 Inv-loop μ-loop = search in
+    let r : tie.After-record2 Inv-loop μ-loop = search in
+    let l : tie.At-loop Inv-loop μ-loop = search in
     let s = start l in
     let a = s .args in
     let lt = r .before .loop-test .taken in (
