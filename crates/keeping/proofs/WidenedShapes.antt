@@ -12,7 +12,7 @@ use lib.ListN.{length, take, drop, replicate}
 use lib.Seq.{take-append-le, drop-append-le, take-append-add}
 use borrow.Author.Tests.{leb-true, leb-false, le-leb, eq-eqb, ne-eqb}
 use Rattle.paper.specs.Lists.{Has, all, lastOr, between, ways}
-use Rattle.paper.specs.Format.{Format, mostEntries, entryBytes, records, whole}
+use Rattle.paper.specs.Format.{Format, mostEntries, entryBytes, whole}
 use Rattle.paper.specs.Tables.{typeNumber}
 use Rattle.paper.specs.Shapes.{Entry, entries, named, levelKept, entryKept, badEntry, steps, shapeOver}
 use Rattle.paper.specs.Calls.{Answer, given, _>>=_, refuse, refuseAt, tests5-6}
