@@ -8,17 +8,14 @@ use borrow.Author.Needs.{needs}
 use Rattle.silmezga.proofs.convert_labels.Statement.{statement}
 use Rattle.silmezga.proofs.convert_labels.Tie as tie
 
-abbrev begun : tie.After-format-of → tie.Start
-begun k = k .before .before .before .before .before .before
-
 convert-requires : tie.Need-convert-requires
-convert-requires c κs = let k = c .before .before in format-served _ (begun k .args .width) (k .format-of .ensures)
+convert-requires c κs = let s : tie.Start = search in let k : tie.After-format-of = search in format-served _ (s .args .width) (k .format-of .ensures)
 
 returns : tie.Need-returns
 returns c =
-    let v = c .before .before .before .before in
-    let k = v .before .before .before in
-    let a = begun k .args in
+    let s : tie.Start = search in let a = s .args in
+    let k : tie.After-format-of = search in
+    let v : tie.After-convert = search in
     let left = v .convert .last .1 .1 .1 .1 in
     subst (λ (f : Format). Converts (convert f (a .table .now) (a .shape .now) (a .pairs .now) (a .new-table .now) (a .new-shape .now)) (v .convert .result)
     (left .0) (left .1 .0)) (k .format-of .ensures) (v .convert .ensures)

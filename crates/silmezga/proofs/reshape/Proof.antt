@@ -8,14 +8,15 @@ use Rattle.silmezga.proofs.reshape.Tie as tie
 
 reshape-requires : tie.Need-reshape-requires
 reshape-requires c κs =
-    let k = c .before .before in
-    format-served _ (k .before .before .before .before .before .args .width) (k .format-of .ensures)
+    let s : tie.Start = search in
+    let k : tie.After-format-of = search in
+    format-served _ (s .args .width) (k .format-of .ensures)
 
 returns : tie.Need-returns
 returns c =
-    let r = c .before .before .before .before in
-    let k = r .before .before .before in
-    let a = k .before .before .before .before .before .args in
+    let s : tie.Start = search in let a = s .args in
+    let k : tie.After-format-of = search in
+    let r : tie.After-reshape = search in
     let left = r .reshape .last .1 .1 .1 in
     subst (λ f. Reshapes f (a .table .now) (a .shape .now) (a .new .now) (a .sources .now) (r .reshape .result) (left .0) (left .1 .0))
     (k .format-of .ensures) (r .reshape .ensures)

@@ -6,17 +6,17 @@ use borrow.Author.Needs.{needs}
 use Rattle.silmezga.proofs.reshape_with_index.Statement.{statement}
 use Rattle.silmezga.proofs.reshape_with_index.Tie as tie
 
-abbrev begun : tie.After-format-of → tie.Start
-begun k = k .before .before .before .before .before .before .before
-
 reshape-with-index-requires : tie.Need-reshape-with-index-requires
-reshape-with-index-requires c κs = let k = c .before .before in format-served _ (begun k .args .width) (k .format-of .ensures)
+reshape-with-index-requires c κs =
+    let s : tie.Start = search in
+    let k : tie.After-format-of = search in
+    format-served _ (s .args .width) (k .format-of .ensures)
 
 returns : tie.Need-returns
 returns c =
-    let r = c .before .before .before .before in
-    let k = r .before .before .before in
-    let a = begun k .args in
+    let s : tie.Start = search in let a = s .args in
+    let k : tie.After-format-of = search in
+    let r : tie.After-reshape-with-index = search in
     let left = r .reshape-with-index .last .1 .1 .1 .1 .1 in
     subst
     (λ f. ReshapesWith f (a .table .now) (a .shape .now) (a .last .now) (a .next .now) (a .new .now) (a .sources .now) (r .reshape-with-index .result)
