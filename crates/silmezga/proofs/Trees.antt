@@ -26,6 +26,12 @@ width-labelled Eight = lit≤ tt
 pub format-labelled : (f : Format) (w : Width) → f ≡ formatOf w → 0 < f .labels
 format-labelled f w e = subst (λ (g : Format). 0 < g .labels) (sym e) (width-labelled w)
 
+-- and each label is of one byte
+pub width-low : (w : Width) → formatOf w .labels < 256
+unfolding base eight
+width-low Six = lit≤ tt
+width-low Eight = lit≤ tt
+
 -- so names are read as they are spelled
 pub width-named : (w : Width) → NamesRead (formatOf w)
 width-named w = names-read (formatOf w) (width-labelled w)
