@@ -8,9 +8,10 @@ use Rattle.silmezga_c.proofs.silmezga_build_index.Tie as tie
 
 returns : tie.Need-returns
 returns c =
-    let r = c .before .before .before .before in
-    let k = r .before .before .before in
-    let a = k .before .before .before .before .args in
+    let r : tie.After-build-index = search in
+    let k : tie.After-width-of = search in
+    let start : tie.Start = search in
+    let a = start .args in
     let left = r .build-index .last .1 .1 in
     subst (λ w. Builds (formatOf w) (a .table .now) (a .last .now) (a .next .now) (r .build-index .result) (left .0) (left .1 .0)) (k .width-of .ensures)
     (r .build-index .ensures)

@@ -10,9 +10,10 @@ use Rattle.silmezga_c.proofs.silmezga_convert_labels.Tie as tie
 
 returns : tie.Need-returns
 returns c =
-    let v = c .before .before .before .before in
-    let k = v .before .before .before in
-    let a = k .before .before .before .before .before .before .args in
+    let v : tie.After-convert-labels = search in
+    let k : tie.After-width-of = search in
+    let start : tie.Start = search in
+    let a = start .args in
     let left = v .convert-labels .last .1 .1 .1 .1 in
     subst (λ (w : Width). Converts (convert (formatOf w) (a .table .now) (a .shape .now) (a .pairs .now) (a .new-table .now) (a .new-shape .now))
     (v .convert-labels .result) (left .0) (left .1 .0)) (k .width-of .ensures) (v .convert-labels .ensures)

@@ -9,8 +9,9 @@ use Rattle.silmezga_c.proofs.silmezga_examine.Tie as tie
 
 returns : tie.Need-returns
 returns c =
-    let t = c .before .before .before .args .table .now in
-    subst (λ w. examined (c .examine .result) ≡ Calls.examine (formatOf w) t) (c .before .width-of .ensures) (c .examine .ensures)
+    let k : tie.After-width-of = search in
+    let start : tie.Start = search in
+    subst (λ w. examined (c .examine .result) ≡ Calls.examine (formatOf w) (start .args .table .now)) (k .width-of .ensures) (c .examine .ensures)
 
 pub silmezga-examine-spec : {M : Type 1} → statement M
 silmezga-examine-spec = tie.close (tie.spec (λ c κs. search needs) (λ c κs. search needs) returns)

@@ -11,9 +11,10 @@ use Rattle.silmezga_c.proofs.silmezga_judge.Tie as tie
 
 returns : tie.Need-returns
 returns c =
-    let j = c .before in
-    let k = j .before in
-    let a = k .before .before .before .args in
+    let j : tie.After-judge = search in
+    let k : tie.After-width-of = search in
+    let start : tie.Start = search in
+    let a = start .args in
     let r = j .judge .result in
     let e = subst (λ w. judged r ≡ inNumbers (judge (formatOf w) (a .table .now) (a .shape .now))) (k .width-of .ensures) (j .judge .ensures) in
     c .judged-numbers .ensures ∙ in-four r (judge (formatNumbered (a .width)) (a .table .now) (a .shape .now)) e

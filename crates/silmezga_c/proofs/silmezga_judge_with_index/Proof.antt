@@ -11,9 +11,10 @@ use Rattle.silmezga_c.proofs.silmezga_judge_with_index.Tie as tie
 
 returns : tie.Need-returns
 returns c =
-    let j = c .before in
-    let k = j .before in
-    let a = k .before .before .before .before .before .args in
+    let j : tie.After-judge-with-index = search in
+    let k : tie.After-width-of = search in
+    let start : tie.Start = search in
+    let a = start .args in
     let r = j .judge-with-index .result in
     let e = subst (λ w. judged r ≡ inNumbers (judgeWith (formatOf w) (a .table .now) (a .shape .now) (a .last .now) (a .next .now)))
     (k .width-of .ensures) (j .judge-with-index .ensures) in

@@ -10,9 +10,10 @@ use Rattle.silmezga_c.proofs.silmezga_print_tree.Tie as tie
 
 returns : tie.Need-returns
 returns c =
-    let v = c .before .before in
-    let k = v .before .before in
-    let a = k .before .before .before .args in
+    let v : tie.After-print-tree = search in
+    let k : tie.After-width-of = search in
+    let start : tie.Start = search in
+    let a = start .args in
     subst (λ (w : Width). Prints (printTree (formatOf w) (a .shape .now) (a .text .now)) (v .print-tree .result) (v .print-tree .last .1 .1 .0))
     (k .width-of .ensures) (v .print-tree .ensures)
 

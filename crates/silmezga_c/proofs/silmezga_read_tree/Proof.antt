@@ -9,9 +9,10 @@ use Rattle.silmezga_c.proofs.silmezga_read_tree.Tie as tie
 
 returns : tie.Need-returns
 returns c =
-    let v = c .before .before in
-    let k = v .before .before in
-    let a = k .before .before .before .before .args in
+    let v : tie.After-read-tree = search in
+    let k : tie.After-width-of = search in
+    let start : tie.Start = search in
+    let a = start .args in
     subst (λ (w : Width). ReadsTree (formatOf w) (a .table .now) (a .text .now) (a .shape .now) (v .read-tree .result) (v .read-tree .last .1 .1 .1 .0))
     (k .width-of .ensures) (v .read-tree .ensures)
 

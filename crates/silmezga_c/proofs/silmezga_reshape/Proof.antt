@@ -8,9 +8,10 @@ use Rattle.silmezga_c.proofs.silmezga_reshape.Tie as tie
 
 returns : tie.Need-returns
 returns c =
-    let r = c .before .before .before .before in
-    let k = r .before .before .before in
-    let a = k .before .before .before .before .before .args in
+    let r : tie.After-reshape = search in
+    let k : tie.After-width-of = search in
+    let start : tie.Start = search in
+    let a = start .args in
     let left = r .reshape .last .1 .1 .1 in
     subst (λ w. Reshapes (formatOf w) (a .table .now) (a .shape .now) (a .new .now) (a .sources .now) (r .reshape .result) (left .0) (left .1 .0))
     (k .width-of .ensures) (r .reshape .ensures)

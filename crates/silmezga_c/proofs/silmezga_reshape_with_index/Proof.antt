@@ -8,9 +8,10 @@ use Rattle.silmezga_c.proofs.silmezga_reshape_with_index.Tie as tie
 
 returns : tie.Need-returns
 returns c =
-    let r = c .before .before .before .before in
-    let k = r .before .before .before in
-    let a = k .before .before .before .before .before .before .before .args in
+    let r : tie.After-reshape-with-index = search in
+    let k : tie.After-width-of = search in
+    let start : tie.Start = search in
+    let a = start .args in
     let left = r .reshape-with-index .last .1 .1 .1 .1 .1 in
     subst
     (λ w. ReshapesWith (formatOf w) (a .table .now) (a .shape .now) (a .last .now) (a .next .now) (a .new .now) (a .sources .now)

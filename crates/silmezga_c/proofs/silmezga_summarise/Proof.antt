@@ -9,9 +9,11 @@ use Rattle.silmezga_c.proofs.silmezga_summarise.Tie as tie
 
 returns : tie.Need-returns
 returns c =
-    let a = c .before .before .before .before .args in
+    let k : tie.After-width-of = search in
+    let start : tie.Start = search in
+    let a = start .args in
     subst (λ w. summarised (c .summarise .result) ≡ Calls.summarise (formatOf w) (a .table .now) (a .shape .now))
-    (c .before .width-of .ensures) (c .summarise .ensures)
+    (k .width-of .ensures) (c .summarise .ensures)
 
 pub silmezga-summarise-spec : {M : Type 1} → statement M
 silmezga-summarise-spec = tie.close (tie.spec (λ c κs. search needs) (λ c κs. search needs) returns)

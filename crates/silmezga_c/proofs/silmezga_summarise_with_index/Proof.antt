@@ -9,9 +9,11 @@ use Rattle.silmezga_c.proofs.silmezga_summarise_with_index.Tie as tie
 
 returns : tie.Need-returns
 returns c =
-    let a = c .before .before .before .before .before .before .args in
+    let k : tie.After-width-of = search in
+    let start : tie.Start = search in
+    let a = start .args in
     subst (λ w. summarised (c .summarise-with-index .result) ≡ summariseWith (formatOf w) (a .table .now) (a .shape .now) (a .last .now) (a .next .now))
-    (c .before .width-of .ensures) (c .summarise-with-index .ensures)
+    (k .width-of .ensures) (c .summarise-with-index .ensures)
 
 pub silmezga-summarise-with-index-spec : {M : Type 1} → statement M
 silmezga-summarise-with-index-spec = tie.close (tie.spec (λ c κs. search needs) (λ c κs. search needs) returns)
