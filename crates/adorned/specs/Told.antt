@@ -1,4 +1,4 @@
--- What the answers say, in the paper's terms. Assumes nothing.
+-- What is found out of a table, in the paper's terms. Assumes nothing.
 use Prim.Native.Nat.{ℕ, _-_, _<_}
 use mathlib.Core.Path.{_≡_}
 use mathlib.Core.List.{List, [], _++_, map}
@@ -14,10 +14,7 @@ use Rattle.closest.specs.Node.{Typed}
 use Rattle.closest.specs.Rows.{RowsIn}
 use Rattle.closest.specs.declared.rows.RowsRead.{RowsRead}
 use Rattle.adorned.specs.declared.Adorned.{Adorned}
-use Rattle.adorned.specs.declared.TypeSummary.{TypeSummary}
-
-abbrev pub told : TypeSummary → Summary
-told r = record { parent = r .parent; label = r .label; level = r .level; rows = r .rows; least = r .least; greatest = r .greatest }
+pub use Rattle.adorned.specs.Lent.{told}
 
 -- type k of the types ts, which the lists tell, has this parent type, last label and level
 pub record Listed (ts : List (List ℕ)) (parents labels : List ℕ) (count k parent label level : ℕ) : Type 0 where

@@ -24,7 +24,8 @@ use Rattle.closest.specs.Runs.{SoundRows, LevelsOf}
 use Rattle.closest.proofs.Meets.{nodes-are}
 use Rattle.indexes.specs.Last.{LastRows}
 use Rattle.indexes.specs.Labels.{LabelLists, NextsAlike}
-use Rattle.indexes.specs.Built.{built, Indexes, Builds}
+use Rattle.indexes.specs.Built.{built, Builds}
+use Rattle.indexes.specs.Front.{Indexes}
 use Rattle.indexes.specs.declared.build.IndexBuilt.{IndexBuilt}
 use Rattle.indexes.proofs.Held.{last-is, next-is}
 use Rattle.indexes.proofs.Numbered.{levelled, numbers}

@@ -1,3 +1,4 @@
 pub mod Pairs
 pub mod Records
+pub mod Tested
 pub mod Answers

@@ -18,7 +18,8 @@ ghost use Rattle.bytes.specs.Served.{Served};
 ghost use Rattle.tables.specs.Place.{placeOf};
 ghost use Rattle.labels.specs.Pairs.{pairAt};
 ghost use Rattle.labels.specs.Records.{standing};
-ghost use Rattle.labels.specs.Answers.{Counted, Tested, Converts};
+ghost use Rattle.labels.specs.Answers.{Converts};
+ghost use Rattle.labels.specs.Tested.{Counted, Tested};
 
 // What converting answers: a refusal, or the counts of rows and entries.
 #[repr(C)]

@@ -11,7 +11,7 @@ use Rattle.paper.specs.Verdict as paper
 use Rattle.paper.specs.Verdict.{Judgement, kept, missing, apart, unsure, verdictNumbers}
 use Rattle.paper.specs.Calls.{given, Reply, tests1-3, lookUp}
 use Rattle.judging.specs.Judged.{InNumbers, judged, inNumbers}
-use Rattle.judging.specs.Told.{numbersOf}
+use Rattle.judging.specs.Judged.{numbersOf}
 use Rattle.judging.specs.declared.judge.Judged.{Judged}
 use Rattle.judging.specs.declared.verdict.Verdict.{Verdict}
 use Rattle.judging.specs.declared.verdict.Verdict.the-variants.{Kept, Missing, Apart, Unsure}
@@ -21,7 +21,8 @@ use Rattle.tables.specs.Reply.{startOf}
 use Rattle.tables.proofs.Back.{refused-start}
 use Rattle.tables.proofs.Examine.{lookUp-row}
 use Rattle.tables.proofs.Rows.{row-in}
-use Rattle.silmezga_c.specs.Told.{LooksUp, asNumber, InFour, inFour, judgedNumbers, fourNumbers}
+use Rattle.silmezga_c.specs.Told.{LooksUp, asNumber, InFour, inFour, fourNumbers}
+use Rattle.silmezga_c.specs.Numbers.{judgedNumbers}
 use Rattle.silmezga_c.specs.declared.LookedUp.{LookedUp}
 use Rattle.silmezga_c.specs.declared.JudgedNumbers.{JudgedNumbers}
 

@@ -18,7 +18,8 @@ use Rattle.silmezga.proofs.Unique as rattle
 use Rattle.silmezga.proofs.Indexed as indexed
 use Rattle.silmezga.proofs.judge.Reads as judge′
 use Rattle.silmezga.proofs.judge_with_index.Reads as judge-with-index′
-use Rattle.silmezga_c.specs.Told.{widthOf, formatNumbered, InFour, edgesTold, inFour, judgedNumbers, fourNumbers}
+use Rattle.silmezga_c.specs.Told.{widthOf, formatNumbered, InFour, edgesTold, inFour, fourNumbers}
+use Rattle.silmezga_c.specs.Numbers.{judgedNumbers}
 use Rattle.silmezga_c.specs.declared.JudgedNumbers.{JudgedNumbers}
 use Rattle.silmezga_c.proofs.Told.{look-up-unique, in-four, judged-same, tells}
 use Rattle.silmezga_c.proofs.silmezga_examine.Reads as examine

@@ -1,4 +1,4 @@
--- What the answers in numbers say, in the paper's terms. Assumes nothing.
+-- What the contracts for C say in numbers, in the paper's terms. Assumes nothing.
 use Prim.Native.Nat.{ℕ}
 use mathlib.Core.Path.{_≡_}
 use mathlib.Core.Bool.{Bool, true, false}
@@ -14,9 +14,6 @@ use Rattle.paper.specs.Calls.{Reply, lookUp}
 use Rattle.paper.specs.declared.Width.{Width}
 use Rattle.paper.specs.declared.Width.the-variants.{Six, Eight}
 use Rattle.tables.specs.Reply.{startOf}
-use Rattle.judging.specs.Judged.{numbersOf}
-use Rattle.judging.specs.Judged.{edgesOf}
-use Rattle.judging.specs.declared.judge.Judged.{Judged}
 use Rattle.silmezga_c.specs.declared.LookedUp.{LookedUp}
 use Rattle.silmezga_c.specs.declared.JudgedNumbers.{JudgedNumbers}
 
@@ -60,14 +57,6 @@ inFour r = record {
   place = r .place;
   rest = record { four = r .verdict ∷ r .first ∷ r .second ∷ r .«none_apart» ∷ []; edges = edgesTold r };
 }
-
--- what was judged, with these four numbers
-abbrev pub toldOf : Judged → List ℕ → Reply InFour
-toldOf j four = record { number = j .number; place = j .place; rest = record { four = four; edges = edgesOf j } }
-
--- what was judged, with the numbers of its verdict, made up to three, and of its second answer
-abbrev pub judgedNumbers : Judged → Reply InFour
-judgedNumbers j = toldOf j (padded 3 (numbersOf (j .verdict)) ++ (asNumber (j .«none_apart») ∷ []))
 
 -- a reply with a judgement, in numbers: document 01's number of the verdict and its values, zeros where it has none, and the second answer
 abbrev pub fourNumbers : Reply Judgement → Reply InFour

@@ -24,15 +24,15 @@ ghost use Rattle.paper.specs.Labels.{convert};
 ghost use Rattle.paper.specs.Index.{judgeWith, summariseWith};
 ghost use Rattle.grammar.specs.Typed.{printTree};
 ghost use Rattle.tables.specs.Reply.{examined};
-ghost use Rattle.adorned.specs.Told.{told};
-ghost use Rattle.adorned.specs.Lent.{adornedTypes};
+ghost use Rattle.adorned.specs.Lent.{told, adornedTypes};
 ghost use Rattle.indexes.specs.Built.{Builds};
 ghost use Rattle.reshaping.specs.Reshaped.{Reshapes, ReshapesWith, summarised};
 ghost use Rattle.widths.specs.Answers.{Moves};
 ghost use Rattle.labels.specs.Answers.{Converts};
 ghost use Rattle.typed.specs.Read.{ReadsTree};
 ghost use Rattle.spelling.specs.Printed.{Prints};
-ghost use Rattle.silmezga_c.specs.Told.{widthOf, formatNumbered, LooksUp, asNumber, inFour, toldOf, judgedNumbers, fourNumbers};
+ghost use Rattle.silmezga_c.specs.Told.{widthOf, formatNumbered, LooksUp, asNumber, inFour, fourNumbers};
+ghost use Rattle.silmezga_c.specs.Numbers.{toldOf, judgedNumbers};
 
 // The width that a number names.
 fn width_of(number: u32) -> Width

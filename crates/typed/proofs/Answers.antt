@@ -20,7 +20,8 @@ use Rattle.grammar.proofs.Named.{names-read}
 use Rattle.grammar.proofs.Right.{said-right}
 use Rattle.typed.specs.Entries.{Within}
 use Rattle.typed.specs.Matching.{Listed}
-use Rattle.typed.specs.Read.{ReadsTree, readingOf, shapedAs}
+use Rattle.typed.specs.Read.{ReadsTree, readingOf}
+use Rattle.typed.specs.Shaped.{shapedAs}
 use Rattle.typed.specs.declared.read.TreeRead.{TreeRead}
 use Rattle.typed.proofs.Shaped.{Given, left}
 

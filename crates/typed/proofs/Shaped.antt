@@ -23,7 +23,8 @@ use Rattle.grammar.specs.Typed.{Wanted, matches, matched, entryBack, shapeBack,
 use Rattle.typed.specs.Matching.{soleNumber}
 use Rattle.typed.specs.Entries.{entriesBack}
 use Rattle.typed.specs.Walk.{levelsOf, numbersOf}
-use Rattle.typed.specs.Read.{readingOf, shapedAs, Of}
+use Rattle.typed.specs.Read.{readingOf}
+use Rattle.typed.specs.Shaped.{shapedAs, Of}
 use Rattle.typed.specs.declared.walk.Walked.{Walked}
 use Rattle.typed.proofs.Soles.{sole-one, sole-none}
 use Rattle.typed.proofs.Back.{kept-place, shape-back}

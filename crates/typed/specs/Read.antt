@@ -1,16 +1,10 @@
 -- What reading a typed tree answers and leaves, in the grammar's terms. Assumes nothing.
-use Prim.Native.Nat.{ℕ, _≤_}
-use mathlib.Core.Path.{_≡_}
+use Prim.Native.Nat.{ℕ}
 use mathlib.Core.List.{List}
-use lib.ListN.{length, take}
-use Rattle.paper.specs.Lists.{Has}
-use Rattle.paper.specs.Format.{Format, mostEntries}
-use Rattle.paper.specs.Calls.{given, _>>=_, Reply, reply, after}
-use Rattle.grammar.specs.Typed.{Wanted, shaping, Reading, ReadTree}
-use Rattle.typed.specs.Matching.{Listed}
-use Rattle.typed.specs.Walk.{levelsOf, numbersOf}
+use Rattle.paper.specs.Format.{Format}
+use Rattle.paper.specs.Calls.{Reply}
+use Rattle.grammar.specs.Typed.{Reading, ReadTree}
 use Rattle.typed.specs.declared.read.TreeRead.{TreeRead}
-use Rattle.typed.specs.declared.walk.Walked.{Walked}
 
 abbrev pub told : TreeRead → Reply ℕ
 told r = record { number = r .number; place = r .place; rest = r .entries }
@@ -22,21 +16,3 @@ readingOf r shape = record { reply = told r; shape = shape }
 -- The answer, and every byte lent for the shape, are the definition's.
 abbrev pub ReadsTree : Format → List ℕ → List ℕ → List ℕ → TreeRead → List ℕ → Type 0
 ReadsTree f b text lent r shape = ReadTree f b text lent (readingOf r shape)
-
--- what 5, 6, 13 and 29 leave of these entries
-unfoldable pub shapedAs : Format → List (List ℕ) → List Wanted → List ℕ → Reading
-shapedAs f ts es lent =
-    let a = shaping f ts es (length lent) in
-    record { reply = reply 0 (do x ← a; given (x .0)); shape = after lent (do x ← a; given (x .1)) }
-
--- What was walked is of these entries, over these types.
-pub record Of (ts : List (List ℕ)) (es : List Wanted) (w : Walked) : Type 0 where
-  pub count-is : w .entries ≡ length es
-  pub levels-are : take (w .entries) (w .levels) ≡ take mostEntries (levelsOf es)
-  pub types-are : take (w .entries) (w .types) ≡ take mostEntries (numbersOf ts es)
-
--- Whatever types are listed, none with more labels than the format has levels, and whatever entries are asked for, they are shaped.
-abbrev pub Shapes : Format → Walked → List ℕ → List ℕ → ℕ → List ℕ → TreeRead → List ℕ → Type 0
-Shapes f w parents labels count lent r shape =
-    (ts : List (List ℕ)) → Listed ts parents labels count → ((v : List ℕ) → Has v ts → length v ≤ f .levels)
-    → (es : List Wanted) → Of ts es w → readingOf r shape ≡ shapedAs f ts es lent

@@ -19,7 +19,8 @@ use Rattle.bytes.proofs.Writing.{front-written}
 use Rattle.tables.specs.Place.{placeOf}
 use Rattle.shapes.proofs.Examined.{place-some, place-none}
 use Rattle.widths.specs.Moves.{recordDeep}
-use Rattle.widths.specs.Answers.{Moves, movingFrom, moveTested}
+use Rattle.widths.specs.Answers.{Moves}
+use Rattle.widths.specs.Tested.{movingFrom, moveTested}
 use Rattle.widths.specs.declared.moves.Moved.{Moved}
 use Rattle.widths.proofs.Deep.{table-deep, shape-deep}
 

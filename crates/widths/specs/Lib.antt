@@ -1,2 +1,3 @@
 pub mod Moves
+pub mod Tested
 pub mod Answers

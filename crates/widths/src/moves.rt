@@ -11,7 +11,8 @@ ghost use Prim.Native.Nat.{_≤_};
 ghost use Rattle.paper.specs.Format.{mostRows, rowBytes, entryBytes, whole};
 ghost use Rattle.paper.specs.Widths.{formatOf, moveTable, moveShape};
 ghost use Rattle.bytes.specs.Served.{Served};
-ghost use Rattle.widths.specs.Answers.{Moves, moveTested};
+ghost use Rattle.widths.specs.Answers.{Moves};
+ghost use Rattle.widths.specs.Tested.{moveTested};
 
 // What moving answers: a refusal, or the count of rows or entries.
 #[repr(C)]

@@ -5,7 +5,8 @@ use Rattle.paper.specs.Lists.{padded}
 use Rattle.paper.specs.Calls.{Reply}
 use Rattle.judging.specs.Judged.{numbersOf}
 use Rattle.judging.specs.declared.verdict.Verdict.{Verdict}
-use Rattle.silmezga_c.specs.Told.{InFour, toldOf, judgedNumbers}
+use Rattle.silmezga_c.specs.Told.{InFour}
+use Rattle.silmezga_c.specs.Numbers.{toldOf, judgedNumbers}
 use borrow.Author.Needs.{needs}
 use Rattle.silmezga_c.proofs.judged_numbers.Statement.{statement}
 use Rattle.silmezga_c.proofs.judged_numbers.Tie as tie
@@ -22,16 +23,27 @@ told : (c : tie.After-as-number) {v : Verdict} → begun c .args .j .verdict ≡
 told c e = ap₂ (λ v n. toldOf (begun c .args .j) (padded 3 (numbersOf v) ++ (n ∷ []))) (sym e) (c .as-number .ensures)
 
 returns : tie.Need-returns
-returns c = c .in-numbers .ensures ∙ told (c .before .before .before) (c .before .enum-told .given .1)
+returns c =
+    let n : tie.After-as-number = search in
+    c .in-numbers .ensures ∙ told n (c .before .enum-told .given .1)
 
 returns-2 : tie.Need-returns-2
-returns-2 c = c .in-numbers2 .ensures ∙ told (c .before .before .before .before) (c .before .before .verdict .given .1)
+returns-2 c =
+    let n : tie.After-as-number = search in
+    let v : tie.After-verdict = search in
+    c .in-numbers2 .ensures ∙ told n (v .verdict .given .1)
 
 returns-3 : tie.Need-returns-3
-returns-3 c = c .in-numbers3 .ensures ∙ told (c .before .before .before .before) (c .before .before .verdict2 .given .1)
+returns-3 c =
+    let n : tie.After-as-number = search in
+    let v : tie.After-verdict2 = search in
+    c .in-numbers3 .ensures ∙ told n (v .verdict2 .given .1)
 
 returns-4 : tie.Need-returns-4
-returns-4 c = c .in-numbers4 .ensures ∙ told (c .before .before .before .before) (c .before .before .verdict3 .given .1)
+returns-4 c =
+    let n : tie.After-as-number = search in
+    let v : tie.After-verdict3 = search in
+    c .in-numbers4 .ensures ∙ told n (v .verdict3 .given .1)
 
 pub judged-numbers-spec : {M : Type 1} → statement M
 judged-numbers-spec =

@@ -8,7 +8,7 @@ use lib.ListN.{getD}
 use borrow.Author.Tests.{leb-false}
 use Rattle.paper.specs.Format.{entryBytes}
 use Rattle.typed.specs.Entries.{EachKnown}
-use Rattle.typed.specs.Read.{Shapes}
+use Rattle.typed.specs.Shaped.{Shapes}
 use Rattle.typed.specs.declared.read.TreeRead.{TreeRead}
 use Rattle.typed.proofs.Firsts.{none-passes}
 use Rattle.typed.proofs.Shaped.{too-many, too-deep, unmatched, no-room, shaped}
