@@ -14,6 +14,7 @@ use Rattle.closest.specs.Node.{Typed}
 use Rattle.closest.specs.Rows.{RowsIn}
 use Rattle.closest.specs.declared.rows.RowsRead.{RowsRead}
 use Rattle.adorned.specs.declared.Adorned.{Adorned}
+use Rattle.adorned.specs.declared.TypeSummary.{TypeSummary}
 pub use Rattle.adorned.specs.Lent.{told}
 
 -- type k of the types ts, which the lists tell, has this parent type, last label and level

@@ -10,8 +10,7 @@ use Rattle.paper.specs.Tables.{rows}
 use Rattle.paper.specs.Verdict as paper
 use Rattle.paper.specs.Verdict.{Judgement, kept, missing, apart, unsure, verdictNumbers}
 use Rattle.paper.specs.Calls.{given, Reply, tests1-3, lookUp}
-use Rattle.judging.specs.Judged.{InNumbers, judged, inNumbers}
-use Rattle.judging.specs.Judged.{numbersOf}
+use Rattle.judging.specs.Judged.{numbersOf, InNumbers, judged, inNumbers}
 use Rattle.judging.specs.declared.judge.Judged.{Judged}
 use Rattle.judging.specs.declared.verdict.Verdict.{Verdict}
 use Rattle.judging.specs.declared.verdict.Verdict.the-variants.{Kept, Missing, Apart, Unsure}

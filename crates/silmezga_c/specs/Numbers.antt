@@ -3,8 +3,7 @@ use Prim.Native.Nat.{ℕ}
 use mathlib.Core.List.{List, [], _∷_, _++_}
 use Rattle.paper.specs.Lists.{padded}
 use Rattle.paper.specs.Calls.{Reply}
-use Rattle.judging.specs.Judged.{numbersOf}
-use Rattle.judging.specs.Judged.{edgesOf}
+use Rattle.judging.specs.Judged.{numbersOf, edgesOf}
 use Rattle.judging.specs.declared.judge.Judged.{Judged}
 use Rattle.silmezga_c.specs.Told.{asNumber, InFour}
 
