@@ -1,7 +1,6 @@
 -- `new_table::print_row` prints whole rows alone. Assumes nothing.
-use mathlib.Core.Path.{_≡_, sym, _∙_, ap}
+use mathlib.Core.Path.{sym, _∙_, ap}
 use mathlib.Core.Bool.{true≢false}
-use lib.ListN.{length}
 use native.Mathlib.Omega.{arith}
 use Rattle.paper.specs.Format.{rowBytes}
 use Rattle.bytes.specs.Served.{Served}

@@ -10,9 +10,9 @@ slice-relend-prefix-reshape c = search needs
 
 slice-aggregate-reshape : tie.Need-slice-aggregate-reshape
 slice-aggregate-reshape c =
-    let w = c .before in
-    let table = w .before .before .before .before .before .before .args .table .now in
-    counts (1024 * w .row-bytes .result) table (slice-relend-prefix-reshape w) .1
+    let s : tie.Start = search in
+    let w : tie.After-row-bytes = search in
+    counts (1024 * w .row-bytes .result) (s .args .table .now) (slice-relend-prefix-reshape w) .1
 
 pub reshape-into-spec : {M : Type 1} → statement M
 reshape-into-spec =

@@ -15,13 +15,15 @@ in-shape n w few short =
 
 mul-n : tie.Need-mul-n
 mul-n c =
-    let e = c .before .before in
-    omega (arith, in-shape (e .before .before .before .read-tree .result .entries) (c .entry-bytes .result) (e .if3 .left) (search needs))
+    let r : tie.After-read-tree = search in
+    let e : tie.Else3 = search in
+    omega (arith, in-shape (r .read-tree .result .entries) (c .entry-bytes .result) (e .if3 .left) (search needs))
 
 array-share-prefix-shape : tie.Need-array-share-prefix-shape
 array-share-prefix-shape c =
-    let e = c .before .before in
-    omega (arith, in-shape (e .before .before .before .read-tree .result .entries) (c .entry-bytes .result) (e .if3 .left) (search needs))
+    let r : tie.After-read-tree = search in
+    let e : tie.Else3 = search in
+    omega (arith, in-shape (r .read-tree .result .entries) (c .entry-bytes .result) (e .if3 .left) (search needs))
 
 slice-aggregate-print-of : tie.Need-slice-aggregate-print-of
 slice-aggregate-print-of c = counts _ _ (array-share-prefix-shape (c .before)) .1

@@ -6,9 +6,9 @@ use Rattle.printing.proofs.width.entry_at.Tie as tie
 
 record-requires : tie.Need-record-requires
 record-requires c κs =
-    let w = c .before in
-    let a = w .before .before .args in
-    row-in (w .entry-bytes .result) (a .e) (a .shape .now) (c .if1 .taken)
+    let s : tie.Start = search in
+    let w : tie.After-entry-bytes = search in
+    row-in (w .entry-bytes .result) (s .args .e) (s .args .shape .now) (c .if1 .taken)
 
 pub entry-at-spec : {M : Type 1} → statement M
 entry-at-spec =
