@@ -5,7 +5,7 @@ use mathlib.Core.List.{List, _++_}
 use lib.Dec.{ltb}
 use lib.ListN.{take, drop}
 use Rattle.paper.specs.Lists.{padded}
-use Rattle.paper.specs.Format.{format, byte}
+use Rattle.paper.specs.Format.{byte}
 
 -- a record whose list ends at byte `from`, with its list cut, or filled with zeros behind, to end at byte `to`
 abbrev pub fitted : ℕ → ℕ → List ℕ → List ℕ

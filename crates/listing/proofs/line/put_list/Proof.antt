@@ -12,15 +12,15 @@ use Rattle.listing.proofs.line.put_list.Tie as tie
 
 returns : tie.Need-returns
 returns c =
-    let a = c .before .before .before .args in
+    let s : tie.Start = search in let a = s .args in
     (put-as (put-none (a .out .now) (a .at)) (no-numbers (a .n) (a .held .now) (c .if1 .taken)), omega arith)
 
 returns-2 : tie.Need-returns-2
 returns-2 c =
-    let f = c .before .before in
-    let p = f .before .before .before .before in
-    let w = p .before in
-    let a = w .before .before .before .before .before .args in
+    let s : tie.Start = search in let a = s .args in
+    let w : tie.After-word = search in
+    let p : tie.After-put-number = search in
+    let f : tie.After-put-further = search in
     let whole = put-then (p .put-number .ensures .0) (f .put-further .ensures .0) in
     let first = ap (λ x. decimal x ++ further (a .n - 1) (a .held .now)) (w .word .ensures .0) in (
       put-as whole (first ∙ list-parts (a .n) (a .held .now) (omega arith)),

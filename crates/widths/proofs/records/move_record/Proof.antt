@@ -6,9 +6,9 @@ use Rattle.widths.proofs.records.move_record.Tie as tie
 
 returns : tie.Need-returns
 returns c =
-    let put = c .before .before in
-    let listed = put .before .before .before .before .before in
-    let a = listed .before .before .before .before .args in
+    let s : tie.Start = search in let a = s .args in
+    let listed : tie.After-put-list = search in
+    let put : tie.After-put = search in
     record-written (a .r .now) (a .from) (a .to) (a .at) (a .new .now) _ _ (listed .put-list .ensures) (put .put .ensures)
 
 pub move-record-spec : {M : Type 1} → statement M
