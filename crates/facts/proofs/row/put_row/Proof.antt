@@ -11,13 +11,13 @@ use Rattle.facts.proofs.row.put_row.Tie as tie
 
 put-value-requires : tie.Need-put-value-requires
 put-value-requires c κs =
+    let s : tie.Start = search in
     let w = c .before in
-    let l = w .before .before .before in
-    let m = l .before .before in
-    let d = m .before .before in
-    let t = d .before .before in
-    let n = t .before .before .before in
-    let s = n .before .before .before .before .before in
+    let l : tie.After-put-labels = search in
+    let m : tie.After-put-byte = search in
+    let d : tie.After-put-dewey = search in
+    let t : tie.After-put-bytes = search in
+    let n : tie.After-put-named = search in
     let near : d .put-dewey .result ≤ 193 = omega (arith, n .put-named .ensures .1, t .put-bytes .ensures .ends, d .put-dewey .ensures .1) in
     (s .pre .0, (omega (arith, near, m .put-byte .ensures .ends, l .put-labels .ensures .1, w .put-bytes2 .ensures .ends), s .pre .1 .0))
 
@@ -27,13 +27,13 @@ put-byte-requires-2 c κs = search needs
 returns : tie.Need-returns
 unfolding joinedLine rowText
 returns c =
-    let v = c .before .before in
-    let w = v .before .before in
-    let l = w .before .before .before in
-    let m = l .before .before in
-    let d = m .before .before in
-    let t = d .before .before in
-    let n = t .before .before .before in
+    let v : tie.After-put-value = search in
+    let w : tie.After-put-bytes2 = search in
+    let l : tie.After-put-labels = search in
+    let m : tie.After-put-byte = search in
+    let d : tie.After-put-dewey = search in
+    let t : tie.After-put-bytes = search in
+    let n : tie.After-put-named = search in
     let value = put-then (w .put-bytes2 .ensures) (put-last (v .put-value .ensures .0)) in
     let labels = put-then (m .put-byte .ensures) (put-then (l .put-labels .ensures .0) value) in
     let number = put-then (t .put-bytes .ensures) (put-then (d .put-dewey .ensures .0) labels) in
