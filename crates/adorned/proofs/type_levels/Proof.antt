@@ -63,7 +63,6 @@ type-levels-spec =
     read-type
     (λ c κs. search needs)
     array-write-found
-    (λ c. search needs)
-    (λ c. search needs)
+    (λ c. search needs) (λ c. search needs)
     loop-again
     returns)

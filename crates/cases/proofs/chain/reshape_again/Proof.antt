@@ -40,7 +40,5 @@ reshape-again-spec =
     (λ c κs. search needs)
     mul-end
     slice-aggregate-reshape
-    (λ c κs. search needs)
-    (λ c. search needs)
-    (λ c. search needs)
+    (λ c κs. search needs) (λ c. search needs) (λ c. search needs)
     returns)

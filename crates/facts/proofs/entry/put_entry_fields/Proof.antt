@@ -25,9 +25,6 @@ pub put-entry-fields-spec : {M : Type 1} → statement M
 put-entry-fields-spec =
     tie.close
     (tie.spec
-    (λ c κs. search needs)
-    (λ c. search needs)
-    (λ c κs. search needs)
-    (λ c κs. search needs)
+    (λ c κs. search needs) (λ c. search needs) (λ c κs. search needs) (λ c κs. search needs)
     put-byte-requires
     returns)

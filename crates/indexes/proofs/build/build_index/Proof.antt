@@ -49,14 +49,12 @@ pub build-index-spec : {M : Type 1} → statement M
 build-index-spec =
     tie.close
     (tie.spec
-    (λ c κs. search needs)
-    (λ c κs. search needs)
+    (λ c κs. search needs) (λ c κs. search needs)
     returns
     (λ c κs. search needs)
     returns-2
     (λ c κs. search needs)
     returns-3
     put-index-requires
-    (λ c. search needs)
-    (λ c. search needs)
+    (λ c. search needs) (λ c. search needs)
     returns-4)

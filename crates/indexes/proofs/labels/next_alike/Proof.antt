@@ -71,7 +71,6 @@ next-alike-spec =
     same-labels-requires
     cast-result
     returns
-    (λ c. search needs)
-    (λ c. search needs)
+    (λ c. search needs) (λ c. search needs)
     loop-again
     returns-2)

@@ -72,8 +72,7 @@ put-labels-spec =
     sub-labels-2
     (λ c. search needs)
     slice-write-labels
-    (λ c. search needs)
-    (λ c. search needs)
+    (λ c. search needs) (λ c. search needs)
     loop-again
     (λ c. search needs)
     sub-labels-3

@@ -46,8 +46,7 @@ put-next-spec =
     next-alike-requires
     (λ c. search needs)
     slice-write-next
-    (λ c. search needs)
-    (λ c. search needs)
+    (λ c. search needs) (λ c. search needs)
     loop-again
     same-length
     returns)

@@ -229,17 +229,14 @@ first-lone-spec =
     shared-slice-read-if1
     loop-holds
     shared-slice-read-if2
-    (λ c. search needs)
-    (λ c. search needs)
+    (λ c. search needs) (λ c. search needs)
     rows-again
     next-in-run-requires
     loop-less
     loop-again
-    (λ c. search needs)
-    (λ c. search needs)
+    (λ c. search needs) (λ c. search needs)
     rows-again-2
-    (λ c. search needs)
-    (λ c. search needs)
+    (λ c. search needs) (λ c. search needs)
     entries-again
     returns
     returns-2)

@@ -118,6 +118,4 @@ convert-spec =
     (λ c κs. search needs)
     returns-2
     convert-tested-requires
-    (λ c. search needs)
-    (λ c. search needs)
-    (λ c. search needs))
+    (λ c. search needs) (λ c. search needs) (λ c. search needs))

@@ -181,9 +181,7 @@ pub convert-tested-spec : {M : Type 1} → statement M
 convert-tested-spec =
     tie.close
     (tie.spec
-    (λ c κs. search needs)
-    (λ c κs. search needs)
-    (λ c κs. search needs)
+    (λ c κs. search needs) (λ c κs. search needs) (λ c κs. search needs)
     returns
     (λ c κs. search needs)
     first-unlisted-requires
@@ -199,6 +197,5 @@ convert-tested-spec =
     returns-5
     put-records-requires
     put-records-requires-2
-    (λ c. search needs)
-    (λ c. search needs)
+    (λ c. search needs) (λ c. search needs)
     returns-6)

@@ -59,7 +59,6 @@ first-bad-spec =
     loop-holds
     pair-kept-requires
     returns
-    (λ c. search needs)
-    (λ c. search needs)
+    (λ c. search needs) (λ c. search needs)
     loop-again
     returns-2)

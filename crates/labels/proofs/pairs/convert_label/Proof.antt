@@ -32,8 +32,7 @@ pub convert-label-spec : {M : Type 1} → statement M
 convert-label-spec =
     tie.close
     (tie.spec
-    (λ c κs. search needs)
-    (λ c κs. search needs)
+    (λ c κs. search needs) (λ c κs. search needs)
     mul-number-at
     add-number-at
     (λ c κs. search needs)

@@ -75,7 +75,6 @@ first-unlisted-spec =
     record-requires
     (λ c κs. search needs)
     returns
-    (λ c. omega arith)
-    (λ c. omega arith)
+    (λ c. omega arith) (λ c. omega arith)
     loop-again
     returns-2)

@@ -81,8 +81,7 @@ put-records-spec =
     record-requires
     mul-put-record
     put-record-requires
-    (λ c. search needs)
-    (λ c. search needs)
+    (λ c. search needs) (λ c. search needs)
     loop-again
     (λ c. search needs)
     returns)

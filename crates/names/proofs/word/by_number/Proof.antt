@@ -63,14 +63,12 @@ by-number-spec =
     μ-loop
     returns
     loop-holds
-    (λ c. search needs)
-    (λ c κs. search needs)
+    (λ c. search needs) (λ c κs. search needs)
     returns-2
     returns-3
     mul-v
     add-v
     returns-4
-    (λ c. search needs)
-    (λ c. search needs)
+    (λ c. search needs) (λ c. search needs)
     loop-again
     returns-5)

@@ -95,10 +95,6 @@ read-word-spec =
     (λ c κs. search needs)
     returns
     cast-labels
-    (λ c. search needs)
-    (λ c. search needs)
-    (λ c. search needs)
-    (λ c. search needs)
-    (λ c. search needs)
+    (λ c. search needs) (λ c. search needs) (λ c. search needs) (λ c. search needs) (λ c. search needs)
     loop-again
     returns-2)

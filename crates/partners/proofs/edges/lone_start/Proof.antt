@@ -27,9 +27,7 @@ pub lone-start-spec : {M : Type 1} → statement M
 lone-start-spec =
     tie.close
     (tie.spec
-    (λ c. search needs)
-    (λ c κs. search needs)
-    (λ c. search needs)
+    (λ c. search needs) (λ c κs. search needs) (λ c. search needs)
     sub-run-start
     run-start-requires
     returns-2)

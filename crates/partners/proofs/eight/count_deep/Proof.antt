@@ -61,8 +61,6 @@ count-deep-spec =
     cast-k
     add-own-requires
     add-own-requires-2
-    (λ c. search needs)
-    (λ c. search needs)
+    (λ c. search needs) (λ c. search needs)
     loop-again
-    (λ c. search needs)
-    (λ c. search needs))
+    (λ c. search needs) (λ c. search needs))

@@ -39,7 +39,6 @@ print-row-spec =
     row-bytes-requires
     (λ c e. absurd (true≢false (sym e)))
     (λ c e. absurd (true≢false (sym e)))
-    (λ c. search needs)
-    (λ c. search needs)
+    (λ c. search needs) (λ c. search needs)
     print-line-requires
     returns-3)

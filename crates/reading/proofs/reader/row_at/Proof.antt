@@ -56,7 +56,5 @@ row-at-spec =
     (λ c. search needs)
     record-requires
     returns
-    (λ c. search needs)
-    (λ c. search needs)
-    (λ c. search needs)
+    (λ c. search needs) (λ c. search needs) (λ c. search needs)
     returns-2)

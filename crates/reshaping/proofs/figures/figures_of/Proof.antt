@@ -99,7 +99,6 @@ figures-of-spec =
     array-write-copies
     (λ c. search needs)
     array-write-different
-    (λ c. search needs)
-    (λ c. search needs)
+    (λ c. search needs) (λ c. search needs)
     loop-again
     returns)

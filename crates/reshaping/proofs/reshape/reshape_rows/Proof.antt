@@ -102,20 +102,15 @@ pub reshape-rows-spec : {M : Type 1} → statement M
 reshape-rows-spec =
     tie.close
     (tie.spec
-    (λ c. search needs)
-    (λ c. search needs)
-    (λ c κs. search needs)
-    (λ c κs. search needs)
+    (λ c. search needs) (λ c. search needs) (λ c κs. search needs) (λ c κs. search needs)
     returns
     slice-aggregate-count-lines
     slice-aggregate-count-lines-2
     count-lines-requires
-    (λ c κs. search needs)
-    (λ c κs. search needs)
+    (λ c κs. search needs) (λ c κs. search needs)
     returns-2
     slice-aggregate-write-table
     slice-aggregate-write-table-2
     write-table-requires
-    (λ c. search needs)
-    (λ c. search needs)
+    (λ c. search needs) (λ c. search needs)
     returns-3)

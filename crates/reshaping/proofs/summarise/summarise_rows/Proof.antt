@@ -79,10 +79,7 @@ pub summarise-rows-spec : {M : Type 1} → statement M
 summarise-rows-spec =
     tie.close
     (tie.spec
-    (λ c. search needs)
-    (λ c. search needs)
-    (λ c κs. search needs)
-    (λ c κs. search needs)
+    (λ c. search needs) (λ c. search needs) (λ c κs. search needs) (λ c κs. search needs)
     returns
     slice-aggregate-count-lines
     slice-aggregate-count-lines-2

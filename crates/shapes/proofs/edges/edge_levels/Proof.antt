@@ -69,7 +69,6 @@ edge-levels-spec =
     meeting-requires
     cast-edges
     array-write-edges
-    (λ c. search needs)
-    (λ c. search needs)
+    (λ c. search needs) (λ c. search needs)
     loop-again
     returns)

@@ -66,8 +66,7 @@ pub tests5-7-spec : {M : Type 1} → statement M
 tests5-7-spec =
     tie.close
     (tie.spec
-    (λ c κs. search needs)
-    (λ c κs. search needs)
+    (λ c κs. search needs) (λ c κs. search needs)
     returns
     entry-types-requires
     (λ c κs. search needs)

@@ -64,11 +64,9 @@ prepare-spec =
     slice-aggregate-tests5-7
     slice-aggregate-tests5-7-2
     tests5-7-requires
-    (λ c κs. search needs)
-    (λ c. search needs)
+    (λ c κs. search needs) (λ c. search needs)
     returns
     (λ c κs. search needs)
     draw-requires
-    (λ c. search needs)
-    (λ c. search needs)
+    (λ c. search needs) (λ c. search needs)
     returns-2)

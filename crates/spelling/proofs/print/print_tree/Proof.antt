@@ -95,8 +95,7 @@ pub print-tree-spec : {M : Type 1} → statement M
 print-tree-spec =
     tie.close
     (tie.spec
-    (λ c κs. search needs)
-    (λ c κs. search needs)
+    (λ c κs. search needs) (λ c κs. search needs)
     returns
     put-line-requires
     (λ c κs. search needs)

@@ -63,7 +63,6 @@ agree-spec =
     component-requires
     component-requires-2
     returns
-    (λ c. search needs)
-    (λ c. search needs)
+    (λ c. search needs) (λ c. search needs)
     loop-again
     returns-2)

@@ -56,9 +56,7 @@ pub fields-kept-spec : {M : Type 1} → statement M
 fields-kept-spec =
     tie.close
     (tie.spec
-    (λ c. search needs)
-    (λ c κs. search needs)
-    (λ c κs. search needs)
+    (λ c. search needs) (λ c κs. search needs) (λ c κs. search needs)
     returns
     returns-2
     (λ c. search needs)

@@ -171,7 +171,6 @@ bad-row-spec =
     record-requires-3
     row-kept-requires
     returns-3
-    (λ c. omega arith)
-    (λ c. omega arith)
+    (λ c. omega arith) (λ c. omega arith)
     loop-again
     returns-4)

@@ -124,10 +124,8 @@ match-type-spec =
     slice-aggregate-type-matches
     type-matches-requires
     returns-2
-    (λ c. search needs)
-    (λ c. search needs)
+    (λ c. search needs) (λ c. search needs)
     loop-again
-    (λ c. search needs)
-    (λ c. search needs)
+    (λ c. search needs) (λ c. search needs)
     loop-again-2
     returns-3)

@@ -57,7 +57,6 @@ first-deep-spec =
     record-requires
     (λ c κs. search needs)
     returns
-    (λ c. omega arith)
-    (λ c. omega arith)
+    (λ c. omega arith) (λ c. omega arith)
     loop-again
     returns-2)

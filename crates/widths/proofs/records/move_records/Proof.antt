@@ -89,8 +89,7 @@ move-records-spec =
     record-requires
     mul-move-record
     move-record-requires
-    (λ c. search needs)
-    (λ c. search needs)
+    (λ c. search needs) (λ c. search needs)
     loop-again
     (λ c. search needs)
     returns)
