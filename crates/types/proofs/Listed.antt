@@ -91,11 +91,11 @@ module _ (f : Format) (t : List ℕ) (sound : badRow f (rows f t) ≡ none) wher
   level-next (suc i) lt = levels-from [] [] (rows f t) (suc i) refl (chain .0) (chain .1) lt
 
 -- ---- the answer
-module _ (rs : List Row) (i count : ℕ) (ks first parents labels stack : List ℕ) where
+module _ (rs : List Row) (i count : ℕ) (ks parents labels stack : List ℕ) where
   -- a 65th type begins at row i
   pub lists-full : i < length rs → (mostTypes < length (distinct (ways [] (map step rs))))
       × (place (same (getD (distinct (ways [] (map step rs))) mostTypes [])) (ways [] (map step rs)) ≡ i)
-      → Lists rs ks (record { count = 64; over = i; first = first; parents = parents; labels = labels })
+      → Lists rs ks (record { count = 64; over = i; parents = parents; labels = labels })
   unfolding typeTooMany types rowTypes
   lists-full lt (more, at) =
       let late : length rs ≤ i → ⊥ = λ le. omega arith in
@@ -103,18 +103,17 @@ module _ (rs : List Row) (i count : ℕ) (ks first parents labels stack : List �
         over = some-place (typeTooMany rs) i (length rs) lt (rw (lt-ltb mostTypes (length (distinct (ways [] (map step rs)))) more, typeTooMany) (ap {B = Option ℕ} some at));
         count = λ le. absurd (late le);
         typed = λ le. absurd (late le);
-        first = λ le. absurd (late le);
         label = λ le. absurd (late le);
         parent = λ le. absurd (late le);
       }
 
-  pub lists-end : length rs ≡ i → length rs ≤ length ks → Pass (map step rs) i count ks first parents labels stack
-      → Lists rs ks (record { count = count; over = i; first = first; parents = parents; labels = labels })
+  pub lists-end : length rs ≡ i → length rs ≤ length ks → Pass (map step rs) i count ks parents labels stack
+      → Lists rs ks (record { count = count; over = i; parents = parents; labels = labels })
   unfolding typeTooMany types rowTypes kinds
   lists-end e long pass =
       let ws = ways [] (map step rs) in
       let n : length ws ≡ length rs = length-ways [] (map step rs) ∙ length-map rs step in
-      let q : seen (map step rs) i ≡ distinct ws = pass-end (map step rs) count ks first parents labels stack i pass (omega arith) in
+      let q : seen (map step rs) i ≡ distinct ws = pass-end (map step rs) count ks parents labels stack i pass (omega arith) in
       record {
         over = subst (λ m. typeTooMany rs ≡ placeOf i m) (sym e) (none-place (typeTooMany rs) i
             (rw (le-ltb mostTypes (length (distinct ws)) (omega (arith, pass .counted, pass .few, ap length q)), typeTooMany) refl));
@@ -124,7 +123,6 @@ module _ (rs : List Row) (i count : ℕ) (ks first parents labels stack : List �
             (λ j lj. let lt : j < length rs = omega (arith, length-take (length rs) ks) in
             getD-take (length rs) ks j 0 lt ∙ pass .numbered j (omega arith) ∙ ap (λ ts. typeNumber ts (getD ws j [])) q
             ∙ sym (map-at (typeNumber (distinct ws)) ws j (omega arith)));
-        first = λ le k lk. pass .firsts k lk ∙ ap (λ ts. place (same (getD ts k [])) ws) q;
         label = λ le k lk. pass .names k lk ∙ ap (λ ts. lastOr 0 (getD ts k [])) q;
         parent = λ le k lk. pass .parented k lk ∙ ap (λ ts. numberOr ts (up (getD ts k []))) q ∙ same-number (distinct ws) (up (getD (distinct ws) k []));
       }
@@ -134,10 +132,9 @@ module _ (rs : List Row) (i count : ℕ) (ks first parents labels stack : List �
       same-number ts (x ∷ u) = refl
 
 -- ---- what the loop keeps
-pub record Walk (f : Format) (t : List ℕ) (i count : ℕ) (ks first parents labels stack : List ℕ) : Type 0 where
-  pub pass : Pass (map step (rows f t)) i count ks first parents labels stack
+pub record Walk (f : Format) (t : List ℕ) (i count : ℕ) (ks parents labels stack : List ℕ) : Type 0 where
+  pub pass : Pass (map step (rows f t)) i count ks parents labels stack
   pub ks-long : length ks ≡ 1024
-  pub first-long : length first ≡ 64
   pub parents-long : length parents ≡ 64
   pub labels-long : length labels ≡ 64
   pub stack-long : length stack ≡ 9
@@ -171,18 +168,17 @@ module _ (f : Format) (t : List ℕ) (sound : badRow f (rows f t) ≡ none) (i :
       (drop-has (rows f t) i (rowOf f b) (drop (suc i) (rows f t)) (rows-from f t i lt)) in
       omega (arith, el, kept-level f p b k .1)
 
-  module _ (count p : ℕ) (ks first parents labels stack : List ℕ) (walk : Walk f t i count ks first parents labels stack)
+  module _ (count p : ℕ) (ks parents labels stack : List ℕ) (walk : Walk f t i count ks parents labels stack)
       (ep : p ≡ getD stack (l - 1) 0) (few : whole (rowBytes f) t ≤ 1024) (lev : f .levels ≤ 8) where
     ep′ : p ≡ getD stack (pred l) 0
     ep′ = ep ∙ ap (λ n. getD stack n 0) (omega arith)
 
-    pub walk-known : (k : ℕ) → k < count → getD parents k 0 ≡ p → getD labels k 0 ≡ a → Walk f t (i + 1) count (set ks i k) first parents labels (set stack l k)
+    pub walk-known : (k : ℕ) → k < count → getD parents k 0 ≡ p → getD labels k 0 ≡ a → Walk f t (i + 1) count (set ks i k) parents labels (set stack l k)
     walk-known k lk e q = record {
-      pass = pass-known (map step (rows f t)) i l a in-ways l-is a-is l-pos l-next count p ks first parents labels stack (walk .pass) ep′
+      pass = pass-known (map step (rows f t)) i l a in-ways l-is a-is l-pos l-next count p ks parents labels stack (walk .pass) ep′
           (omega (arith, walk .ks-long)) (omega (arith, walk .stack-long, l-fits)) k lk
-          (found-type (map step (rows f t)) i l a in-ways l-is a-is l-pos l-next count p ks first parents labels stack (walk .pass) ep′ k lk e q);
+          (found-type (map step (rows f t)) i l a in-ways l-is a-is l-pos l-next count p ks parents labels stack (walk .pass) ep′ k lk e q);
       ks-long = length-set ks i k ∙ walk .ks-long;
-      first-long = walk .first-long;
       parents-long = walk .parents-long;
       labels-long = walk .labels-long;
       stack-long = length-set stack l k ∙ walk .stack-long;
@@ -190,34 +186,32 @@ module _ (f : Format) (t : List ℕ) (sound : badRow f (rows f t) ≡ none) (i :
 
     module _ (none : (k : ℕ) → k < count → getD parents k 0 ≡ p → getD labels k 0 ≡ a → ⊥) where
       out : Has (getD (ways [] (map step (rows f t))) i []) (take i (ways [] (map step (rows f t)))) → ⊥
-      out = new-type (map step (rows f t)) i l a in-ways l-is a-is l-pos l-next count p ks first parents labels stack (walk .pass) ep′ none
+      out = new-type (map step (rows f t)) i l a in-ways l-is a-is l-pos l-next count p ks parents labels stack (walk .pass) ep′ none
 
       pub walk-new : count < mostTypes
-          → Walk f t (i + 1) (count + 1) (set ks i count) (set first count i) (set parents count p) (set labels count a) (set stack l count)
+          → Walk f t (i + 1) (count + 1) (set ks i count) (set parents count p) (set labels count a) (set stack l count)
       walk-new room = record {
-        pass = pass-new (map step (rows f t)) i l a in-ways l-is a-is l-pos l-next count p ks first parents labels stack (walk .pass) ep′
+        pass = pass-new (map step (rows f t)) i l a in-ways l-is a-is l-pos l-next count p ks parents labels stack (walk .pass) ep′
             (omega (arith, walk .ks-long)) (omega (arith, walk .stack-long, l-fits)) out room
-            (omega (arith, walk .first-long)) (omega (arith, walk .parents-long)) (omega (arith, walk .labels-long));
+            (omega (arith, walk .parents-long)) (omega (arith, walk .labels-long));
         ks-long = length-set ks i count ∙ walk .ks-long;
-        first-long = length-set first count i ∙ walk .first-long;
         parents-long = length-set parents count p ∙ walk .parents-long;
         labels-long = length-set labels count a ∙ walk .labels-long;
         stack-long = length-set stack l count ∙ walk .stack-long;
       }
 
-      pub walk-full : count ≡ mostTypes → Lists (rows f t) ks (record { count = 64; over = i; first = first; parents = parents; labels = labels })
+      pub walk-full : count ≡ mostTypes → Lists (rows f t) ks (record { count = 64; over = i; parents = parents; labels = labels })
       walk-full full =
-          lists-full (rows f t) i count ks first parents labels stack in-rows
-          (pass-full (map step (rows f t)) i l a in-ways l-is a-is l-pos l-next count p ks first parents labels stack (walk .pass) ep′
+          lists-full (rows f t) i count ks parents labels stack in-rows
+          (pass-full (map step (rows f t)) i l a in-ways l-is a-is l-pos l-next count p ks parents labels stack (walk .pass) ep′
           (omega (arith, walk .ks-long)) (omega (arith, walk .stack-long, l-fits)) out full)
 
-pub walk-start : (f : Format) (t ks first parents labels stack : List ℕ) → getD stack 0 0 ≡ mostTypes → length ks ≡ 1024 → length first ≡ 64
-    → length parents ≡ 64 → length labels ≡ 64 → length stack ≡ 9 → Walk f t 0 0 ks first parents labels stack
-walk-start f t ks first parents labels stack e a b c d g = record {
-  pass = pass-start (map step (rows f t)) ks first parents labels stack e;
+pub walk-start : (f : Format) (t ks parents labels stack : List ℕ) → getD stack 0 0 ≡ mostTypes → length ks ≡ 1024
+    → length parents ≡ 64 → length labels ≡ 64 → length stack ≡ 9 → Walk f t 0 0 ks parents labels stack
+walk-start f t ks parents labels stack e a b c d = record {
+  pass = pass-start (map step (rows f t)) ks parents labels stack e;
   ks-long = a;
-  first-long = b;
-  parents-long = c;
-  labels-long = d;
-  stack-long = g;
+  parents-long = b;
+  labels-long = c;
+  stack-long = d;
 }

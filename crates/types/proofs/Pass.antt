@@ -62,12 +62,11 @@ module _ (xs : List (ℕ × ℕ)) where
   abbrev pub seen : ℕ → List (List ℕ)
   seen i = distinct (take i (ways [] xs))
 
-  pub record Pass (i count : ℕ) (kinds first parents labels stack : List ℕ) : Type 0 where
+  pub record Pass (i count : ℕ) (kinds parents labels stack : List ℕ) : Type 0 where
     pub inside : i ≤ length (ways [] xs)
     pub counted : count ≡ length (seen i)
     pub few : count ≤ mostTypes
     pub numbered : (j : ℕ) → j < i → getD kinds j 0 ≡ typeNumber (seen i) (getD (ways [] xs) j [])
-    pub firsts : (k : ℕ) → k < count → getD first k 0 ≡ place (same (getD (seen i) k [])) (ways [] xs)
     pub names : (k : ℕ) → k < count → getD labels k 0 ≡ lastOr 0 (getD (seen i) k [])
     pub parented : (k : ℕ) → k < count → getD parents k 0 ≡ numberOr (seen i) (up (getD (seen i) k []))
     pub stacked : (j : ℕ) → j ≤ length (before (ways [] xs) i) → getD stack j 0 ≡ numberOr (seen i) (take j (before (ways [] xs) i))
@@ -158,7 +157,7 @@ module _ (xs : List (ℕ × ℕ)) where
         ap (take j) form ∙ take-append-le j (take (pred l) (before (ways [] xs) i)) (a ∷ []) (omega (arith, length-take (pred l) (before (ways [] xs) i)))
         ∙ take-take j (pred l) (before (ways [] xs) i) (omega arith)
 
-    module _ (count p : ℕ) (kinds first parents labels stack : List ℕ) (pass : Pass i count kinds first parents labels stack)
+    module _ (count p : ℕ) (kinds parents labels stack : List ℕ) (pass : Pass i count kinds parents labels stack)
         (ep : p ≡ getD stack (pred l) 0) where
       pub parent-number : p ≡ numberOr (seen i) (up v)
       parent-number = ep ∙ pass .stacked (pred l) (omega arith) ∙ ap (numberOr (seen i)) (sym above)

@@ -36,13 +36,12 @@ at-other : (l : List ℕ) (i j x : ℕ) → j < i → getD (set l i x) j 0 ≡ g
 at-other l i j x lt = getD-set-other l i j x 0 (λ e. omega (arith, e))
 
 module _ (xs : List (ℕ × ℕ)) where
-  pub pass-start : (kinds first parents labels stack : List ℕ) → getD stack 0 0 ≡ mostTypes → Pass xs 0 0 kinds first parents labels stack
-  pass-start kinds first parents labels stack e = record {
+  pub pass-start : (kinds parents labels stack : List ℕ) → getD stack 0 0 ≡ mostTypes → Pass xs 0 0 kinds parents labels stack
+  pass-start kinds parents labels stack e = record {
     inside = omega arith;
     counted = refl;
     few = omega arith;
     numbered = λ j lt. absurd (not-suc-le-zero lt);
-    firsts = λ k lt. absurd (not-suc-le-zero lt);
     names = λ k lt. absurd (not-suc-le-zero lt);
     parented = λ k lt. absurd (not-suc-le-zero lt);
     stacked = λ j le. first-only j le;
@@ -54,7 +53,7 @@ module _ (xs : List (ℕ × ℕ)) where
 
   module _ (i l a : ℕ) (lt : i < length (ways [] xs)) (el : l ≡ getD (map (λ (x : ℕ × ℕ). x .0) xs) i 0) (ea : a ≡ getD (map (λ (x : ℕ × ℕ). x .1) xs) i 0)
       (pos : 1 ≤ l) (next : l ≤ suc (length (before (ways [] xs) i)))
-      (count p : ℕ) (kinds first parents labels stack : List ℕ) (pass : Pass xs i count kinds first parents labels stack) (ep : p ≡ getD stack (pred l) 0)
+      (count p : ℕ) (kinds parents labels stack : List ℕ) (pass : Pass xs i count kinds parents labels stack) (ep : p ≡ getD stack (pred l) 0)
       (in-kinds : i < length kinds) (in-stack : l < length stack) where
     abbrev w : List ℕ
     w = getD (ways [] xs) i []
@@ -73,7 +72,7 @@ module _ (xs : List (ℕ × ℕ)) where
     w-short = short xs i l a lt el ea pos next
 
     -- ---- a known type
-    pub pass-known : (k : ℕ) → k < count → getD (seen xs i) k [] ≡ w → Pass xs (i + 1) count (set kinds i k) first parents labels (set stack l k)
+    pub pass-known : (k : ℕ) → k < count → getD (seen xs i) k [] ≡ w → Pass xs (i + 1) count (set kinds i k) parents labels (set stack l k)
     pass-known k lk e =
         let lc : k < length (seen xs i) = omega (arith, pass .counted) in
         let inn : Has w (take i (ways [] xs)) = Rattle.paper.proofs.Tables.distinct-has w (take i (ways [] xs)) (subst (λ z. Has z (seen xs i)) e (getD-has [] (seen xs i) k lc)) in
@@ -84,7 +83,6 @@ module _ (xs : List (ℕ × ℕ)) where
           counted = pass .counted ∙ ap length (sym same-seen);
           few = pass .few;
           numbered = λ j lj. numbers j (below j i lj) kn ∙ ap (λ ts. typeNumber ts (getD (ways [] xs) j [])) (sym same-seen);
-          firsts = λ j lj. pass .firsts j lj ∙ ap (λ ts. place (same (getD ts j [])) (ways [] xs)) (sym same-seen);
           names = λ j lj. pass .names j lj ∙ ap (λ ts. lastOr 0 (getD ts j [])) (sym same-seen);
           parented = λ j lj. pass .parented j lj ∙ ap (λ ts. numberOr ts (up (getD ts j []))) (sym same-seen);
           stacked = λ j lj. stack-at j (below j l (omega (arith, ap length before-next, w-long))) kn
@@ -121,14 +119,13 @@ module _ (xs : List (ℕ × ℕ)) where
       its-type : (k : ℕ) → k ≡ count → getD (seen xs i ++ (w ∷ [])) k [] ≡ w
       its-type k e = getD-at (seen xs i) w [] [] k (sym (e ∙ pass .counted))
 
-      pub pass-new : count < mostTypes → count < length first → count < length parents → count < length labels
-          → Pass xs (i + 1) (count + 1) (set kinds i count) (set first count i) (set parents count p) (set labels count a) (set stack l count)
-      pass-new room in-first in-parents in-labels = record {
+      pub pass-new : count < mostTypes → count < length parents → count < length labels
+          → Pass xs (i + 1) (count + 1) (set kinds i count) (set parents count p) (set labels count a) (set stack l count)
+      pass-new room in-parents in-labels = record {
         inside = omega arith;
         counted = (omega (arith, pass .counted, length-append (seen xs i) (w ∷ []))) ∙ ap length (sym seen-more);
         few = omega arith;
         numbered = λ j lj. numbers j (below j i lj) ∙ ap (λ ts. typeNumber ts (getD (ways [] xs) j [])) (sym seen-more);
-        firsts = λ k lk. places k (below k count lk) ∙ ap (λ ts. place (same (getD ts k [])) (ways [] xs)) (sym seen-more);
         names = λ k lk. named k (below k count lk) ∙ ap (λ ts. lastOr 0 (getD ts k [])) (sym seen-more);
         parented = λ k lk. parent k (below k count lk) ∙ ap (λ ts. numberOr ts (up (getD ts k []))) (sym seen-more);
         stacked = λ j lj. stack-at j (below j l (omega (arith, ap length before-next, w-long))) ∙ ap₂ (λ ts u. numberOr ts (take j u)) (sym seen-more) (sym before-next);
@@ -150,10 +147,6 @@ module _ (xs : List (ℕ × ℕ)) where
               at-same kinds i j count (typeNumber (seen xs i ++ (w ∷ [])) w) in-kinds e (pass .counted ∙ sym own-number)
               ∙ ap (λ n. typeNumber (seen xs i ++ (w ∷ [])) (getD (ways [] xs) n [])) (sym e)
 
-          places : (k : ℕ) → (k < count) ⊎ (k ≡ count) → getD (set first count i) k 0 ≡ place (same (getD (seen xs i ++ (w ∷ [])) k [])) (ways [] xs)
-          places k (inl lk) = at-other first count k i lk ∙ pass .firsts k lk ∙ ap (λ u. place (same u) (ways [] xs)) (sym (old-type k lk))
-          places k (inr e) = at-same first count k i i in-first e refl ∙ sym first-place ∙ ap (λ u. place (same u) (ways [] xs)) (sym (its-type k e))
-
           named : (k : ℕ) → (k < count) ⊎ (k ≡ count) → getD (set labels count a) k 0 ≡ lastOr 0 (getD (seen xs i ++ (w ∷ [])) k [])
           named k (inl lk) = at-other labels count k a lk ∙ pass .names k lk ∙ ap (lastOr 0) (sym (old-type k lk))
           named k (inr e) = at-same labels count k a a in-labels e refl ∙ sym (label xs i l a lt el ea pos next) ∙ ap (lastOr 0) (sym (its-type k e))
@@ -165,7 +158,7 @@ module _ (xs : List (ℕ × ℕ)) where
               ∙ sym (number-stays xs i w (up (getD (seen xs i) k [])) (known-up xs i (getD (seen xs i) k []) (getD-has [] (seen xs i) k (omega (arith, pass .counted)))))
               ∙ ap (λ u. numberOr (seen xs i ++ (w ∷ [])) (up u)) (sym (old-type k lk))
           parent k (inr e) =
-              at-same parents count k p p in-parents e refl ∙ parent-number xs i l a lt el ea pos next count p kinds first parents labels stack pass ep
+              at-same parents count k p p in-parents e refl ∙ parent-number xs i l a lt el ea pos next count p kinds parents labels stack pass ep
               ∙ sym (number-stays xs i w (up w) (known-above xs i l a lt el ea pos next)) ∙ ap (λ u. numberOr (seen xs i ++ (w ∷ [])) (up u)) (sym (its-type k e))
 
           stack-at : (j : ℕ) → (j < l) ⊎ (j ≡ l) → getD (set stack l count) j 0 ≡ numberOr (seen xs i ++ (w ∷ [])) (take j w)
@@ -190,6 +183,6 @@ module _ (xs : List (ℕ × ℕ)) where
           )
 
   -- ---- the end
-  pub pass-end : (count : ℕ) (kinds first parents labels stack : List ℕ) (i : ℕ) → Pass xs i count kinds first parents labels stack → length (ways [] xs) ≤ i
+  pub pass-end : (count : ℕ) (kinds parents labels stack : List ℕ) (i : ℕ) → Pass xs i count kinds parents labels stack → length (ways [] xs) ≤ i
       → seen xs i ≡ distinct (ways [] xs)
-  pass-end count kinds first parents labels stack i pass le = ap distinct (take-all i (ways [] xs) le)
+  pass-end count kinds parents labels stack i pass le = ap distinct (take-all i (ways [] xs) le)

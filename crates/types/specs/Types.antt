@@ -3,7 +3,7 @@ use Prim.Native.Nat.{ℕ, _<_, _≤_}
 use mathlib.Core.Path.{_≡_}
 use mathlib.Core.List.{List, [], _∷_, map}
 use lib.ListN.{length, getD, take}
-use Rattle.paper.specs.Lists.{Has, place, same, lastOr, up}
+use Rattle.paper.specs.Lists.{Has, lastOr, up}
 use Rattle.paper.specs.Format.{mostTypes}
 use Rattle.paper.specs.Tables.{Row, rowTypes, types, typeNumber}
 use Rattle.paper.specs.Calls.{typeTooMany}
@@ -24,7 +24,6 @@ pub record Lists (rs : List Row) (ks : List ℕ) (t : Types) : Type 0 where
   pub over : typeTooMany rs ≡ placeOf (t .over) (length rs)
   pub count : length rs ≤ t .over → t .count ≡ length (types rs)
   pub typed : length rs ≤ t .over → take (length rs) ks ≡ kinds rs
-  pub first : length rs ≤ t .over → (k : ℕ) → k < t .count → getD (t .first) k 0 ≡ place (same (getD (types rs) k [])) (rowTypes rs)
   pub label : length rs ≤ t .over → (k : ℕ) → k < t .count → getD (t .labels) k 0 ≡ lastOr 0 (getD (types rs) k [])
   pub parent : length rs ≤ t .over → (k : ℕ) → k < t .count → getD (t .parents) k 0 ≡ parentOf (types rs) (up (getD (types rs) k []))
 

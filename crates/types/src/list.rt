@@ -9,11 +9,10 @@ ghost use Rattle.paper.specs.Tables as Tables;
 ghost use Rattle.paper.specs.Tables.{badRow};
 ghost use Rattle.types.specs.Types.{Lists, Found, FoundNear};
 
-// Each type's first row, parent type (64 for none) and last label. `over` is the first row of the 65th type, or the number of rows.
+// Each type's parent type (64 for none) and last label. `over` is the first row of the 65th type, or the number of rows.
 pub struct Types {
     pub count: usize,
     pub over: usize,
-    pub first: [u16; 64],
     pub parents: [u8; 64],
     pub labels: [u16; 64],
 }
@@ -76,7 +75,6 @@ pub fn list_types(table: &[u8], f: Format, rows: usize, types: &mut [u8]) -> Typ
     requires { ⌜ (badRow f (Tables.rows f (now table)) ≡ none) × (length (now types) ≡ mostRows) ⌝ }
     ensures { λ r. ⌜ Lists (Tables.rows f (now (table .entry))) (now (types .exit)) r ⌝ }
 {
-    let mut first = [0u16; 64];
     let mut parents = [0u8; 64];
     let mut labels = [0u16; 64];
     let mut stack = [0u8; 9];
@@ -106,14 +104,12 @@ pub fn list_types(table: &[u8], f: Format, rows: usize, types: &mut [u8]) -> Typ
                 return Types {
                     count: 64,
                     over: i,
-                    first: first,
                     parents: parents,
                     labels: labels,
                 };
             }
             parents[count] = p;
             labels[count] = a;
-            first[count] = i as u16;
             types[i] = count as u8;
             stack[l] = count as u8;
             after[last] = count as u8;
@@ -126,7 +122,6 @@ pub fn list_types(table: &[u8], f: Format, rows: usize, types: &mut [u8]) -> Typ
     Types {
         count: count,
         over: rows,
-        first: first,
         parents: parents,
         labels: labels,
     }

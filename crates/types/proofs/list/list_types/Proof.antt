@@ -12,11 +12,11 @@ use Rattle.types.proofs.list.list_types.Statement.{statement}
 use Rattle.types.proofs.list.list_types.Tie as tie
 
 abbrev Inv-loop : tie.InvT-loop
-Inv-loop t f rows types₀ first₀ parents₀ labels₀ stack₀ after₀ last₀ near₀ count₀ i₀ types first parents labels stack after last near count i =
-    (i ≤ rows) × Walk f t i count types first parents labels stack × (last ≤ 64)
+Inv-loop t f rows types₀ parents₀ labels₀ stack₀ after₀ last₀ near₀ count₀ i₀ types parents labels stack after last near count i =
+    (i ≤ rows) × Walk f t i count types parents labels stack × (last ≤ 64)
 
 abbrev μ-loop : tie.MeasureT-loop
-μ-loop t f rows types₀ first₀ parents₀ labels₀ stack₀ after₀ last₀ near₀ count₀ i₀ types first parents labels stack after last near count i = rows - i
+μ-loop t f rows types₀ parents₀ labels₀ stack₀ after₀ last₀ near₀ count₀ i₀ types parents labels stack after last near count i = rows - i
 
 abbrev begun : tie.At-loop Inv-loop μ-loop → tie.Start Inv-loop μ-loop
 begun l = l .before .before .before
@@ -50,7 +50,7 @@ level-within c =
     (l-pos _ _ (s .pre .1 .0) _ (here c) _ _ (level-is c) (label-is c), omega (arith, fits, s .pre .0 .2))
 
 loop-holds : tie.Need-loop-holds Inv-loop μ-loop
-loop-holds c = (omega arith, walk-start _ _ _ _ _ _ _ refl (c .before .before .pre .1 .1) refl refl refl refl, omega arith)
+loop-holds c = (omega arith, walk-start _ _ _ _ _ _ refl (c .before .before .pre .1 .1) refl refl refl, omega arith)
 
 record-requires : tie.Need-record-requires Inv-loop μ-loop
 record-requires c κs =
@@ -76,7 +76,7 @@ loop-again c =
     let v = l .loop in
     let found = c .before .find-near .ensures .found (c .if1 .taken) in (
       omega arith,
-      walk-known _ _ (s .pre .1 .0) _ (here r) _ _ (level-is r) (label-is r) _ _ _ _ _ _ _ (v .inv .1) refl (omega (arith, s .pre .0 .0)) (s .pre .0 .2)
+      walk-known _ _ (s .pre .1 .0) _ (here r) _ _ (level-is r) (label-is r) _ _ _ _ _ _ (v .inv .1) refl (omega (arith, s .pre .0 .0)) (s .pre .0 .2)
           _ (c .if1 .taken) (found .0) (found .1),
       omega (arith, c .if1 .taken, v .inv .1 .pass .few),
     )
@@ -87,7 +87,7 @@ returns c =
     let l : tie.At-loop Inv-loop μ-loop = search in
     let r : tie.After-word Inv-loop μ-loop = search in
     let x : tie.After-find-near Inv-loop μ-loop = search in
-    walk-full _ _ (s .pre .1 .0) _ (here r) _ _ (level-is r) (label-is r) _ _ _ _ _ _ _ (l .loop .inv .1) refl
+    walk-full _ _ (s .pre .1 .0) _ (here r) _ _ (level-is r) (label-is r) _ _ _ _ _ _ (l .loop .inv .1) refl
     (omega (arith, s .pre .0 .0)) (s .pre .0 .2) (x .find-near .ensures .none (omega arith)) (c .if2 .taken)
 
 array-write-stack-3 : tie.Need-array-write-stack-3 Inv-loop μ-loop
@@ -100,7 +100,7 @@ loop-again-2 c =
     let s = begun (turn r) in
     let v = turn r .loop in (
       omega arith,
-      walk-new _ _ (s .pre .1 .0) _ (here r) _ _ (level-is r) (label-is r) _ _ _ _ _ _ _ (v .inv .1) refl (omega (arith, s .pre .0 .0)) (s .pre .0 .2)
+      walk-new _ _ (s .pre .1 .0) _ (here r) _ _ (level-is r) (label-is r) _ _ _ _ _ _ (v .inv .1) refl (omega (arith, s .pre .0 .0)) (s .pre .0 .2)
           (x .find-near .ensures .none (omega arith)) (omega (arith, v .inv .1 .pass .few)),
       omega (arith, v .inv .1 .pass .few),
     )
@@ -112,7 +112,7 @@ returns-2 c =
     let v = l .loop in
     let count = count-rows (s .args .f) (s .args .table .now) in
     let all : v .i ≡ s .args .rows = omega (arith, v .inv .0) in
-    rw (← all) (lists-end _ _ _ _ _ _ _ _ (omega (arith, count, s .pre .0 .0)) (omega (arith, count, s .pre .0 .0, v .inv .1 .ks-long)) (v .inv .1 .pass))
+    rw (← all) (lists-end _ _ _ _ _ _ _ (omega (arith, count, s .pre .0 .0)) (omega (arith, count, s .pre .0 .0, v .inv .1 .ks-long)) (v .inv .1 .pass))
 
 pub list-types-spec : {M : Type 1} → statement M
 list-types-spec =
@@ -135,8 +135,7 @@ list-types-spec =
     loop-again
     (λ c. search needs)
     returns
-    (λ c. search needs) (λ c. search needs) (λ c. search needs) (λ c. search needs) (λ c. search needs) (λ c. search needs) (λ c. search needs)
-    (λ c. search needs) (λ c. search needs)
+    (λ c. search needs) (λ c. search needs) (λ c. search needs) (λ c. search needs) (λ c. search needs) (λ c. search needs)
     array-write-stack-3
     (λ c. search needs) (λ c. search needs) (λ c. search needs) (λ c. search needs) (λ c. search needs) (λ c. search needs) (λ c. search needs)
     loop-again-2
