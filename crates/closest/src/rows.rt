@@ -10,8 +10,8 @@ ghost use Rattle.paper.specs.Format.{mostRows};
 ghost use Rattle.bytes.specs.Served.{Served};
 ghost use Rattle.closest.specs.Rows.{ReadRows};
 
-// A refusal with zeros, or the number of rows and the types: how many, and of each its parent type (64 for none) and last label. The first
-// rows of the types are left out, so that this goes by value with no call that copies.
+// A refusal with zeros, or the number of rows and the types: how many, and of each its parent type (64 for none) and last label. It is small
+// enough to go by value with no call that copies.
 pub struct RowsRead {
     pub number: usize,
     pub place: usize,
