@@ -7,8 +7,8 @@ use Rattle.cases.proofs.chain.print_both.Tie as tie
 
 print-again-requires : tie.Need-print-again-requires
 print-again-requires c κs =
-    let accepted = c .before .before in
-    let called = accepted .before .before .before .before .before .before in
+    let accepted : tie.Then1 = search in
+    let called : tie.After-reshape = search in
     leaves-source (called .reshape .ensures) (accepted .if1 .taken) (leb-true (called .reshape .result .lines) 1024 (c .before .if2 .taken))
 
 pub print-both-spec : {M : Type 1} → statement M

@@ -11,27 +11,26 @@ use Rattle.cases.proofs.Chained.{past4}
 use Rattle.cases.proofs.chain.reshape_again.Statement.{statement}
 use Rattle.cases.proofs.chain.reshape_again.Tie as tie
 
-abbrev begun : tie.After-record-bytes → tie.Start
-begun c = c .before .before .before .before .before
-
--- the lines lie within the new table
-within : (c : tie.After-record-bytes) → c .record-bytes .result * begun c .args .lines ≤ length (begun c .args .new .now)
-within c = subst (λ (w : ℕ). w * begun c .args .lines ≤ length (begun c .args .new .now)) (sym (c .record-bytes .ensures .0)) (begun c .pre .0)
-
 mul-end : tie.Need-mul-end
-mul-end c = let fits = within c in search needs
+mul-end c =
+    let s : tie.Start = search in
+    let fits = subst (λ (w : ℕ). w * s .args .lines ≤ length (s .args .new .now)) (sym (c .record-bytes .ensures .0)) (s .pre .0) in
+    search needs
 
 slice-aggregate-reshape : tie.Need-slice-aggregate-reshape
-slice-aggregate-reshape c = sym (length-take-le _ _ (within (c .before)))
+slice-aggregate-reshape c =
+    let s : tie.Start = search in
+    let r : tie.After-record-bytes = search in
+    sym (length-take-le _ _ (subst (λ (w : ℕ). w * s .args .lines ≤ length (s .args .new .now)) (sym (r .record-bytes .ensures .0)) (s .pre .0)))
 
 returns : tie.Need-returns
 returns c =
-    let called = c .before .before .before .before in
-    let sized = called .before .before .before .before in
-    let a = begun sized .args in
+    let s : tie.Start = search in let a = s .args in
+    let sized : tie.After-record-bytes = search in
+    let called : tie.After-reshape = search in
     let f = formatOf (a .width) in
     past4 (called .reshape .ensures) (subst (λ (w : ℕ). tests1-4 f (take (w * a .lines) (a .new .now)) ≡ given (rows f (take (w * a .lines) (a .new .now))))
-    (sym (sized .record-bytes .ensures .0)) (begun sized .pre .1))
+    (sym (sized .record-bytes .ensures .0)) (s .pre .1))
 
 pub reshape-again-spec : {M : Type 1} → statement M
 reshape-again-spec =

@@ -6,10 +6,6 @@ use Rattle.silmezga_c.specs.Told.{formatNumbered}
 use Rattle.cases.specs.Marked.{LeftOf}
 use Rattle.cases.proofs.marked.adorn_marked.Statement.{statement}
 use Rattle.cases.proofs.marked.adorn_marked.Tie as tie
-use Rattle.cases.proofs.marked.adorn_marked.Reads as reads
-use Rattle.cases.proofs.marked.adorn_marked.Lts as lts
-use Rattle.cases.proofs.marked.lend.Reads as lend-reads
-use Rattle.tables.proofs.row.smaller.Reads as smaller-reads
 
 returns : tie.Need-returns
 returns c =
