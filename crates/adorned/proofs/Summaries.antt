@@ -11,7 +11,7 @@ use borrow.Author.Tests.{eq-eqb, leb-true, leb-false}
 use Rattle.paper.specs.Lists
 use Rattle.paper.specs.Lists.{Has, keep, distinct, up}
 use Rattle.paper.specs.Format.{Format, mostTypes}
-use Rattle.paper.specs.Tables.{Row, rows, dewey, rowTypes, types, typeNumber}
+use Rattle.paper.specs.Tables.{Row, rows, rowTypes, types, typeNumber}
 use Rattle.paper.specs.Closeness.{Node, nodes, ofKind}
 use Rattle.paper.specs.Adorned.{Summary, childrenOf, summary}
 use Rattle.paper.proofs.Lists.{getD-has}

@@ -9,7 +9,8 @@ use Rattle.paper.specs.Calls.{Reply, given, judge}
 use Rattle.paper.specs.Index.{testsIndex, judgeWith}
 use Rattle.paper.specs.Edges.{EdgesAgree}
 use Rattle.paper.proofs.Edges.{judge-agrees}
-use Rattle.paper.proofs.Index.{index-reads, judge-plain}
+use Rattle.paper.proofs.Index.{index-reads}
+use Rattle.paper.proofs.WithIndex.{judge-plain}
 use Rattle.judging.specs.Judged.{numbersOf, InNumbers, edgesOf, judged, inNumbers}
 use Rattle.judging.specs.declared.verdict.Verdict.{Verdict}
 use Rattle.judging.specs.declared.verdict.Verdict.the-variants.{Kept, Missing, Apart, Unsure}

@@ -26,7 +26,6 @@ use Rattle.shapes.proofs.Examined.{place-some, place-none}
 use Rattle.labels.specs.Records.{anyUnlisted, standing}
 use Rattle.labels.specs.Answers.{Converts}
 use Rattle.labels.specs.Tested.{Tested}
-use Rattle.labels.specs.declared.convert.Converted.{Converted}
 use Rattle.labels.proofs.Listed.{unlisted-small}
 use Rattle.labels.proofs.Zeros.{rows-first, entries-first, occurring-any, bad-same}
 

@@ -31,3 +31,4 @@ pub mod Needed
 pub mod Figures
 pub mod Index
 pub mod Seam
+pub mod WithIndex

@@ -6,7 +6,7 @@ use Rattle.paper.specs.Format.{Format}
 use Rattle.paper.specs.Tables.{Row}
 use Rattle.paper.specs.Figures.{noFigures}
 use Rattle.paper.specs.Calls.{Answer, refused, reply, tests1-4, tests5-7, noJudgement, judgeRows, judge}
-use Rattle.paper.specs.Calls.{reshaping, Reshaping, reshapeRows, reshape, summariseRows, summarise}
+use Rattle.paper.specs.Calls.{reshaping, reshapeRows, reshape, summariseRows, summarise}
 
 -- What the calls answer where the tests that read their rows refuse.
 pub record Refuses (f : Format) (k p : ℕ) : Type 0 where

@@ -12,7 +12,7 @@ use Rattle.paper.specs.Lists.{keep, count, same, up, lastOr}
 use Rattle.paper.specs.Format.{Format}
 use Rattle.paper.specs.Tables.{rows}
 use Rattle.paper.specs.Closeness.{nodes}
-use Rattle.paper.specs.Shapes.{Shape, entries, way, parent, children}
+use Rattle.paper.specs.Shapes.{Shape, way, parent, children}
 use Rattle.paper.proofs.Lists.{same-eq, eq-same, up-snoc, count-has}
 use Rattle.paper.proofs.Kept.{keep-same}
 use Rattle.paper.proofs.Papers.{same-test}

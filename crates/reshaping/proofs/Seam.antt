@@ -6,10 +6,10 @@ use Rattle.paper.specs.Format.{Format}
 use Rattle.paper.specs.Tables.{Row}
 use Rattle.paper.specs.Figures.{Figures, noFigures}
 use Rattle.paper.specs.Calls.{Answer, Reply, Reshaping, reshapeRows, summariseRows}
-use Rattle.paper.specs.Index.{testsIndex, reshapeWith}
+use Rattle.paper.specs.Index.{testsIndex}
 use Rattle.paper.proofs.Calls.{refused-given}
 use Rattle.paper.proofs.Seam.{seam-refused}
-use Rattle.paper.proofs.Index.{reshape-with, reshape-plain}
+use Rattle.paper.proofs.WithIndex.{reshape-with, reshape-plain}
 use Rattle.closest.specs.Rows.{Reads}
 use Rattle.closest.specs.declared.rows.RowsRead.{RowsRead}
 use Rattle.closest.proofs.Seam.{as-plain}

@@ -16,7 +16,8 @@ use Rattle.paper.specs.Shown.{FiguresAgree}
 use Rattle.paper.specs.Calls.{Reply, given, judge, summarise}
 use Rattle.paper.specs.Index.{testsIndex, summariseWith}
 use Rattle.paper.proofs.Figures.{summary-agrees, summary-shows-all}
-use Rattle.paper.proofs.Index.{index-reads, summarise-plain}
+use Rattle.paper.proofs.Index.{index-reads}
+use Rattle.paper.proofs.WithIndex.{summarise-plain}
 use Rattle.reshaping.specs.Reshaped.{reshaped, summarised, Reshapes, ReshapesWith}
 use Rattle.reshaping.specs.declared.reshape.Reshaped.{Reshaped}
 use Rattle.reshaping.specs.declared.summarise.Summary.{Summary}

@@ -1,6 +1,6 @@
 -- `judging::judge::judge_with_index` meets its contract. Assumes nothing.
 use mathlib.Core.Path.{_∙_}
-use Rattle.paper.proofs.Index.{judge-with}
+use Rattle.paper.proofs.WithIndex.{judge-with}
 use Rattle.judging.proofs.Seam.{refused-rows, judged-rows}
 use borrow.Author.Needs.{needs}
 use Rattle.judging.proofs.judge.judge_with_index.Statement.{statement}

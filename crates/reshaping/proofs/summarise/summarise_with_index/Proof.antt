@@ -1,5 +1,5 @@
 -- `reshaping::summarise::summarise_with_index` meets its contract. Assumes nothing.
-use Rattle.paper.proofs.Index.{summarise-with}
+use Rattle.paper.proofs.WithIndex.{summarise-with}
 use Rattle.reshaping.proofs.Seam.{refused-summary, summarised-rows}
 use borrow.Author.Needs.{needs}
 use Rattle.reshaping.proofs.summarise.summarise_with_index.Statement.{statement}
