@@ -6,18 +6,16 @@ use Rattle.paper.specs.Format.{Format}
 use Rattle.paper.specs.Tables.{Row}
 use Rattle.paper.specs.Verdict.{Judgement}
 use Rattle.paper.specs.Calls.{Answer, Reply, noJudgement, judgeRows, judge}
-use Rattle.paper.proofs.Seam.{seam-refused}
 use Rattle.closest.specs.Rows.{Reads}
 use Rattle.closest.specs.declared.rows.RowsRead.{RowsRead}
-use Rattle.closest.proofs.Seam.{as-plain}
+use Rattle.closest.proofs.Seam.{as-refused, as-plain}
 use Rattle.judging.specs.Judged.{inNumbers}
 
 -- b is what the call that reads by these tests is to answer
 module _ {tests : Answer (List Row)} {f : Format} {t levels types : List ℕ} {read : RowsRead} {b : Reply Judgement} (s : List ℕ)
     (call : judgeRows f tests s ≡ b) (reads : Reads tests f t read levels types) where
   pub refused-rows : (read .number ≡ 0 → ⊥) → inNumbers (record { number = read .number; place = read .place; rest = noJudgement }) ≡ inNumbers b
-  refused-rows ne =
-      ap inNumbers (sym (ap (λ a. judgeRows f a s) (reads .refused-is ne) ∙ seam-refused f (read .number) (read .place) .judges s) ∙ call)
+  refused-rows ne = ap inNumbers (sym (as-refused reads ne .judges s) ∙ call)
 
   pub judged-rows : read .number ≡ 0 → inNumbers (judge f t s) ≡ inNumbers b
   judged-rows z = ap inNumbers (sym (as-plain reads z .judges s) ∙ call)

@@ -9,7 +9,7 @@ use lib.ListN.{getD, take}
 use borrow.Author.Tests.{eqb-true, eq-eqb}
 use Rattle.paper.specs.Lists.{Has, keep, same, distinct, ways}
 use Rattle.paper.specs.Tables.{Row, dewey, rowTypes, types, typeNumber}
-use Rattle.paper.specs.Closeness.{nodesFrom, nodes, closest}
+use Rattle.paper.specs.Closeness.{nodesFrom, nodes}
 use Rattle.paper.specs.Shapes.{Entry}
 use Rattle.paper.specs.Labels.{Pair, occurring, converted, rowWith}
 use Rattle.paper.proofs.Lists.{same-eq, eq-same, has-append, map-has, take-has, map-append, map-take, map-same}
@@ -167,7 +167,3 @@ module _ (ps : List Pair) (rs : List Row) where
           (ap (map (typeNumber (types rows′))) row-types-with ∙ map-map (typeNumber (types rows′)) (map (converted ps)) (rowTypes rs)
           ∙ map-same (λ k. typeNumber (types rows′) (map (converted ps) k)) (typeNumber (types rs)) (rowTypes rs) (λ k h. type-numbers k (row-type-of k h)))
           (map-map dewey (rowWith ps) rs)
-
-      -- THE SAME ROWS ARE CLOSEST.
-      pub closest-with : closest (nodes rows′) ≡ closest (nodes rs)
-      closest-with = ap closest nodes-with

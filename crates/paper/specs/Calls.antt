@@ -115,7 +115,6 @@ test8 f w room = do
   given ls
 
 -- ---- the calls
--- Judging, reshaping and summarising are each one definition over rows that were read; the plain call reads them by 1 to 4.
 -- Examining adds the count of rows.
 unfoldable pub examine : Format → List ℕ → Reply ℕ
 examine f b = reply 0 do
@@ -154,6 +153,7 @@ adorn f b before =
     let a = adorning f b (length before) in
     record { reply = reply 0 (do xs ← a; given (length xs)); summaries = after before a }
 
+-- Judging, reshaping and summarising are each one definition over rows that were read; the plain call reads them by 1 to 4.
 -- Judging adds the verdict, the second answer and the numbers of each edge; refused, verdict 0, no and zeros.
 abbrev pub noJudgement : Judgement
 noJudgement = record { verdict = kept; noneApart = false; edges = noEdges }

@@ -49,6 +49,7 @@ use Rattle.reading.specs.declared.reader.Reader.{Reader}
 use Rattle.reading.proofs.reader.Reader as T
 use Rattle.reading.proofs.reader.Reader.Laws as T′
 use Rattle.reading.proofs.reader.make as make
+use Rattle.reading.proofs.reader.next as next
 use Rattle.reading.proofs.reader.row as row
 
 -- the machine value of a width: one for either, so that no walk goes by cases on it
@@ -139,12 +140,16 @@ reader w s n = record { table = s; at = n; width = w }
 abbrev pub onward : Reader → Reader
 onward r = reader (r .width) (r .table) (readerNext (formatOf (r .width)) (now (r .table)) (r .at))
 
--- what `make` says of its result, and `next` of the reader one row on
+-- what `make` says of its result
 abbrev pub Made : Width → RefT (List ℕ) → ℕ → Reader → Type 0
 Made w s n r = (r .table ≡ s) × (r .at ≡ n) × (r .width ≡ w)
 
 pub made-is : (w : Width) (s : RefT (List ℕ)) (n : ℕ) (r : Reader) → Made w s n r → r ≡ reader w s n
 made-is w s n r e = λ i. record { table = e .0 i; at = e .1 i; width = e .2 i }
+
+-- what `next` says of its result: the reader one row on
+abbrev pub On : Reader → Reader → Type 0
+On r = Made (r .width) (r .table) (onward r .at)
 
 -- what `row` says of its result
 abbrev pub Found : Reader → RefT (List ℕ) → Type 0
@@ -154,6 +159,9 @@ module _ {M : Type 1} (𝓤 : URA M) (H : Heap 𝓤) (A : Atoms 𝓤) (mem : Mem
   -- a callee has no `&mut`, so what is said of last values is dropped
   pub make-said : (w : Width) (s : RefT (List ℕ)) (n : ℕ) (r : Reader) → ent 𝓤 (ensured 𝓤 H A make.ended (make.clauses 𝓤 H A mem run) (κ, tt) (w, (s, (n, tt))) tt r) (fact 𝓤 (Made w s n r))
   make-said w s n r = exE 𝓤 _ (λ ws. snd∗ 𝓤 (sem 𝓤 H A (lasts make.ended (κ, tt) (w, (s, (n, tt))) ws)) (fact 𝓤 (Made w s n r)))
+
+  pub next-said : (r p : Reader) → ent 𝓤 (ensured 𝓤 H A next.ended (next.clauses 𝓤 H A mem run) (κ, tt) (r, tt) tt p) (fact 𝓤 (On r p))
+  next-said r p = exE 𝓤 _ (λ ws. snd∗ 𝓤 (sem 𝓤 H A (lasts next.ended (κ, tt) (r, tt) ws)) (fact 𝓤 (On r p)))
 
   pub row-said : (r : Reader) (t : RefT (List ℕ)) → ent 𝓤 (ensured 𝓤 H A row.ended (row.clauses 𝓤 H A mem run) (κ, tt) (r, tt) tt t) (fact 𝓤 (Found r t))
   row-said r t = exE 𝓤 _ (λ ws. snd∗ 𝓤 (sem 𝓤 H A (lasts row.ended (κ, tt) (r, tt) ws)) (fact 𝓤 (Found r t)))

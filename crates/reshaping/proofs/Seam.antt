@@ -8,11 +8,10 @@ use Rattle.paper.specs.Figures.{Figures, noFigures}
 use Rattle.paper.specs.Calls.{Answer, Reply, Reshaping, reshapeRows, summariseRows}
 use Rattle.paper.specs.Index.{testsIndex}
 use Rattle.paper.proofs.Calls.{refused-given}
-use Rattle.paper.proofs.Seam.{seam-refused}
 use Rattle.paper.proofs.WithIndex.{reshape-with, reshape-plain}
 use Rattle.closest.specs.Rows.{Reads}
 use Rattle.closest.specs.declared.rows.RowsRead.{RowsRead}
-use Rattle.closest.proofs.Seam.{as-plain}
+use Rattle.closest.proofs.Seam.{as-refused, as-plain}
 use Rattle.reshaping.specs.Reshaped.{reshaped, summarised, Reshapes, ReshapesWith}
 use Rattle.reshaping.specs.Rows.{SummarisesRows}
 use Rattle.reshaping.specs.declared.reshape.Reshaped.{Reshaped}
@@ -23,8 +22,7 @@ module _ {tests : Answer (List Row)} {f : Format} {t levels types : List ℕ} {r
   module _ {b : Reply Figures} {r : Summary} (call : summariseRows f tests s ≡ b) (reads : Reads tests f t read levels types) where
     pub refused-summary : (read .number ≡ 0 → ⊥) → summarised r ≡ record { number = read .number; place = read .place; rest = noFigures }
         → summarised r ≡ b
-    refused-summary ne is =
-        is ∙ sym (ap (λ a. summariseRows f a s) (reads .refused-is ne) ∙ seam-refused f (read .number) (read .place) .summarises s) ∙ call
+    refused-summary ne is = is ∙ sym (as-refused reads ne .summarises s) ∙ call
 
     pub summarised-rows : read .number ≡ 0 → SummarisesRows f s read levels types r → summarised r ≡ b
     summarised-rows z is = is t (reads .read z) ∙ sym (as-plain reads z .summarises s) ∙ call
@@ -33,8 +31,7 @@ module _ {tests : Answer (List Row)} {f : Format} {t levels types : List ℕ} {r
   pub refused-reshape : (new sources : List ℕ) {x : Reshaping} → reshapeRows f tests s new sources ≡ x → Reads tests f t read levels types
       → (read .number ≡ 0 → ⊥)
       → x ≡ record { reply = record { number = read .number; place = read .place; rest = 0 }; table = new; sources = sources }
-  refused-reshape new sources call reads ne =
-      sym call ∙ ap (λ a. reshapeRows f a s new sources) (reads .refused-is ne) ∙ seam-refused f (read .number) (read .place) .reshapes s new sources
+  refused-reshape new sources call reads ne = sym call ∙ as-refused reads ne .reshapes s new sources
 
 -- ---- the reshape with an index
 module _ {f : Format} {t s last next levels types new sources : List ℕ} {read : RowsRead}

@@ -5,7 +5,7 @@
 --     One, Both, back    the token of the table's lifetime, the tokens of both, and how the first becomes the second
 --     begins, lent, asks     what is owned goes to `make`, to `row` and `next`, and to `print_row`
 --     Make, Row, Next, Print     the contracts that the walk cites
---     next-said, print-said      what is known of a result of `next` and of `print_row`
+--     print-said      what is known of a result of `print_row`
 -- Assumes `Given`.
 use mathlib.Core.Path.{_≡_, refl, sym, ap, _∙_, subst}
 use mathlib.Core.Bool.{Bool, true, false, not}
@@ -48,7 +48,7 @@ use Rattle.paper.proofs.Width.Laws as E′
 use Rattle.reading.specs.Handed.{Handed}
 use Rattle.reading.specs.declared.reader.Reader.{Reader}
 use Rattle.reading.proofs.Reading.{readerNext-row, readerRow-end}
-use Rattle.reading.proofs.Held.{tag, width-is, cell, Table, Held, Asks-table, Asks-reader, passed, onward, Made}
+use Rattle.reading.proofs.Held.{tag, width-is, cell, Table, Held, Asks-table, Asks-reader, passed}
 use Rattle.reading.proofs.reader.Reader.Laws as T′
 use Rattle.reading.proofs.reader.make as make
 use Rattle.reading.proofs.reader.row as row
@@ -155,9 +155,6 @@ module _ {M : Type 1} (𝓤 : URA M) (H : Heap 𝓤) (A : Atoms 𝓤) (W : Given
       move ! (2 ∷ 3 ∷ []) $ use2 W Both back $ join ! $ nothing ! $ move ! (1 ∷ 0 ∷ []) $ join ! $ frame ! $ done !
 
 -- what `next` and `print_row` say of their results
-abbrev pub On : Reader → Reader → Type 0
-On d = Made (d .width) (d .table) (onward d .at)
-
 abbrev pub Printed : Width → RefT (List ℕ) → Bool → Type 0
 Printed w t b = b ≡ true → length (now t) ≡ rowBytes (formatOf w)
 
@@ -177,9 +174,6 @@ module _ {M : Type 1} (𝓤 : URA M) (H : Heap 𝓤) (A : Atoms 𝓤) (mem : Mem
   -- a callee has no `&mut`, so what is said of last values is dropped
   abbrev pub Said-next : Lft → Reader → Reader → SProp 𝓤
   Said-next κ d r = ensured 𝓤 H A next.ended (next.clauses 𝓤 H A mem run) (κ, tt) (d, tt) tt r
-
-  pub next-said : (κ : Lft) (d r : Reader) → ent 𝓤 (Said-next κ d r) (fact 𝓤 (On d r))
-  next-said κ d r = exE 𝓤 _ (λ ws. snd∗ 𝓤 (sem 𝓤 H A (lasts next.ended (κ, tt) (d, tt) ws)) (fact 𝓤 (On d r)))
 
   abbrev pub Said-print : Lft → Lft → Width → RefT (List ℕ) → RefT (List ℕ) → ℕ → Bool → SProp 𝓤
   Said-print κ κ′ w z t m b = ensured 𝓤 H A print.ended (print.clauses 𝓤 H A mem run) (κ, (κ′, tt)) (t, (w, (z, (m, tt)))) tt b

@@ -50,7 +50,7 @@ use Rattle.paper.specs.declared.Width.{Width}
 use Rattle.paper.proofs.Width as E
 use Rattle.paper.proofs.Width.Laws as E′
 use Rattle.reading.specs.declared.reader.Reader.{Reader}
-use Rattle.reading.proofs.Held.{tag, width-is, D, L, word, cell, Table, Held, reader, onward, Made, made-is, Found, make-said, row-said}
+use Rattle.reading.proofs.Held.{tag, width-is, D, L, word, cell, Table, Held, reader, onward, Made, made-is, On, Found, make-said, next-said, row-said}
 use Rattle.reading.proofs.reader.Reader as T
 use Rattle.reading.proofs.reader.Reader.Laws as T′
 use Rattle.reading.proofs.reader.make as make
@@ -63,7 +63,7 @@ use Rattle.printing.proofs.new_table.print_lines as lines
 use Rattle.printing.proofs.new_table.print_lines.Code.Mir as mirs
 use Rattle.printing.proofs.new_table.print_lines.Proof.Lent.{Num, Rd, Row-ty, Table-ty, Sources-ty, sure, below, goes-on, rooms, deaths, freed}
 use Rattle.printing.proofs.new_table.print_lines.Proof.Lent.{Part, Sources, One, Both, back, lent, asks}
-use Rattle.printing.proofs.new_table.print_lines.Proof.Lent.{Make, Row, Next, Print, On, Said-next, next-said, Printed, Said-print, print-said}
+use Rattle.printing.proofs.new_table.print_lines.Proof.Lent.{Make, Row, Next, Print, Said-next, Printed, Said-print, print-said}
 
 abbrev pub stayed : Stays (lines.ended .signature .params) (lines.ended .kept)
 stayed = (
