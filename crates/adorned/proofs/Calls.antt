@@ -10,14 +10,14 @@ use borrow.Author.Tests.{le-ltb, lt-ltb}
 use Rattle.paper.specs.Format.{Format}
 use Rattle.paper.specs.Tables.{Row, rows, types}
 use Rattle.paper.specs.Adorned.{Summary, adorned}
-use Rattle.paper.specs.Calls.{Answer, refused, given, ◌>>=◌, refuse, Reply, reply, tests1-4, adorning}
-use Rattle.adorned.specs.Told.{adornFigures, Says}
+use Rattle.paper.specs.Calls.{Answer, refused, given, ◌>>=◌, refuse, Reply, reply, tests1_4, adorning}
+use Rattle.adorned.specs.Told.{adorn_figures, Says}
 use Rattle.adorned.specs.declared.Adorned.{Adorned}
 use Rattle.adorned.proofs.All.{adorned-length}
 
 module _ (f : Format) (t : List ℕ) (lent : ℕ) (r : Adorned) where
   -- the answer, once the call is known to answer so
-  says : (a : Reply (List Summary)) → adornFigures f t lent ≡ a → Says a r → Says (adornFigures f t lent) r
+  says : (a : Reply (List Summary)) → adorn_figures f t lent ≡ a → Says a r → Says (adorn_figures f t lent) r
   says a e s = subst (λ (x : Reply (List Summary)). Says x r) (sym e) s
 
   -- from the rows on, and from test 10 on
@@ -27,19 +27,19 @@ module _ (f : Format) (t : List ℕ) (lent : ℕ) (r : Adorned) where
   abbrev from10 : Bool → Reply (List Summary)
   from10 b = reply [] (refuse 10 b >>= (λ _. given (adorned (rows f t))))
 
-  tested : (a : Answer (List Row)) → tests1-4 f t ≡ a → adornFigures f t lent ≡ after4 a
-  unfolding adornFigures adorning
+  tested : (a : Answer (List Row)) → tests1_4 f t ≡ a → adorn_figures f t lent ≡ after4 a
+  unfolding adorn_figures adorning
   tested a e = ap after4 e
 
-  pub says-refused : (k p : ℕ) → tests1-4 f t ≡ refused k p → Says (record { number = k; place = p; rest = [] }) r → Says (adornFigures f t lent) r
+  pub says-refused : (k p : ℕ) → tests1_4 f t ≡ refused k p → Says (record { number = k; place = p; rest = [] }) r → Says (adorn_figures f t lent) r
   says-refused k p e = says _ (tested (refused k p) e)
 
-  module _ (e : tests1-4 f t ≡ given (rows f t)) where
-    pub says-short : lent < length (types (rows f t)) → Says (record { number = 10; place = 0; rest = [] }) r → Says (adornFigures f t lent) r
-    says-short lt =
+  module _ (e : tests1_4 f t ≡ given (rows f t)) where
+    pub says_short : lent < length (types (rows f t)) → Says (record { number = 10; place = 0; rest = [] }) r → Says (adorn_figures f t lent) r
+    says_short lt =
         says _ (tested (given (rows f t)) e ∙ ap from10 (lt-ltb lent (length (adorned (rows f t))) (omega (arith, lt, adorned-length (rows f t)))))
 
     pub says-given : length (types (rows f t)) ≤ lent → Says (record { number = 0; place = 0; rest = adorned (rows f t) }) r
-        → Says (adornFigures f t lent) r
+        → Says (adorn_figures f t lent) r
     says-given fits =
         says _ (tested (given (rows f t)) e ∙ ap from10 (le-ltb lent (length (adorned (rows f t))) (omega (arith, fits, adorned-length (rows f t)))))

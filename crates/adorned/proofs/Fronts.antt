@@ -9,11 +9,11 @@ use lib.ListN.{length, get_or, set, take, drop}
 abbrev pub front : {A : Type 0} → ℕ → List A → List A → List A
 front n new before = take n new ++ drop n before
 
-pub front-next : {A : Type 0} (i : ℕ) (new before : List A) (d : A) → i < length new → i < length before → set (front i new before) i (get_or new i d) ≡ front (suc i) new before
-front-next i [] before d l m = absurd (not-suc-le-zero l)
-front-next i (x ∷ xs) [] d l m = absurd (not-suc-le-zero m)
-front-next zero (x ∷ xs) (y ∷ ys) d l m = refl
-front-next {A} (suc i) (x ∷ xs) (y ∷ ys) d l m = ap {B = List A} (λ r. x ∷ r) (front-next i xs ys d (le_of_suc-le-suc l) (le_of_suc-le-suc m))
+pub front_next : {A : Type 0} (i : ℕ) (new before : List A) (d : A) → i < length new → i < length before → set (front i new before) i (get_or new i d) ≡ front (suc i) new before
+front_next i [] before d l m = absurd (not-suc-le-zero l)
+front_next i (x ∷ xs) [] d l m = absurd (not-suc-le-zero m)
+front_next zero (x ∷ xs) (y ∷ ys) d l m = refl
+front_next {A} (suc i) (x ∷ xs) (y ∷ ys) d l m = ap {B = List A} (λ r. x ∷ r) (front_next i xs ys d (le_of_suc-le-suc l) (le_of_suc-le-suc m))
 
 pub front_long : {A : Type 0} (i : ℕ) (new before : List A) → i < suc (length new) → i < suc (length before) → length (front i new before) ≡ length before
 front_long zero new before l m = refl

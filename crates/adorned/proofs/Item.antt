@@ -63,5 +63,5 @@ module _ (R : RattleType) (val : R.Denot → Val) (tells : Tells R (Is R) (λ x.
   each-is (x ∷ xs) (u ∷ us) zero s l = subst (Is R x) (tells x (u ∷ []) s.0) s.0
   each-is (x ∷ xs) (u ∷ us) (suc i) s l = each-is xs us i s.1 (le_of_suc-le-suc l)
 
-  pub item-is : (n : ℕ) (xs : List R.Denot) (vs : List Val) (i : ℕ) → Is (Array R n) xs vs → i < length xs → Is R (get_or xs i d) (get_or (map val xs) i (val d) ∷ [])
-  item-is n xs vs i are l = each-is xs are.0 i are.1.1 l
+  pub item_is : (n : ℕ) (xs : List R.Denot) (vs : List Val) (i : ℕ) → Is (Array R n) xs vs → i < length xs → Is R (get_or xs i d) (get_or (map val xs) i (val d) ∷ [])
+  item_is n xs vs i are l = each-is xs are.0 i are.1.1 l

@@ -14,7 +14,7 @@ use borrow.Author.Tests.{eqb-true, eqb-false}
 use Rattle.paper.specs.Lists.{least, most}
 use Rattle.types.proofs.Step.{below}
 use Rattle.adorned.specs.Runs.{lead, runs, low, high, CountRange, TypeLevels}
-use Rattle.adorned.proofs.Fold.{lows, highs, lows-least, highs-most, runs-parent, runs_other, lead-parent, lead-child, lead-other, past}
+use Rattle.adorned.proofs.Fold.{lows, highs, lows_least, highs_most, runs_parent, runs_other, lead_parent, lead_child, lead_other, past}
 
 pub low-more : (m l c : ℕ) → (m ≡ 0 → ⊥) → (low m l c ≡ min l c) × (high m l c ≡ max l c)
 low-more zero l c ne = absurd (ne refl)
@@ -35,15 +35,15 @@ pub record Walk (l : List ℕ) (p k lo hi : ℕ) (seen : Bool) (m c i : ℕ) : T
 
 pub walk_start : (l : List ℕ) (p k : ℕ) → Walk l p k 0 0 false 0 0 0
 walk_start l p k =
-    record { inside = omega arith; counted = omega arith; passed = omega arith; lowest = lows-least (runs p k l); highest = highs-most (runs p k l) }
+    record { inside = omega arith; counted = omega arith; passed = omega arith; lowest = lows_least (runs p k l); highest = highs_most (runs p k l) }
 
 module _ (l : List ℕ) (p k lo hi : ℕ) (m c i x : ℕ) (lt : i < length l) (e : x ≡ get_or l i 0) where
   -- a row of type p closes the count before it
-  pub walk-close : Walk l p k lo hi true m c i → x ≡ p → (lo' hi' : ℕ) → lo' ≡ low m lo c → hi' ≡ high m hi c → Walk l p k lo' hi' true (m + 1) 0 (i + 1)
-  walk-close w q lo' hi' el eh =
+  pub walk_close : Walk l p k lo hi true m c i → x ≡ p → (lo' hi' : ℕ) → lo' ≡ low m lo c → hi' ≡ high m hi c → Walk l p k lo' hi' true (m + 1) 0 (i + 1)
+  walk_close w q lo' hi' el eh =
       let rest = drop (i + 1) l in
       let now : left true c p k (drop i l) ≡ c ∷ lead p k rest ∷ runs p k rest =
-      ap₂ {C = List ℕ} (λ a b. a ∷ b) (ap (λ z. c + z) (lead-parent l i x p k lt e q) ∙ (omega arith)) (runs-parent l i x p k lt e q) in
+      ap₂ {C = List ℕ} (λ a b. a ∷ b) (ap (λ z. c + z) (lead_parent l i x p k lt e q) ∙ (omega arith)) (runs_parent l i x p k lt e q) in
       record {
         inside = omega arith;
         counted = omega arith;
@@ -55,11 +55,11 @@ module _ (l : List ℕ) (p k lo hi : ℕ) (m c i x : ℕ) (lt : i < length l) (e
       }
 
   -- the first row of type p opens one
-  pub walk-open : Walk l p k lo hi false m c i → x ≡ p → Walk l p k lo hi true m 0 (i + 1)
-  walk-open w q =
+  pub walk_open : Walk l p k lo hi false m c i → x ≡ p → Walk l p k lo hi true m 0 (i + 1)
+  walk_open w q =
       let rest = drop (i + 1) l in
       let now : left false c p k (drop i l) ≡ (0 + lead p k rest) ∷ runs p k rest =
-      runs-parent l i x p k lt e q ∙ ap {B = List ℕ} (λ z. z ∷ runs p k rest) (sym (zero-add (lead p k rest))) in
+      runs_parent l i x p k lt e q ∙ ap {B = List ℕ} (λ z. z ∷ runs p k rest) (sym (zero-add (lead p k rest))) in
       record {
         inside = omega arith;
         counted = omega arith;
@@ -74,9 +74,9 @@ module _ (l : List ℕ) (p k lo hi : ℕ) (m c i x : ℕ) (lt : i < length l) (e
     same_left true c' q = ap₂ {C = List ℕ} (λ a b. a ∷ b) q (sym (runs_other l i x p k lt e np))
     same_left false c' q = sym (runs_other l i x p k lt e np)
 
-    walk-on : (seen : Bool) (c' : ℕ) → Walk l p k lo hi seen m c i → c' ≤ i + 1 → c' + lead p k (drop (i + 1) l) ≡ c + lead p k (drop i l)
+    walk_on : (seen : Bool) (c' : ℕ) → Walk l p k lo hi seen m c i → c' ≤ i + 1 → c' + lead p k (drop (i + 1) l) ≡ c + lead p k (drop i l)
         → Walk l p k lo hi seen m c' (i + 1)
-    walk-on seen c' w le q = record {
+    walk_on seen c' w le q = record {
       inside = omega arith;
       counted = le;
       passed = omega (arith, w.passed);
@@ -85,15 +85,15 @@ module _ (l : List ℕ) (p k lo hi : ℕ) (m c i x : ℕ) (lt : i < length l) (e
     }
 
     -- a row of type k is a child
-    pub walk-child : (seen : Bool) → Walk l p k lo hi seen m c i → x ≡ k → Walk l p k lo hi seen m (c + 1) (i + 1)
-    walk-child seen w q = walk-on seen (c + 1) w (omega (arith, w.counted)) (omega (arith, lead-child l i x p k lt e np q))
+    pub walk_child : (seen : Bool) → Walk l p k lo hi seen m c i → x ≡ k → Walk l p k lo hi seen m (c + 1) (i + 1)
+    walk_child seen w q = walk_on seen (c + 1) w (omega (arith, w.counted)) (omega (arith, lead_child l i x p k lt e np q))
 
-    pub walk-other : (seen : Bool) → Walk l p k lo hi seen m c i → (x ≡ k → ⊥) → Walk l p k lo hi seen m c (i + 1)
-    walk-other seen w nk = walk-on seen c w (omega (arith, w.counted)) (omega (arith, lead-other l i x p k lt e np nk))
+    pub walk_other : (seen : Bool) → Walk l p k lo hi seen m c i → (x ≡ k → ⊥) → Walk l p k lo hi seen m c (i + 1)
+    walk_other seen w nk = walk_on seen c w (omega (arith, w.counted)) (omega (arith, lead_other l i x p k lt e np nk))
 
-pub walk-last : (l : List ℕ) (p k lo hi m c i : ℕ) → Walk l p k lo hi true m c i → length l ≤ i
+pub walk_last : (l : List ℕ) (p k lo hi m c i : ℕ) → Walk l p k lo hi true m c i → length l ≤ i
     → CountRange (runs p k l) (low m lo c) (high m hi c)
-walk-last l p k lo hi m c i w le =
+walk_last l p k lo hi m c i w le =
     let now : left true c p k (drop i l) ≡ c ∷ [] = ap (left true c p k) (past l i le) ∙ ap {B = List ℕ} (λ z. z ∷ []) (omega arith) in
     (sym (ap (lows m lo) now) ∙ w.lowest, sym (ap (highs m hi) now) ∙ w.highest)
 
@@ -103,9 +103,9 @@ walk_none l p k lo hi m c i w le =
     (sym (ap (lows m lo) now) ∙ w.lowest, sym (ap (highs m hi) now) ∙ w.highest)
 
 -- ---- the level of each type, one row more
-pub levels-more : (levels types found : List ℕ) (i k l : ℕ) → k ≡ get_or types i 0 → l ≡ get_or levels i 0 → k < length found
+pub levels_more : (levels types found : List ℕ) (i k l : ℕ) → k ≡ get_or types i 0 → l ≡ get_or levels i 0 → k < length found
     → TypeLevels i levels types found → TypeLevels (i + 1) levels types (set found k l)
-levels-more levels types found i k l ek el lt so_far h lh = go (eqb (get_or types h 0) k) refl
+levels_more levels types found i k l ek el lt so_far h lh = go (eqb (get_or types h 0) k) refl
   where
     go : (b : Bool) → eqb (get_or types h 0) k ≡ b
         → (j : ℕ) × (j < i + 1) × (get_or types j 0 ≡ get_or types h 0) × (get_or (set found k l) (get_or types h 0) 0 ≡ get_or levels j 0)

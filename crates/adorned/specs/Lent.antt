@@ -6,8 +6,8 @@ use Rattle.adorned.specs.declared.TypeSummary.{TypeSummary}
 use Rattle.adorned.specs.declared.lent.AdornedTypes.{AdornedTypes}
 
 -- number, place, count of types
-abbrev pub adornedTypes : AdornedTypes → Reply ℕ
-adornedTypes r = record { number = r.number; place = r.place; rest = r.types }
+abbrev pub adorned_types : AdornedTypes → Reply ℕ
+adorned_types r = record { number = r.number; place = r.place; rest = r.types }
 
 -- a summary
 abbrev pub told : TypeSummary → Summary

@@ -1,6 +1,6 @@
 -- What is found out of a table, in the paper's terms. Assumes nothing.
 use Rattle.std.specs.Prelude.{ℕ, ◌-◌, ◌<◌, ◌≡◌, List, [], ◌++◌, map, length, get_or, replicate}
-use Rattle.paper.specs.Format.{Format, mostTypes}
+use Rattle.paper.specs.Format.{Format, most_types}
 use Rattle.paper.specs.Tables as Tables
 use Rattle.paper.specs.Tables.{Row, types}
 use Rattle.paper.specs.Closeness.{nodes}
@@ -23,21 +23,21 @@ pub record Listed (ts : List (List ℕ)) (parents labels : List ℕ) (count k pa
   pub level-is : level ≡ length (get_or ts k [])
 
 -- the summary of type k
-abbrev pub summaryAt : List Row → ℕ → Summary
-summaryAt rs k = summary (nodes rs) (types rs) k (get_or (types rs) k [])
+abbrev pub summary_at : List Row → ℕ → Summary
+summary_at rs k = summary (nodes rs) (types rs) k (get_or (types rs) k [])
 
 -- what a place past the last type holds
-abbrev pub noSummary : Summary
-noSummary = record { parent = 0; label = 0; level = 0; rows = 0; least = 0; greatest = 0 }
+abbrev pub no_summary : Summary
+no_summary = record { parent = 0; label = 0; level = 0; rows = 0; least = 0; greatest = 0 }
 
 -- the 64 places of an answer: the summaries, then zeros
 abbrev pub placed : List Summary → List Summary
-placed ss = ss ++ replicate (mostTypes - length ss) noSummary
+placed ss = ss ++ replicate (most_types - length ss) no_summary
 
 -- whatever table has rows of these types, and lists type k so, this is the summary of its type k
 abbrev pub Summarises : ℕ → List ℕ → ℕ → ℕ → ℕ → ℕ → TypeSummary → Type 0
 Summarises rows ks k parent label level r = (f : Format) (t parents labels : List ℕ) (count : ℕ) → Typed f rows t ks
-    → Listed (types (Tables.rows f t)) parents labels count k parent label level → told r ≡ summaryAt (Tables.rows f t) k
+    → Listed (types (Tables.rows f t)) parents labels count k parent label level → told r ≡ summary_at (Tables.rows f t) k
 
 -- whatever table these rows are read of, these are the summaries of its types
 abbrev pub SummariesOf : RowsRead → List ℕ → List ℕ → List TypeSummary → Type 0
@@ -48,8 +48,8 @@ pub record Says (a : Reply (List Summary)) (r : Adorned) : Type 0 where
   pub number_is : r.number ≡ a.number
   pub place_is : r.place ≡ a.place
   pub count-is : r.count ≡ length a.rest
-  pub summaries-are : map told r.summaries ≡ placed a.rest
+  pub summaries_are : map told r.summaries ≡ placed a.rest
 
 -- what adorning finds out where so many places are lent
-unfoldable pub adornFigures : Format → List ℕ → ℕ → Reply (List Summary)
-adornFigures f t lent = reply [] (adorning f t lent)
+unfoldable pub adorn_figures : Format → List ℕ → ℕ → Reply (List Summary)
+adorn_figures f t lent = reply [] (adorning f t lent)

@@ -3,11 +3,11 @@
 pub mod lent;
 
 ghost use Rattle.std.specs.Prelude.{◌≡◌, [], map, ◌≤◌, length, take};
-ghost use Rattle.paper.specs.Format.{mostTypes};
-ghost use Rattle.bytes.specs.Served.{Served};
+ghost use Rattle.paper.specs.Format.{most_types};
+ghost use Rattle.octets.specs.Served.{Served};
 ghost use Rattle.closest.specs.Runs.{Rows};
 ghost use Rattle.adorned.specs.Runs.{runs, low, high, CountRange, TypeLevels};
-ghost use Rattle.adorned.specs.Told.{told, noSummary, placed, Summarises, SummariesOf, Says, adornFigures};
+ghost use Rattle.adorned.specs.Told.{told, no_summary, placed, Summarises, SummariesOf, Says, adorn_figures};
 
 use closest::rows::{RowsRead, read_rows};
 use paper::Format;
@@ -49,7 +49,7 @@ fn children_range(types: &[u8], rows: usize, p: usize, k: usize) -> Range
     let mut c = 0;
     let mut i = 0;
     while i < rows {
-        let x = bytes::wide(types[i]);
+        let x = octets::wide(types[i]);
         if x == p {
             if seen {
                 r = with_count(r, counts, c);
@@ -97,7 +97,7 @@ fn type_levels(levels: &[u8], types: &[u8], rows: usize) -> [u8; 64]
     let mut found = [0u8; 64];
     let mut i = 0;
     while i < rows {
-        found[bytes::wide(types[i])] = levels[i];
+        found[octets::wide(types[i])] = levels[i];
         i += 1;
     }
     found
@@ -147,7 +147,7 @@ pub struct Adorned {
 }
 
 fn no_summary() -> TypeSummary
-    ensures { told result ≡ noSummary }
+    ensures { told result ≡ no_summary }
 {
     TypeSummary {
         parent: 0,
@@ -168,7 +168,7 @@ fn no_summaries() -> [TypeSummary; 64]
 
 // The summaries of the types of a table whose rows were read, one a type in type order.
 fn summaries_of(read: RowsRead, levels: &[u8], types: &[u8]) -> [TypeSummary; 64]
-    requires { Rows read.rows levels.now types.now × (read.count ≤ mostTypes) }
+    requires { Rows read.rows levels.now types.now × (read.count ≤ most_types) }
     ensures { SummariesOf read levels.now types.now result }
 {
     let rows = read.rows;
@@ -177,9 +177,9 @@ fn summaries_of(read: RowsRead, levels: &[u8], types: &[u8]) -> [TypeSummary; 64
     let mut all = no_summaries();
     let mut k = 0;
     while k < count {
-        let p = bytes::wide(read.parents[k]);
-        let a = bytes::wide16(read.labels[k]);
-        let l = bytes::wide(depths[k]);
+        let p = octets::wide(read.parents[k]);
+        let a = octets::wide16(read.labels[k]);
+        let l = octets::wide(depths[k]);
         all[k] = summary_of(types, rows, k, p, a, l);
         k += 1;
     }
@@ -201,7 +201,7 @@ fn refused(number: usize, place: usize) -> Adorned
 // Refusals 1 to 4, then 10 where fewer places are lent than the table has types, or the summaries of its types.
 pub fn adorn_by_value(table: &[u8], f: Format, lent: usize) -> Adorned
     requires { Served f }
-    ensures { Says (adornFigures f table.now lent) result }
+    ensures { Says (adorn_figures f table.now lent) result }
 {
     let mut levels = [0u8; 1024];
     let mut types = [0u8; 1024];

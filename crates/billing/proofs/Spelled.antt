@@ -8,7 +8,7 @@ use lib.Dec.{eqb}
 use lib.ListN.{length, take, drop}
 use lib.Seq.{sets-eq, take-append_seam}
 use borrow.Author.Tests.{eqb-true, eqb-false}
-use Rattle.paper.specs.Format.{mostEntries}
+use Rattle.paper.specs.Format.{most_entries}
 use Rattle.grammar.specs.Text.{decimal}
 use Rattle.names.specs.Put.{Put}
 use Rattle.billing.specs.Entry.{EntryOf}
@@ -27,7 +27,7 @@ put_first {l} {text} {l'} {r} p room =
 -- ---- the entries, one after the other
 module _ (word : List ℕ) (e : ℕ) where
   -- The word is the digits of this one.
-  pub found : e < mostEntries → word ≡ decimal e → EntryOf word e
+  pub found : e < most_entries → word ≡ decimal e → EntryOf word e
   found lt is = record { few = omega arith; entry-is = λ _. is; entry-none = λ all. let z : ⊥ = omega (arith, lt, all) in absurd z }
 
   -- Of none up to this one.
@@ -40,7 +40,7 @@ module _ (word : List ℕ) (e : ℕ) where
       go false q = before k (omega (arith, lt, eqb-false k e q)) is
 
   -- Of none at all.
-  pub none_found : mostEntries ≤ e → ((k : ℕ) → k < e → word ≡ decimal k → ⊥) → EntryOf word mostEntries
+  pub none_found : most_entries ≤ e → ((k : ℕ) → k < e → word ≡ decimal k → ⊥) → EntryOf word most_entries
   none_found all before = record {
     few = omega arith;
     entry-is = λ lt. let z : ⊥ = omega (arith, lt) in absurd z;

@@ -1,9 +1,9 @@
 // A folder of a history: its files are read, its tape is taken in, and its line is printed.
 ghost use Rattle.std.specs.Prelude.{◌≡◌, true, not, ◌≤◌, eqb, length};
 ghost use Rattle.paper.specs.Widths.{format_of};
-ghost use Rattle.totals.specs.Total.{takeIn};
+ghost use Rattle.totals.specs.Total.{take_in};
 ghost use Rattle.totals.specs.Told.{tape};
-ghost use Rattle.billing.specs.Billing.{mostName};
+ghost use Rattle.billing.specs.Billing.{most_name};
 
 use crate::tape::put_taken;
 use crate::text::put_not_counted;
@@ -34,7 +34,7 @@ pub fn unread(total: Total) -> Step
 
 // A folder that is refused for its typed tree adds nothing.
 fn leave_out(name: &[u8], total: Total, number: usize, place: usize) -> Step
-    requires { length name.now ≤ mostName }
+    requires { length name.now ≤ most_name }
     ensures { (result.refused ≡ true) × (result.total ≡ total) }
 {
     let mut text = [0u8; 4096];
@@ -55,9 +55,9 @@ fn take_tape(
     shape: &[u8],
     entry: usize,
 ) -> Step
-    requires { length name.now ≤ mostName }
+    requires { length name.now ≤ most_name }
     ensures { let t = tape (format_of width) table.now shape.now entry in
-        (result.refused ≡ not (eqb (takeIn total t).number 0)) × (result.total ≡ (takeIn total t).rest) }
+        (result.refused ≡ not (eqb (take_in total t).number 0)) × (result.total ≡ (take_in total t).rest) }
 {
     let mut text = [0u8; 4096];
     let b = put_taken(&mut text, name, total, width, table, shape, entry);
@@ -80,7 +80,7 @@ fn take_typed(
     text: &[u8],
     entry: usize,
 ) -> Step
-    requires { length name.now ≤ mostName }
+    requires { length name.now ≤ most_name }
 {
     let mut shape = [0u8; 320];
     let r = read_typed(width, table, text, &mut shape);
@@ -95,7 +95,7 @@ fn take_typed(
 
 // Takes in the tape of a table and the wanted tree of the folder.
 fn take_wanted(name: &[u8], total: Total, width: Width, table: &[u8], entry: usize) -> Step
-    requires { length name.now ≤ mostName }
+    requires { length name.now ≤ most_name }
 {
     let mut wanted = [0u8; 1539];
     let w = read_wanted(name, width, true, &mut wanted);
@@ -111,7 +111,7 @@ fn take_wanted(name: &[u8], total: Total, width: Width, table: &[u8], entry: usi
 
 // Takes in the tape of a folder, and prints the folder's line. The folder's name is printed as it is given.
 pub fn take_folder(name: &[u8], total: Total, entry: usize) -> Step
-    requires { length name.now ≤ mostName }
+    requires { length name.now ≤ most_name }
 {
     let mut table = [0u8; 28673];
     let t = read_source(name, &mut table);

@@ -3,9 +3,9 @@ ghost use Rattle.std.specs.Prelude.{◌≡◌, ◌≤◌, length};
 ghost use Rattle.io.specs.Counts.{IsPrefixLen};
 ghost use Rattle.paper.specs.Widths.{format_of};
 ghost use Rattle.names.specs.Put.{Put};
-ghost use Rattle.totals.specs.Total.{takeIn};
+ghost use Rattle.totals.specs.Total.{take_in};
 ghost use Rattle.totals.specs.Told.{tape};
-ghost use Rattle.billing.specs.Billing.{mostName, tapeText};
+ghost use Rattle.billing.specs.Billing.{most_name, tape_text};
 
 use crate::text::{put_counted, put_not_counted};
 use paper::Width;
@@ -29,10 +29,10 @@ pub fn put_taken(
     shape: &[u8],
     entry: usize,
 ) -> Billed
-    requires { length name.now ≤ mostName }
+    requires { length name.now ≤ most_name }
     ensures fact { let t = tape (format_of width) table.now shape.now entry in
-        Put out.old 0 (tapeText name.now total t) out.new result.bytes
-        × (result.number ≡ (takeIn total t).number) × (result.total ≡ (takeIn total t).rest) }
+        Put out.old 0 (tape_text name.now total t) out.new result.bytes
+        × (result.number ≡ (take_in total t).number) × (result.total ≡ (take_in total t).rest) }
     ensures prefix_len { IsPrefixLen result.bytes out.new }
 {
     let r = totals::take_in(total, width, table, shape, entry);

@@ -1,9 +1,9 @@
 // The lines of a history as text: a folder's sums, a folder that is not counted, and the total.
 ghost use Rattle.std.specs.Prelude.{◌+◌, ◌≤◌, length};
 ghost use Rattle.io.specs.Counts.{IsPrefixLen};
-ghost use Rattle.grammar.specs.Text.{signedText};
+ghost use Rattle.grammar.specs.Text.{signed_text};
 ghost use Rattle.names.specs.Put.{Put};
-ghost use Rattle.billing.specs.Billing.{mostName, sumsText, countedText, notCountedText, totalText, leftOutText};
+ghost use Rattle.billing.specs.Billing.{most_name, sums_text, counted_text, not_counted_text, total_text, left_out_text};
 
 use names::put::{put_after, put_byte, put_bytes, put_number};
 use totals::Total;
@@ -11,7 +11,7 @@ use totals::Total;
 // A signed number. Below 0 its size is one more than that of the next number, which 64 bits hold of the least one too.
 fn put_signed(out: &mut [u8], at: usize, v: i64) -> usize
     requires { at + 21 ≤ length out.old }
-    ensures { Put out.old at (signedText v) out.new result × (result ≤ at + 21) }
+    ensures { Put out.old at (signed_text v) out.new result × (result ≤ at + 21) }
 {
     if v < 0 {
         put_after(out, at, b'-', (-1 - v) as usize + 1)
@@ -23,7 +23,7 @@ fn put_signed(out: &mut [u8], at: usize, v: i64) -> usize
 // Both sums with their words.
 fn put_sums(out: &mut [u8], at: usize, shown: i64, unshown: i64) -> usize
     requires { at + 62 ≤ length out.old }
-    ensures { Put out.old at (sumsText shown unshown) out.new result × (result ≤ at + 62) }
+    ensures { Put out.old at (sums_text shown unshown) out.new result × (result ≤ at + 62) }
 {
     let word = put_bytes(out, at, b": shown ");
     let sum = put_signed(out, word, shown);
@@ -33,8 +33,8 @@ fn put_sums(out: &mut [u8], at: usize, shown: i64, unshown: i64) -> usize
 
 // The line of a folder that is taken in, at the front of the buffer.
 pub fn put_counted(out: &mut [u8; 4096], name: &[u8], shown: i64, unshown: i64) -> usize
-    requires { length name.now ≤ mostName }
-    ensures put { Put out.old 0 (countedText name.now shown unshown) out.new result }
+    requires { length name.now ≤ most_name }
+    ensures put { Put out.old 0 (counted_text name.now shown unshown) out.new result }
     ensures prefix_len { IsPrefixLen result out.new }
 {
     let folder = put_bytes(out, 0, name);
@@ -44,8 +44,8 @@ pub fn put_counted(out: &mut [u8; 4096], name: &[u8], shown: i64, unshown: i64) 
 
 // The line of a folder that is refused, at the front of the buffer.
 pub fn put_not_counted(out: &mut [u8; 4096], name: &[u8], number: usize, place: usize) -> usize
-    requires { length name.now ≤ mostName }
-    ensures put { Put out.old 0 (notCountedText name.now number place) out.new result }
+    requires { length name.now ≤ most_name }
+    ensures put { Put out.old 0 (not_counted_text name.now number place) out.new result }
     ensures prefix_len { IsPrefixLen result out.new }
 {
     let folder = put_bytes(out, 0, name);
@@ -58,7 +58,7 @@ pub fn put_not_counted(out: &mut [u8; 4096], name: &[u8], number: usize, place: 
 
 // The line of the total, at the front of the buffer.
 pub fn put_total(out: &mut [u8; 4096], total: Total) -> usize
-    ensures put { Put out.old 0 (totalText total) out.new result }
+    ensures put { Put out.old 0 (total_text total) out.new result }
     ensures prefix_len { IsPrefixLen result out.new }
 {
     let word = put_bytes(out, 0, b"total");
@@ -70,7 +70,7 @@ pub fn put_total(out: &mut [u8; 4096], total: Total) -> usize
 
 // The line that reports how many folders are left out of the total, at the front of the buffer.
 pub fn put_left_out(out: &mut [u8; 256], folders: usize) -> usize
-    ensures put { Put out.old 0 (leftOutText folders) out.new result }
+    ensures put { Put out.old 0 (left_out_text folders) out.new result }
     ensures prefix_len { IsPrefixLen result out.new }
 {
     let word = put_bytes(out, 0, b"refused ");

@@ -6,27 +6,27 @@ use mathlib.Core.Path.{◌≡◌, sym, ap, subst}
 use mathlib.Core.Logic.{◌⊎◌}
 use mathlib.Core.List.{List}
 use lib.ListN.{length, take, length-take}
-use Rattle.paper.specs.Format.{Format, rowBytes}
+use Rattle.paper.specs.Format.{Format, row_bytes}
 use Rattle.paper.specs.Tables.{rows}
-use Rattle.paper.specs.Calls.{Reply, given, tests1-4}
+use Rattle.paper.specs.Calls.{Reply, given, tests1_4}
 use Rattle.paper.specs.Sound.{SoundSource}
-use Rattle.paper.proofs.Calls.{reshape-past4}
-use Rattle.paper.proofs.Sound.{source-whole}
+use Rattle.paper.proofs.Calls.{reshape_past4}
+use Rattle.paper.proofs.Sound.{source_whole}
 use Rattle.reshaping.specs.Reshaped.{Reshapes}
 use Rattle.reshaping.specs.declared.reshape.Reshaped.{Reshaped}
 use Rattle.cases.specs.Chain.{Source}
 
 module _ {f : Format} {t s new sources new' sources' : List ℕ} {r : Reshaped} (p : Reshapes f t s new sources r new' sources') where
   -- an accepted reshape of at most 1,024 lines leaves a source
-  pub leaves-source : r.number ≡ 0 → r.lines ≤ 1024 → Source f new' r.lines
-  leaves-source z le =
+  pub leaves_source : r.number ≡ 0 → r.lines ≤ 1024 → Source f new' r.lines
+  leaves_source z le =
       let n = r.lines in
-      let at : n * rowBytes f ≡ rowBytes f * n = mul_comm n (rowBytes f) in
+      let at : n * row_bytes f ≡ row_bytes f * n = mul_comm n (row_bytes f) in
       let source = subst (λ k. SoundSource f s (take k new') n) at (p.sound z le) in
-      let within : n * rowBytes f ≤ length (take (rowBytes f * n) new') = source-whole f s (take (rowBytes f * n) new') n source in
-      (omega (arith, within, at, length-take (rowBytes f * n) new'), source.passes)
+      let within : n * row_bytes f ≤ length (take (row_bytes f * n) new') = source_whole f s (take (row_bytes f * n) new') n source in
+      (omega (arith, within, at, length-take (row_bytes f * n) new'), source.passes)
 
   -- what passes 1 to 4 is reshaped, or refused by a number past 4
-  pub past4 : tests1-4 f t ≡ given (rows f t) → (r.number ≡ 0) ⊎ (4 < r.number)
+  pub past4 : tests1_4 f t ≡ given (rows f t) → (r.number ≡ 0) ⊎ (4 < r.number)
   past4 passes =
-      subst (λ k. (k ≡ 0) ⊎ (4 < k)) (sym (ap (λ (x : Reply ℕ). x.number) p.answer)) (reshape-past4 f t passes s new sources)
+      subst (λ k. (k ≡ 0) ⊎ (4 < k)) (sym (ap (λ (x : Reply ℕ). x.number) p.answer)) (reshape_past4 f t passes s new sources)

@@ -50,9 +50,9 @@ module _ {M : Type 1} {𝓤 : Ura M} (𝓛 : Logic 𝓤) (R : RattleType) where
         fpack ! (List Val) (λ vs. fsep (cell_at full_share (τ ∷ []) vs b o) ((Array R m).own_val xs vs)) (array_val (map val xs) ∷ []) $
         use1 𝓛 (‵ ((arr_parts (shares R) m).part full_share xs b o)) (Array-apart 𝓛 R full_share single m xs b o) $ fsplit ! $ drop ! $ done !
 
-    pub row-array : length xs ≡ m → ent 𝓤 (sem 𝓛 (row R full_share xs b o)) (guard 𝓤 (Is (Array R m) xs (array_val (map val xs) ∷ [])) (H.at full_share τ b o (array_val (map val xs))))
+    pub row_array : length xs ≡ m → ent 𝓤 (sem 𝓛 (row R full_share xs b o)) (guard 𝓤 (Is (Array R m) xs (array_val (map val xs) ∷ [])) (H.at full_share τ b o (array_val (map val xs))))
     unfolding part_of
-    row-array e =
+    row_array e =
         qed 𝓛 (‵ (row R full_share xs b o) ∷ []) ∵ feq_i ! ℕ (length xs) m e $ fjoin ! $ use1 𝓛 (‵ (part_at (Array R m) full_share xs b o)) (Array-whole 𝓛 R full_share m xs b o) $ fpick ! (λ vs. fsplit ! $ move ! (1 ∷ []) $
         peeks ! (Array R m) (Is (Array R m)) (shows 𝓛 (Array R m)) xs vs (λ are. drop ! $
         rewrite ! 0 (λ (us : List Val). ‵ (cell_at full_share (τ ∷ []) us b o)) (spelt vs are) refl $ check ! (subst (Is (Array R m) xs) (spelt vs are) are) $ by ! (𝓛.laws.raw_at full_share τ b o (array_val (map val xs)))))

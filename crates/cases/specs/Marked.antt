@@ -13,4 +13,4 @@ mark = record { parent = 7777; label = 7777; level = 7777; rows = 7777; least = 
 -- the answer, and the 65 places: those lent as adorning leaves them, the others as they were
 pub record LeftOf (f : Format) (t : List ℕ) (lent : ℕ) (r : Left) : Type 0 where
   pub reply-is : record { number = r.number; place = r.place; rest = r.types } ≡ (adorn f t (replicate lent (told mark))).reply
-  pub places-are : map told r.summaries ≡ (adorn f t (replicate lent (told mark))).summaries ++ replicate (65 - lent) (told mark)
+  pub places_are : map told r.summaries ≡ (adorn f t (replicate lent (told mark))).summaries ++ replicate (65 - lent) (told mark)

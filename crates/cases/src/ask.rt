@@ -47,19 +47,19 @@ fn number_said(levels: u8) -> u32 {
 pub fn asked(head: &[u8]) -> Ask
     requires { length head.now ≡ 40 }
 {
-    let levels = bytes::wide(head[22]);
+    let levels = octets::wide(head[22]);
     let width = width_of(levels);
     Ask {
         width,
         said: number_said(head[22]),
-        row: bytes::long(head, 6),
-        summaries: bytes::wide(head[17]),
-        bytes: bytes_lent(width, bytes::word(head, 14), bytes::wide(head[16])),
-        places: bytes::word(head, 18),
-        for_table: bytes::word(head, 23),
-        for_shape: bytes::word(head, 25),
-        for_tree: bytes::word(head, 31),
-        for_line: bytes::word(head, 33),
+        row: octets::long(head, 6),
+        summaries: octets::wide(head[17]),
+        bytes: bytes_lent(width, octets::word(head, 14), octets::wide(head[16])),
+        places: octets::word(head, 18),
+        for_table: octets::word(head, 23),
+        for_shape: octets::word(head, 25),
+        for_tree: octets::word(head, 31),
+        for_line: octets::word(head, 33),
         indexed: head[35] != 0,
     }
 }

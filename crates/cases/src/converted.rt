@@ -10,7 +10,7 @@ pub fn read_numbers(list: &[u8], numbers: &mut [u16]) {
     let end = smaller(list.len() / 2, numbers.len());
     let mut i = 0;
     while i < end {
-        numbers[i] = bytes::word(list, 2 * i) as u16;
+        numbers[i] = octets::word(list, 2 * i) as u16;
         i += 1;
     }
 }

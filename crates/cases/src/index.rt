@@ -33,7 +33,7 @@ fn folded_rows(sum: usize, list: &[u16]) -> usize {
     let mut sum = sum;
     let mut i = 0;
     while i < list.len() {
-        sum = folded(sum, bytes::wide16(list[i]));
+        sum = folded(sum, octets::wide16(list[i]));
         i += 1;
     }
     sum

@@ -1,6 +1,6 @@
 // Reshaping, with what it is lent: bytes and places are filled before the call, so that what it leaves in each can be told.
 ghost use Rattle.std.specs.Prelude.{◌≡◌, ◌≤◌, ◌<◌, length};
-ghost use Rattle.paper.specs.Format.{rowBytes};
+ghost use Rattle.paper.specs.Format.{row_bytes};
 ghost use Rattle.paper.specs.Widths.{format_of};
 
 use crate::ask::Ask;
@@ -10,9 +10,9 @@ use tables::row::smaller;
 
 // The bytes of a table's record: 24 or 28.
 pub fn record_bytes(width: Width) -> usize
-    ensures { (result ≡ rowBytes (format_of width)) × (1 < result) × (result ≤ 28) }
+    ensures { (result ≡ row_bytes (format_of width)) × (1 < result) × (result ≤ 28) }
 {
-    bytes::row_bytes(paper::format_of(width))
+    octets::row_bytes(paper::format_of(width))
 }
 
 // Room for the bytes of 4,100 wide records: more than a reshape ever uses.

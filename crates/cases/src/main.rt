@@ -110,8 +110,8 @@ fn read_change(held: &mut [u8]) -> bool {
     if io::read_full(STDIN_FILENO, &mut head) < 3 {
         return false;
     }
-    let at = bytes::word(&head, 0);
-    let n = bytes::wide(head[2]);
+    let at = octets::word(&head, 0);
+    let n = octets::wide(head[2]);
     let mut part = [0u8; 255];
     if io::read_full(STDIN_FILENO, &mut part[..n]) < n {
         return false;
@@ -135,13 +135,13 @@ fn read_changes(held: &mut [u8], count: usize) -> bool {
 fn print_held(held: &[u8], head: &[u8]) -> bool
     requires { length head.now ≡ 40 }
 {
-    let n = bytes::word(head, 2);
-    let end = 32768 + bytes::word(head, 4);
-    let lasts = 40960 + 2 * bytes::word(head, 36);
-    let nexts = 45056 + 2 * bytes::word(head, 38);
-    let last = 49152 + bytes::word(head, 20);
-    let listed = 57344 + 2 * bytes::word(head, 27);
-    let read = 61440 + bytes::word(head, 29);
+    let n = octets::word(head, 2);
+    let end = 32768 + octets::word(head, 4);
+    let lasts = 40960 + 2 * octets::word(head, 36);
+    let nexts = 45056 + 2 * octets::word(head, 38);
+    let last = 49152 + octets::word(head, 20);
+    let listed = 57344 + 2 * octets::word(head, 27);
+    let read = 61440 + octets::word(head, 29);
     let most = held.len();
     if most < n || most < end || most < lasts || most < nexts {
         return false;
@@ -168,7 +168,7 @@ fn run_case(held: &mut [u8]) -> bool {
     if io::read_full(STDIN_FILENO, &mut head) < 40 {
         return false;
     }
-    if !read_changes(held, bytes::word(&head, 0)) {
+    if !read_changes(held, octets::word(&head, 0)) {
         return false;
     }
     print_held(held, &head)

@@ -1,7 +1,7 @@
 // Adorning into 65 places of its own, each marked, so that a program without a slice of summaries can run the call and show every place
 // after it.
 ghost use Rattle.std.specs.Prelude.{◌≡◌, ◌≤◌, min, replicate};
-ghost use Rattle.silmezga_c.specs.Told.{formatNumbered};
+ghost use Rattle.silmezga_c.specs.Told.{format_numbered};
 ghost use Rattle.cases.specs.Marked.{mark, LeftOf};
 
 use silmezga::TypeSummary;
@@ -32,7 +32,7 @@ fn marks() -> [TypeSummary; 65]
 // Lends the first n places.
 fn lend(said: u32, table: &[u8], n: usize) -> Left
     requires { n ≤ 65 }
-    ensures { LeftOf (formatNumbered said) table.now n result }
+    ensures { LeftOf (format_numbered said) table.now n result }
 {
     let mut places = marks();
     let r = silmezga_c::silmezga_adorn(said, table, &mut places[..n]);
@@ -46,7 +46,7 @@ fn lend(said: u32, table: &[u8], n: usize) -> Left
 
 // Lends as many places as asked for, at most 65.
 pub fn adorn_marked(said: u32, table: &[u8], lent: usize) -> Left
-    ensures { LeftOf (formatNumbered said) table.now (min lent 65) result }
+    ensures { LeftOf (format_numbered said) table.now (min lent 65) result }
 {
     lend(said, table, tables::row::smaller(lent, 65))
 }

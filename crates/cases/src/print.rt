@@ -11,7 +11,7 @@ pub fn number(before: &[u8], n: usize) {
 pub fn hexadecimal(b: &[u8]) {
     let mut i = 0;
     while i < b.len() {
-        io::print_hex(STDOUT_FILENO, bytes::wide(b[i]) as u64, 2);
+        io::print_hex(STDOUT_FILENO, octets::wide(b[i]) as u64, 2);
         i += 1;
     }
 }
@@ -25,7 +25,7 @@ pub fn folded_bytes(sum: usize, b: &[u8]) -> usize {
     let mut sum = sum;
     let mut i = 0;
     while i < b.len() {
-        sum = folded(sum, bytes::wide(b[i]));
+        sum = folded(sum, octets::wide(b[i]));
         i += 1;
     }
     sum

@@ -11,8 +11,8 @@ use lib.Seq.{drop-cons}
 use borrow.Author.Tests.{eq-eqb, ne_eqb}
 use Rattle.paper.specs.Lists.{keep}
 use Rattle.paper.specs.Format.{Format}
-use Rattle.paper.specs.Tables.{rows, dewey, rowTypes}
-use Rattle.paper.specs.Closeness.{Node, nodesFrom, nodes, ofKind}
+use Rattle.paper.specs.Tables.{rows, dewey, row_types}
+use Rattle.paper.specs.Closeness.{Node, nodes_from, nodes, of_kind}
 use Rattle.types.specs.Types.{kinds}
 use Rattle.closest.specs.Node.{Typed}
 use Rattle.closest.proofs.Nodes.{length-kinds}
@@ -37,40 +37,40 @@ module _ (l : List ℕ) (k c i x : ℕ) (w : Counting l k c i) (lt : i < length 
       let one : many k (drop i l) ≡ suc (many k (drop (i + 1) l)) = ap (many k) (rest_at l i x lt e) ∙ rw (eq-eqb x k q, keep) refl in
       record { inside = omega arith; counted = omega (arith, w.counted); so_far = omega (arith, w.so_far) }
 
-  pub counting-same : (x ≡ k → ⊥) → Counting l k c (i + 1)
-  counting-same ne =
+  pub counting_same : (x ≡ k → ⊥) → Counting l k c (i + 1)
+  counting_same ne =
       let none : many k (drop i l) ≡ many k (drop (i + 1) l) = ap (many k) (rest_at l i x lt e) ∙ rw (ne_eqb x k ne, keep) refl in
       record { inside = omega arith; counted = omega (arith, w.counted); so_far = omega (arith, w.so_far) }
 
-pub counting-end : (l : List ℕ) (k c i : ℕ) → Counting l k c i → length l ≤ i → c ≡ length (keep (λ x. eqb x k) l)
-counting-end l k c i w le = omega (arith, w.so_far, ap (many k) (drop_of_length-le l {i = i} le))
+pub counting_end : (l : List ℕ) (k c i : ℕ) → Counting l k c i → length l ≤ i → c ≡ length (keep (λ x. eqb x k) l)
+counting_end l k c i w le = omega (arith, w.so_far, ap (many k) (drop_of_length-le l {i = i} le))
 
 -- ---- the rows' type numbers are the nodes' kinds
-abbrev pub kindsOf : List Node → List ℕ
-kindsOf t = map (λ (x : Node). x.kind) t
+abbrev pub kinds_of : List Node → List ℕ
+kinds_of t = map (λ (x : Node). x.kind) t
 
-kinds-nodes : (i : ℕ) (ks : List ℕ) (ds : List (List ℕ)) → length ks ≡ length ds → kindsOf (nodesFrom i ks ds) ≡ ks
+kinds-nodes : (i : ℕ) (ks : List ℕ) (ds : List (List ℕ)) → length ks ≡ length ds → kinds_of (nodes_from i ks ds) ≡ ks
 kinds-nodes i [] [] e = refl
 kinds-nodes i [] (d ∷ ds) e = let z : ⊥ = omega arith in absurd z
 kinds-nodes i (k ∷ ks) [] e = let z : ⊥ = omega arith in absurd z
 kinds-nodes i (k ∷ ks) (d ∷ ds) e = ap {B = List ℕ} (λ l. k ∷ l) (kinds-nodes (suc i) ks ds (omega arith))
 
-pub kinds-of-lem : (f : Format) (t : List ℕ) → kindsOf (nodes (rows f t)) ≡ kinds (rows f t)
-unfolding nodes kinds rowTypes
-kinds-of-lem f t = kinds-nodes 0 (kinds (rows f t)) (map dewey (rows f t)) (length-kinds f t ∙ sym (length-map (rows f t) dewey))
+pub kinds_of_lem : (f : Format) (t : List ℕ) → kinds_of (nodes (rows f t)) ≡ kinds (rows f t)
+unfolding nodes kinds row_types
+kinds_of_lem f t = kinds-nodes 0 (kinds (rows f t)) (map dewey (rows f t)) (length-kinds f t ∙ sym (length-map (rows f t) dewey))
 
-many-kind : (t : List Node) (k : ℕ) → many k (kindsOf t) ≡ length (ofKind t k)
-unfolding ofKind
-many-kind [] k = refl
-many-kind (x ∷ t) k = go (eqb x.kind k) refl (many-kind t k)
+many_kind : (t : List Node) (k : ℕ) → many k (kinds_of t) ≡ length (of_kind t k)
+unfolding of_kind
+many_kind [] k = refl
+many_kind (x ∷ t) k = go (eqb x.kind k) refl (many_kind t k)
   where
-    go : (b : Bool) → eqb x.kind k ≡ b → many k (kindsOf t) ≡ length (keep (λ (r : Node). eqb r.kind k) t)
-        → many k (kindsOf (x ∷ t)) ≡ length (keep (λ (r : Node). eqb r.kind k) (x ∷ t))
+    go : (b : Bool) → eqb x.kind k ≡ b → many k (kinds_of t) ≡ length (keep (λ (r : Node). eqb r.kind k) t)
+        → many k (kinds_of (x ∷ t)) ≡ length (keep (λ (r : Node). eqb r.kind k) (x ∷ t))
     go true e ih = rw (e, keep) (ap suc ih)
     go false e ih = rw (e, keep) ih
 
 -- the rows of type k among the type numbers are the nodes of kind k
 pub kinds-count : (f : Format) (n : ℕ) (t ks : List ℕ) → Typed f n t ks → (k : ℕ)
-    → length (keep (λ x. eqb x k) (take n ks)) ≡ length (ofKind (nodes (rows f t)) k)
+    → length (keep (λ x. eqb x k) (take n ks)) ≡ length (of_kind (nodes (rows f t)) k)
 kinds-count f n t ks ty k =
-    ap (many k) (ty.listed ∙ sym (kinds-of-lem f t)) ∙ many-kind (nodes (rows f t)) k
+    ap (many k) (ty.listed ∙ sym (kinds_of_lem f t)) ∙ many_kind (nodes (rows f t)) k

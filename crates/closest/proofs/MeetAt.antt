@@ -9,11 +9,11 @@ use lib.ListN.{get_or}
 use borrow.Author.Tests.{lt-ltb, ltb-true, eqb-true, eq-eqb}
 use Rattle.paper.specs.Format.{Format}
 use Rattle.paper.specs.Tables.{rows}
-use Rattle.paper.specs.Closeness.{Node, nodes, level, meet, meet_at, kindsMeet}
+use Rattle.paper.specs.Closeness.{Node, nodes, level, meet, meet_at, kinds_meet}
 use Rattle.paper.proofs.Lists.{both, and}
 use Rattle.paper.proofs.Agree.{shared-length}
-use Rattle.paper.proofs.Closeness.{Of, kindsMeet-from}
-use Rattle.paper.proofs.Tables.{rows-laid, one-level}
+use Rattle.paper.proofs.Closeness.{Of, kinds_meet-from}
+use Rattle.paper.proofs.Tables.{rows_laid, one-level}
 use Rattle.closest.specs.Node.{node, Typed}
 use Rattle.closest.proofs.Meets.{here, kind_at}
 
@@ -37,18 +37,18 @@ module _ (f : Format) (n : ℕ) (t ks : List ℕ) (ty : Typed f n t ks) (r : ℕ
   abbrev ns : List Node
   ns = nodes (rows f t)
 
-  module _ (k l : ℕ) (el : l ≡ kindsMeet (nodes (rows f t)) (get_or ks r 0) k) where
+  module _ (k l : ℕ) (el : l ≡ kinds_meet (nodes (rows f t)) (get_or ks r 0) k) where
     of : (i k : ℕ) → i < n → get_or ks i 0 ≡ k → Of ns k (at i)
     of i k lt e = (here f n t ks ty i lt, sym (kind_at f n t ks ty i lt) ∙ e)
 
     -- row r is at least as deep as its type meets the other
     pub deep : 0 < l → l ≤ level (node f t r)
     deep pos =
-        let (x, y, ox, oy, e) = kindsMeet-from ns (get_or ks r 0) k (omega arith) in
+        let (x, y, ox, oy, e) = kinds_meet-from ns (get_or ks r 0) k (omega arith) in
         let own = of r (get_or ks r 0) lr refl in
         omega (
           arith,
           e,
           shared-length x.dewey y.dewey,
-          one-level f (rows f t) (rows-laid f t) ty.sound.kept x (at r) ox.0 own.0 (ox.1 ∙ sym own.1),
+          one-level f (rows f t) (rows_laid f t) ty.sound.kept x (at r) ox.0 own.0 (ox.1 ∙ sym own.1),
         )

@@ -6,28 +6,28 @@ use mathlib.Core.List.{List}
 use mathlib.Core.Option.{Option, none, some}
 use lib.ListN.{length, take}
 use borrow.Author.Tests.{lt-ltb}
-use Rattle.paper.specs.Format.{Format, mostRows, mostTypes, rowBytes, whole}
-use Rattle.paper.specs.Tables.{Row, rows, types, badRow}
-use Rattle.paper.specs.Calls.{Answer, refused, given, ◌>>=◌, refuseAt, examine, typeTooMany, tests1-3, tests1-4}
-use Rattle.paper.proofs.Calls.{passed1-3, pass1-4, few-rows, count-rows}
-use Rattle.bytes.specs.Served.{Served}
+use Rattle.paper.specs.Format.{Format, most_rows, most_types, row_bytes, whole}
+use Rattle.paper.specs.Tables.{Row, rows, types, bad_row}
+use Rattle.paper.specs.Calls.{Answer, refused, given, ◌>>=◌, refuse_at, examine, type_too_many, tests1_3, tests1_4}
+use Rattle.paper.proofs.Calls.{passed1_3, pass1_4, few_rows, count-rows}
+use Rattle.octets.specs.Served.{Served}
 use Rattle.tables.specs.Place.{place_of}
 use Rattle.tables.specs.Reply.{examined}
 use Rattle.tables.specs.declared.table.Examined.{Examined}
 use Rattle.tables.proofs.Examine as table-laws
 use Rattle.types.specs.Types.{Lists}
 use Rattle.types.specs.declared.list.Types.{Types}
-use Rattle.types.proofs.Few.{few-from}
+use Rattle.types.proofs.Few.{few_from}
 use Rattle.types.proofs.Told.{told}
 use Rattle.closest.specs.Node.{Typed}
 use Rattle.closest.specs.Runs.{SoundRows, LevelsOf, Rows}
 use Rattle.closest.specs.Rows.{ReadRows}
 use Rattle.closest.specs.declared.rows.RowsRead.{RowsRead}
-use Rattle.closest.proofs.Meets.{kind-few, ks-long}
+use Rattle.closest.proofs.Meets.{kind_few, ks_long}
 
 -- a refusal is no rows
 pub refusal : (f : Format) (t : List ℕ) (r : RowsRead) (levels ks : List ℕ) (k p : ℕ) → (r.number ≡ k) × (r.place ≡ p) → (k ≡ 0 → ⊥)
-    → tests1-4 f t ≡ refused k p → ReadRows f t r levels ks
+    → tests1_4 f t ≡ refused k p → ReadRows f t r levels ks
 refusal f t r levels ks k p is ne e = record {
   refused-is = λ _. e ∙ ap₂ (λ a b. refused a b) (sym is.0) (sym is.1);
   given_is = λ z. absurd (ne (sym is.0 ∙ z));
@@ -36,37 +36,37 @@ refusal f t r levels ks k p is ne e = record {
 
 -- ---- the tests, from what each finds
 abbrev listed : List Row → Option ℕ → Answer (List Row)
-listed rs o = refuseAt 4 o >>= (λ _. given rs)
+listed rs o = refuse_at 4 o >>= (λ _. given rs)
 
 abbrev tabled : Answer (List Row) → Answer (List Row)
-tabled a = a >>= (λ (rs : List Row). listed rs (typeTooMany rs))
+tabled a = a >>= (λ (rs : List Row). listed rs (type_too_many rs))
 
-tests-are : (f : Format) (t : List ℕ) → tests1-4 f t ≡ tabled (tests1-3 f t)
-unfolding tests1-4
-tests-are f t = refl
+tests_are : (f : Format) (t : List ℕ) → tests1_4 f t ≡ tabled (tests1_3 f t)
+unfolding tests1_4
+tests_are f t = refl
 
 -- ---- tests 1 to 3
 -- the table passes them, and has so many rows
 pub record Tabled (f : Format) (t : List ℕ) (n : ℕ) : Type 0 where
-  pub passed : tests1-3 f t ≡ given (rows f t)
-  pub whole-rows : n ≡ whole (rowBytes f) t
-  pub kept : badRow f (rows f t) ≡ none
-  pub few : n ≤ mostRows
+  pub passed : tests1_3 f t ≡ given (rows f t)
+  pub whole-rows : n ≡ whole (row_bytes f) t
+  pub kept : bad_row f (rows f t) ≡ none
+  pub few : n ≤ most_rows
 
 module _ (f : Format) (t : List ℕ) (x : Examined) (e : examined x ≡ examine f t) where
-  pub table-refused : (x.number ≡ 0 → ⊥) → tests1-4 f t ≡ refused x.number x.place
-  table-refused ne = tests-are f t ∙ ap tabled (table-laws.examined-refused f t x.number x.place x.rows e ne)
+  pub table-refused : (x.number ≡ 0 → ⊥) → tests1_4 f t ≡ refused x.number x.place
+  table-refused ne = tests_are f t ∙ ap tabled (table-laws.examined-refused f t x.number x.place x.rows e ne)
 
-  pub table-passed : x.number ≡ 0 → Tabled f t x.rows
-  table-passed z =
+  pub table_passed : x.number ≡ 0 → Tabled f t x.rows
+  table_passed z =
       let (g, w) = table-laws.examined-given f t x.number x.place x.rows e z in
-      let (same, k, short) = passed1-3 f t (rows f t) g in
-      record { passed = g; whole-rows = w; kept = k; few = omega (arith, w, few-rows f t short, count-rows f t) }
+      let (same, k, short) = passed1_3 f t (rows f t) g in
+      record { passed = g; whole-rows = w; kept = k; few = omega (arith, w, few_rows f t short, count-rows f t) }
 
 -- what listing its types asks for
-pub list-asked : {f : Format} → Served f → {t : List ℕ} {n : ℕ} → Tabled f t n
-    → ((n ≡ whole (rowBytes f) t) × (n ≤ mostRows) × (f.levels ≤ 8)) × (badRow f (rows f t) ≡ none)
-list-asked served table = ((table.whole-rows, table.few, served.shallow), table.kept)
+pub list_asked : {f : Format} → Served f → {t : List ℕ} {n : ℕ} → Tabled f t n
+    → ((n ≡ whole (row_bytes f) t) × (n ≤ most_rows) × (f.levels ≤ 8)) × (bad_row f (rows f t) ≡ none)
+list_asked served table = ((table.whole-rows, table.few, served.shallow), table.kept)
 
 -- ---- test 4
 -- the table passes test 4 too, ty is the list of its types, and ks has its rows' type numbers
@@ -76,48 +76,48 @@ pub record Listed (f : Format) (t : List ℕ) (n : ℕ) (ks : List ℕ) (ty : Ty
   pub late : length (rows f t) ≤ ty.over
 
 module _ {f : Format} {t : List ℕ} {n : ℕ} {ks : List ℕ} {ty : Types} (table : Tabled f t n) (lists : Lists (rows f t) ks ty) where
-  pub types-refused : ty.over < n → tests1-4 f t ≡ refused 4 ty.over
+  pub types-refused : ty.over < n → tests1_4 f t ≡ refused 4 ty.over
   unfolding place_of
   types-refused lt =
       let inside : ty.over < length (rows f t) = omega (arith, table.whole-rows, count-rows f t) in
       let is : place_of ty.over (length (rows f t)) ≡ some ty.over = rw (lt-ltb ty.over (length (rows f t)) inside, place_of) refl in
-      tests-are f t ∙ ap tabled table.passed ∙ ap (listed (rows f t)) (lists.over ∙ is)
+      tests_are f t ∙ ap tabled table.passed ∙ ap (listed (rows f t)) (lists.over ∙ is)
 
   pub types-listed : n ≤ ty.over → Listed f t n ks ty
   types-listed le = record { table = table; lists = lists; late = omega (arith, table.whole-rows, count-rows f t) }
 
 -- ---- the rows
 module _ {f : Format} {t : List ℕ} {n : ℕ} {ks : List ℕ} {ty : Types} (served : Served f) (l : Listed f t n ks ty) where
-  few-types : length (types (rows f t)) ≤ mostTypes
-  few-types = few-from (rows f t) ty.over (length (rows f t)) l.lists.over l.late
+  few_types : length (types (rows f t)) ≤ most_types
+  few_types = few_from (rows f t) ty.over (length (rows f t)) l.lists.over l.late
 
   -- what reading their levels asks for
   pub sound-rows : SoundRows f n t
   sound-rows = record {
     sound = record { kept = l.table.kept; shallow = omega (arith, served.shallow) };
-    rows-n = l.table.whole-rows ∙ sym (count-rows f t);
+    rows_n = l.table.whole-rows ∙ sym (count-rows f t);
     few = l.table.few;
   }
 
   typed-rows : Typed f n t ks
   typed-rows = record {
     sound = sound-rows.sound;
-    rows-n = sound-rows.rows-n;
-    listed = ap (λ m. take m ks) sound-rows.rows-n ∙ l.lists.typed l.late;
+    rows_n = sound-rows.rows_n;
+    listed = ap (λ m. take m ks) sound-rows.rows_n ∙ l.lists.typed l.late;
   }
 
-  module _ (levels : List ℕ) (long : length levels ≡ mostRows) (ls : LevelsOf f n t levels) where
+  module _ (levels : List ℕ) (long : length levels ≡ most_rows) (ls : LevelsOf f n t levels) where
     rows_are : Rows n levels ks
     rows_are = record {
       few = l.table.few;
-      levels-long = omega (arith, l.table.few);
-      types_long = ks-long f n t ks typed-rows;
+      levels_long = omega (arith, l.table.few);
+      types_long = ks_long f n t ks typed-rows;
       level-some = ls.level-some;
-      type-few = λ i lt. omega (arith, kind-few f n t ks typed-rows i lt, few-types);
+      type_few = λ i lt. omega (arith, kind_few f n t ks typed-rows i lt, few_types);
     }
 
-    passes : tests1-4 f t ≡ given (rows f t)
-    passes = pass1-4 f t l.table.passed few-types
+    passes : tests1_4 f t ≡ given (rows f t)
+    passes = pass1_4 f t l.table.passed few_types
 
     pub rows-read : ReadRows f t (record { number = 0; place = 0; rows = n; count = ty.count; parents = ty.parents; labels = ty.labels }) levels ks
     rows-read = record {
@@ -126,7 +126,7 @@ module _ {f : Format} {t : List ℕ} {n : ℕ} {ks : List ℕ} {ty : Types} (ser
       read = λ _. record {
         given_is = passes;
         levelled = record { typed = typed-rows; level-is = ls.level-is };
-        levels-are = ls;
+        levels_are = ls;
         rows_are = rows_are;
         told = told (rows f t) ks ty l.lists l.late;
       };

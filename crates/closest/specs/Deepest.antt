@@ -1,6 +1,6 @@
 -- How deep the rows of one type meet those of another that stand at or after them. Assumes nothing.
 use Rattle.std.specs.Prelude.{ℕ, zero, suc, ◌+◌, ◌*◌, ◌≤◌, ◌<◌, min, max, pred, ◌≡◌, ◌⊎◌, true, false, List, eqb, get_or, replicate}
-use Rattle.paper.specs.Format.{Format, mostTypes, mostEntries}
+use Rattle.paper.specs.Format.{Format, most_types, most_entries}
 use Rattle.paper.specs.Closeness.{meet}
 use Rattle.closest.specs.Node.{node}
 
@@ -15,7 +15,7 @@ onward k a l m = elim (eqb k a) [ true ↦ l | false ↦ min m (pred l) ]
 
 -- the same for each of the wanted types
 abbrev pub Onward : List ℕ → ℕ → ℕ → List ℕ → List ℕ → Type 0
-Onward wanted k l near on = (e : ℕ) → e < mostEntries → get_or on e 0 ≡ onward k (get_or wanted e 0) l (get_or near e 0)
+Onward wanted k l near on = (e : ℕ) → e < most_entries → get_or on e 0 ≡ onward k (get_or wanted e 0) l (get_or near e 0)
 
 -- ---- read off the rows' levels and types
 module _ (levels types : List ℕ) (a : ℕ) where
@@ -30,8 +30,8 @@ module _ (levels types : List ℕ) (a : ℕ) where
   deepest k (suc i) = elim (eqb (get_or types i 0) k) [ true ↦ max (deepest k i) (nearest (suc i)) | false ↦ deepest k i ]
 
 -- the level at which two types meet: the deeper of the two, rows of the one before those of the other or the other way round
-abbrev pub typesMeet : List ℕ → List ℕ → ℕ → ℕ → ℕ → ℕ
-typesMeet levels types rows a b = max (deepest levels types a b rows) (deepest levels types b a rows)
+abbrev pub types_meet : List ℕ → List ℕ → ℕ → ℕ → ℕ → ℕ
+types_meet levels types rows a b = max (deepest levels types a b rows) (deepest levels types b a rows)
 
 -- so many places from `at` on are the deeper of what they were and of `near`, and the others are as they were
 pub record Deepened (count at : ℕ) (near before after : List ℕ) : Type 0 where
@@ -39,10 +39,10 @@ pub record Deepened (count at : ℕ) (near before after : List ℕ) : Type 0 whe
   pub others : (j : ℕ) → (j < at) ⊎ (at + count ≤ j) → get_or after j 0 ≡ get_or before j 0
 
 -- the places before any row is walked
-abbrev pub noMeetings : List ℕ
-noMeetings = replicate (mostEntries * mostTypes) 0
+abbrev pub no_meetings : List ℕ
+no_meetings = replicate (most_entries * most_types) 0
 
 -- for each of 64 types, 16 places: how deep its rows meet those of each wanted type at or before them
 abbrev pub Meetings : ℕ → List ℕ → List ℕ → List ℕ → List ℕ → Type 0
 Meetings rows levels types wanted m =
-    (k e : ℕ) → k < mostTypes → e < mostEntries → get_or m (mostEntries * k + e) 0 ≡ deepest levels types (get_or wanted e 0) k rows
+    (k e : ℕ) → k < most_types → e < most_entries → get_or m (most_entries * k + e) 0 ≡ deepest levels types (get_or wanted e 0) k rows

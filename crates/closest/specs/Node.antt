@@ -3,23 +3,23 @@ use Rattle.std.specs.Prelude.{ℕ, ◌≤◌, ◌<◌, ◌≡◌, true, List, le
 use Rattle.std.proofs.Math.Option.{none}
 use Rattle.paper.specs.Format.{Format}
 use Rattle.paper.specs.Tables as Tables
-use Rattle.paper.specs.Tables.{row_of, rowPart, dewey, badRow}
+use Rattle.paper.specs.Tables.{row_of, row_part, dewey, bad_row}
 use Rattle.paper.specs.Closeness.{Node, meet_at}
 use Rattle.types.specs.Types.{kinds}
 
 -- row i of a table
 abbrev pub node : Format → List ℕ → ℕ → Node
-node f t i = record { place = i; kind = get_or (kinds (Tables.rows f t)) i 0; dewey = dewey (row_of f (rowPart f t i)) }
+node f t i = record { place = i; kind = get_or (kinds (Tables.rows f t)) i 0; dewey = dewey (row_of f (row_part f t i)) }
 
 -- the table keeps the row rules and has few enough levels for the leaves
 pub record Sound (f : Format) (t : List ℕ) : Type 0 where
-  pub kept : badRow f (Tables.rows f t) ≡ none
+  pub kept : bad_row f (Tables.rows f t) ≡ none
   pub shallow : f.levels ≤ 255
 
 -- and its rows have these type numbers
 pub record Typed (f : Format) (rows : ℕ) (t types : List ℕ) : Type 0 where
   pub sound : Sound f t
-  pub rows-n : rows ≡ length (Tables.rows f t)
+  pub rows_n : rows ≡ length (Tables.rows f t)
   pub listed : take rows types ≡ kinds (Tables.rows f t)
 
 -- p is the next row of type k, at or after `from`, that meets row r at level l and not at 0; past the rows for none

@@ -3,16 +3,16 @@ use Rattle.std.specs.Prelude.{ℕ, ◌≡◌, List}
 use Rattle.paper.specs.Format.{Format}
 use Rattle.paper.specs.Tables as Tables
 use Rattle.paper.specs.Tables.{Row}
-use Rattle.paper.specs.Calls.{Answer, refused, given, tests1-4}
+use Rattle.paper.specs.Calls.{Answer, refused, given, tests1_4}
 use Rattle.types.specs.Types.{Told}
 use Rattle.closest.specs.Runs.{LevelsOf, Levelled, Rows}
 use Rattle.closest.specs.declared.rows.RowsRead.{RowsRead}
 
 -- the table t passes tests 1 to 4, r has the number of its rows and lists its types, and these are its rows' levels and type numbers
 pub record RowsIn (f : Format) (t : List ℕ) (r : RowsRead) (levels types : List ℕ) : Type 0 where
-  pub given_is : tests1-4 f t ≡ given (Tables.rows f t)
+  pub given_is : tests1_4 f t ≡ given (Tables.rows f t)
   pub levelled : Levelled f r.rows t levels types
-  pub levels-are : LevelsOf f r.rows t levels
+  pub levels_are : LevelsOf f r.rows t levels
   pub rows_are : Rows r.rows levels types
   pub told : Told (Tables.types (Tables.rows f t)) r.parents r.labels r.count
 
@@ -28,4 +28,4 @@ pub record Reads (tests : Answer (List Row)) (f : Format) (t : List ℕ) (r : Ro
 
 -- what 1 to 4 say of it, and its rows
 abbrev pub ReadRows : Format → List ℕ → RowsRead → List ℕ → List ℕ → Type 0
-ReadRows f t r levels types = Reads (tests1-4 f t) f t r levels types
+ReadRows f t r levels types = Reads (tests1_4 f t) f t r levels types

@@ -15,7 +15,7 @@ pub fn count_rows(types: &[u8], rows: usize, k: usize) -> usize
     let mut c = 0;
     let mut i = 0;
     while i < rows {
-        if bytes::wide(types[i]) == k {
+        if octets::wide(types[i]) == k {
             c += 1;
             i += 1;
         } else {

@@ -1,20 +1,20 @@
 // Where types meet, found for all wanted types in one walk along the rows' levels.
 ghost use Rattle.std.specs.Prelude.{◌≡◌, ◌+◌, ◌≤◌, length};
-ghost use Rattle.paper.specs.Format.{mostRows, mostEntries};
+ghost use Rattle.paper.specs.Format.{most_rows, most_entries};
 ghost use Rattle.closest.specs.Runs.{SoundRows, LevelsOf, Rows};
-ghost use Rattle.closest.specs.Deepest.{Onward, Deepened, noMeetings, Meetings};
+ghost use Rattle.closest.specs.Deepest.{Onward, Deepened, no_meetings, Meetings};
 
 use paper::Format;
 
 // Each row's level, into the lent list.
 pub fn row_levels(table: &[u8], f: Format, rows: usize, levels: &mut [u8])
-    requires { SoundRows f rows table.now × (length levels.old ≡ mostRows) }
+    requires { SoundRows f rows table.now × (length levels.old ≡ most_rows) }
     ensures { LevelsOf f rows table.now levels.new }
 {
-    let w = bytes::row_bytes(f);
+    let w = octets::row_bytes(f);
     let mut i = 0;
     while i < rows {
-        let row = bytes::record(table, w, i);
+        let row = octets::record(table, w, i);
         levels[i] = row[0];
         i += 1;
     }
@@ -39,8 +39,8 @@ fn onward(near: [u8; 16], wanted: [u8; 16], k: u8, l: u8) -> [u8; 16]
 
 // The deeper of the two, place by place.
 fn deepen(deepest: &mut [u8], at: usize, near: [u8; 16])
-    requires { at + mostEntries ≤ length deepest.old }
-    ensures { Deepened mostEntries at near deepest.old deepest.new }
+    requires { at + most_entries ≤ length deepest.old }
+    ensures { Deepened most_entries at near deepest.old deepest.new }
 {
     let mut e = 0;
     while e < 16 {
@@ -53,7 +53,7 @@ fn deepen(deepest: &mut [u8], at: usize, near: [u8; 16])
 // How deep the rows of each type meet those of each wanted type at or before them, 16 places a type, into the lent list of zeros. Two types
 // meet at the deeper of their two places.
 pub fn meetings(levels: &[u8], types: &[u8], rows: usize, wanted: [u8; 16], deepest: &mut [u8])
-    requires { Rows rows levels.now types.now × (deepest.old ≡ noMeetings) }
+    requires { Rows rows levels.now types.now × (deepest.old ≡ no_meetings) }
     ensures { Meetings rows levels.now types.now wanted deepest.new }
 {
     let mut near = [0u8; 16];
@@ -62,7 +62,7 @@ pub fn meetings(levels: &[u8], types: &[u8], rows: usize, wanted: [u8; 16], deep
         let k = types[i];
         let next = onward(near, wanted, k, levels[i]);
         near = next;
-        deepen(deepest, 16 * bytes::wide(k), near);
+        deepen(deepest, 16 * octets::wide(k), near);
         i += 1;
     }
 }

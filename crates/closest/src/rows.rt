@@ -1,8 +1,8 @@
 // The rows of a table, read once: refusals 1 to 4, or what the calls that walk rows need of them. Nothing here depends on a shape, so that
 // what is read may be tested by itself before a shape is looked at.
 ghost use Rattle.std.specs.Prelude.{◌≡◌, length};
-ghost use Rattle.paper.specs.Format.{mostRows};
-ghost use Rattle.bytes.specs.Served.{Served};
+ghost use Rattle.paper.specs.Format.{most_rows};
+ghost use Rattle.octets.specs.Served.{Served};
 ghost use Rattle.closest.specs.Rows.{ReadRows};
 
 use crate::meet::row_levels;
@@ -37,7 +37,7 @@ fn unread(number: usize, place: usize) -> RowsRead
 
 // Refusals 1 to 4 in their order, or the rows: each row's level and type number are found in the lent lists.
 pub fn read_rows(table: &[u8], f: Format, levels: &mut [u8], types: &mut [u8]) -> RowsRead
-    requires { Served f × (length levels.old ≡ mostRows) × (length types.old ≡ mostRows) }
+    requires { Served f × (length levels.old ≡ most_rows) × (length types.old ≡ most_rows) }
     ensures { ReadRows f table.now result levels.new types.new }
 {
     let examined = examine(table, f);

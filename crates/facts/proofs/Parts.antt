@@ -15,5 +15,5 @@ pub room : {l l' : List ℕ} {at i c : ℕ} → at < length l → Put l at (c �
 room lt p = omega (arith, as_long p, p.ends)
 
 -- A text, and the number that is asked for.
-pub put-number-as : {l l' : List ℕ} {at i : ℕ} (t : List ℕ) {n m : ℕ} → n ≡ m → Put l at (t ++ decimal n) l' i → Put l at (t ++ decimal m) l' i
-put-number-as t e p = put_as p (ap (λ x. t ++ decimal x) e)
+pub put_number_as : {l l' : List ℕ} {at i : ℕ} (t : List ℕ) {n m : ℕ} → n ≡ m → Put l at (t ++ decimal n) l' i → Put l at (t ++ decimal m) l' i
+put_number_as t e p = put_as p (ap (λ x. t ++ decimal x) e)

@@ -4,44 +4,44 @@ use Rattle.paper.specs.Lists.{joined}
 use Rattle.paper.specs.Format.{Format, byte, word, signed}
 use Rattle.paper.specs.Tables.{row_of, dewey}
 use Rattle.paper.specs.Shapes.{entry_of, named}
-use Rattle.grammar.specs.Text.{ascii, space, decimal, signedText, followed, parted}
-use Rattle.grammar.specs.Names.{nameText}
-use Rattle.listing.specs.Listing.{lined, deweyText}
+use Rattle.grammar.specs.Text.{ascii, space, decimal, signed_text, followed, parted}
+use Rattle.grammar.specs.Names.{name_text}
+use Rattle.listing.specs.Listing.{lined, dewey_text}
 
 -- the parts, one after the other, as a line
-unfoldable pub joinedLine : List (List ℕ) → List ℕ
-joinedLine ps = lined (joined ps)
+unfoldable pub joined_line : List (List ℕ) → List ℕ
+joined_line ps = lined (joined ps)
 
 -- the names of labels, a space before each
-unfoldable pub namesText : List ℕ → List ℕ
-namesText ks = followed space (map nameText ks)
+unfoldable pub names_text : List ℕ → List ℕ
+names_text ks = followed space (map name_text ks)
 
 -- the type that an entry's record holds: as many of its labels as it is long, from the root down
-unfoldable pub labelsText : Format → List ℕ → List ℕ
-labelsText f entry = namesText (named (entry_of f entry))
+unfoldable pub labels_text : Format → List ℕ → List ℕ
+labels_text f entry = names_text (named (entry_of f entry))
 
 -- an entry's number and the labels of its type
-unfoldable pub entryText : Format → ℕ → List ℕ → List ℕ
-entryText f e entry = joinedLine (ascii "entry " ∷ decimal e ∷ ascii ":" ∷ labelsText f entry ∷ [])
+unfoldable pub entry_text : Format → ℕ → List ℕ → List ℕ
+entry_text f e entry = joined_line (ascii "entry " ∷ decimal e ∷ ascii ":" ∷ labels_text f entry ∷ [])
 
 -- a row's number, its Dewey number, the labels of its type, which is held as an entry's record holds it, and its value
-unfoldable pub rowText : Format → ℕ → List ℕ → List ℕ → List ℕ
-rowText f r row held =
+unfoldable pub row_text : Format → ℕ → List ℕ → List ℕ → List ℕ
+row_text f r row held =
     let fields = row_of f row in
-    joinedLine
+    joined_line
     (ascii "row "
     ∷ decimal r
     ∷ ascii ": "
-    ∷ deweyText (dewey fields)
+    ∷ dewey_text (dewey fields)
     ∷ ascii ","
-    ∷ labelsText f held
+    ∷ labels_text f held
     ∷ ascii ", value "
-    ∷ signedText (signed fields.value)
+    ∷ signed_text (signed fields.value)
     ∷ [])
 
 -- the fields that a row has before its Dewey number, at either width
-unfoldable pub rowHead : ℕ → List ℕ → List ℕ
-rowHead r row =
+unfoldable pub row_head : ℕ → List ℕ → List ℕ
+row_head r row =
     joined
     (ascii "row "
     ∷ decimal r
@@ -54,14 +54,14 @@ rowHead r row =
     ∷ [])
 
 -- every field of a row, whether or not it keeps the rules
-unfoldable pub rowFields : Format → ℕ → List ℕ → List ℕ
-rowFields f r row =
+unfoldable pub row_fields : Format → ℕ → List ℕ → List ℕ
+row_fields f r row =
     let fields = row_of f row in
-    joinedLine (rowHead r row ∷ ascii ", number " ∷ deweyText fields.components ∷ ascii ", value " ∷ signedText (signed fields.value) ∷ [])
+    joined_line (row_head r row ∷ ascii ", number " ∷ dewey_text fields.components ∷ ascii ", value " ∷ signed_text (signed fields.value) ∷ [])
 
 -- the fields that an entry has before its labels, at either width
-unfoldable pub entryHead : ℕ → List ℕ → List ℕ
-entryHead e entry =
+unfoldable pub entry_head : ℕ → List ℕ → List ℕ
+entry_head e entry =
     joined
     (ascii "entry "
     ∷ decimal e
@@ -74,9 +74,9 @@ entryHead e entry =
     ∷ [])
 
 -- every field of an entry, whether or not it keeps the rules
-unfoldable pub entryFields : Format → ℕ → List ℕ → List ℕ
-entryFields f e entry = joinedLine (entryHead e entry ∷ ascii ", labels " ∷ deweyText (entry_of f entry).labels ∷ [])
+unfoldable pub entry_fields : Format → ℕ → List ℕ → List ℕ
+entry_fields f e entry = joined_line (entry_head e entry ∷ ascii ", labels " ∷ dewey_text (entry_of f entry).labels ∷ [])
 
 -- `edge`, the entry, the last labels of its parent entry's type and of its own, and its four numbers
-unfoldable pub edgeFact : ℕ → ℕ → ℕ → List ℕ → List ℕ
-edgeFact e over own numbers = lined (parted space (ascii "edge" ∷ decimal e ∷ nameText over ∷ nameText own ∷ map decimal numbers))
+unfoldable pub edge_fact : ℕ → ℕ → ℕ → List ℕ → List ℕ
+edge_fact e over own numbers = lined (parted space (ascii "edge" ∷ decimal e ∷ name_text over ∷ name_text own ∷ map decimal numbers))

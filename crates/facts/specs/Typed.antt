@@ -8,5 +8,5 @@ unfoldable pub shown : ℕ → ℕ
 shown b = elim (ltb b 32) [ true ↦ 63 | false ↦ elim (ltb 126 b) [ true ↦ 63 | false ↦ b ] ]
 
 -- the text as it is shown, and on a line below it a mark under its byte at this place, or behind its last byte
-unfoldable pub markedText : List ℕ → ℕ → List ℕ
-markedText text place = joined (ascii "tree: " ∷ map shown text ∷ ascii "\n" ∷ replicate (6 + place) space ∷ ascii "^\n" ∷ [])
+unfoldable pub marked_text : List ℕ → ℕ → List ℕ
+marked_text text place = joined (ascii "tree: " ∷ map shown text ∷ ascii "\n" ∷ replicate (6 + place) space ∷ ascii "^\n" ∷ [])

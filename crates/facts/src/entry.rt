@@ -1,11 +1,11 @@
 // An entry of a shape: its type by label names, or its fields as they stand.
 ghost use Rattle.std.specs.Prelude.{◌≡◌, ◌++◌, ◌+◌, ◌*◌, ◌≤◌, length};
 ghost use Rattle.io.specs.Counts.{IsPrefixLen};
-ghost use Rattle.paper.specs.Format.{entryBytes, words};
-ghost use Rattle.bytes.specs.Served.{Served, mostLevels};
+ghost use Rattle.paper.specs.Format.{entry_bytes, words};
+ghost use Rattle.octets.specs.Served.{Served, most_levels};
 ghost use Rattle.grammar.specs.Text.{decimal};
 ghost use Rattle.names.specs.Put.{Put};
-ghost use Rattle.facts.specs.Facts.{namesText, labelsText, entryText, entryHead, entryFields};
+ghost use Rattle.facts.specs.Facts.{names_text, labels_text, entry_text, entry_head, entry_fields};
 
 use listing::line::put_list;
 use names::names::put_name;
@@ -15,14 +15,14 @@ use tables::row::smaller;
 
 // The names of the first n labels of an entry's record, a space before each.
 fn put_names(out: &mut [u8], at: usize, entry: &[u8], n: usize) -> usize
-    requires { (at + 168 ≤ length out.old) × (4 + 2 * n ≤ length entry.now) × (n ≤ mostLevels) }
-    ensures { Put out.old at (namesText (words n entry.now 4)) out.new result × (result ≤ at + 168) }
+    requires { (at + 168 ≤ length out.old) × (4 + 2 * n ≤ length entry.now) × (n ≤ most_levels) }
+    ensures { Put out.old at (names_text (words n entry.now 4)) out.new result × (result ≤ at + 168) }
 {
     let mut p = at;
     let mut k = 0;
     while k < n {
         let gap = put_byte(out, p, b' ');
-        p = put_name(out, gap, bytes::word(entry, 4 + 2 * k));
+        p = put_name(out, gap, octets::word(entry, 4 + 2 * k));
         k += 1;
     }
     p
@@ -31,10 +31,10 @@ fn put_names(out: &mut [u8], at: usize, entry: &[u8], n: usize) -> usize
 // The names of the labels of an entry's type.
 pub fn put_labels(out: &mut [u8], at: usize, entry: &[u8], f: Format) -> usize
     requires served { Served f }
-    requires at_in_bounds { (at + 168 ≤ length out.old) × (entryBytes f ≤ length entry.now) }
-    ensures { Put out.old at (labelsText f entry.now) out.new result × (result ≤ at + 168) }
+    requires at_in_bounds { (at + 168 ≤ length out.old) × (entry_bytes f ≤ length entry.now) }
+    ensures { Put out.old at (labels_text f entry.now) out.new result × (result ≤ at + 168) }
 {
-    let n = smaller(bytes::wide(entry[1]), f.levels);
+    let n = smaller(octets::wide(entry[1]), f.levels);
     put_names(out, at, entry, n)
 }
 
@@ -50,8 +50,8 @@ pub fn put_named(out: &mut [u8], at: usize, text: &[u8], n: usize) -> usize
 // An entry's number and the labels of its type, at the front of the buffer.
 pub fn put_entry(out: &mut [u8; 512], e: usize, entry: &[u8], f: Format) -> usize
     requires served { Served f }
-    requires len { length entry.now ≡ entryBytes f }
-    ensures put { Put out.old 0 (entryText f e entry.now) out.new result }
+    requires len { length entry.now ≡ entry_bytes f }
+    ensures put { Put out.old 0 (entry_text f e entry.now) out.new result }
     ensures prefix_len { IsPrefixLen result out.new }
 {
     let number = put_named(out, 0, b"entry ", e);
@@ -63,19 +63,19 @@ pub fn put_entry(out: &mut [u8; 512], e: usize, entry: &[u8], f: Format) -> usiz
 // The fields that an entry has before its labels, at the front of the buffer.
 fn put_entry_head(out: &mut [u8; 512], e: usize, entry: &[u8]) -> usize
     requires { 4 ≤ length entry.now }
-    ensures { Put out.old 0 (entryHead e entry.now) out.new result × (result ≤ 128) }
+    ensures { Put out.old 0 (entry_head e entry.now) out.new result × (result ≤ 128) }
 {
     let number = put_named(out, 0, b"entry ", e);
-    let level = put_named(out, number, b": level ", bytes::wide(entry[0]));
-    let size = put_named(out, level, b", length of its type ", bytes::wide(entry[1]));
-    put_named(out, size, b", zero bytes ", bytes::word(entry, 2))
+    let level = put_named(out, number, b": level ", octets::wide(entry[0]));
+    let size = put_named(out, level, b", length of its type ", octets::wide(entry[1]));
+    put_named(out, size, b", zero bytes ", octets::word(entry, 2))
 }
 
 // An entry's fields as they stand, at the front of the buffer.
 pub fn put_entry_fields(out: &mut [u8; 512], e: usize, entry: &[u8], f: Format) -> usize
     requires served { Served f }
-    requires len { length entry.now ≡ entryBytes f }
-    ensures put { Put out.old 0 (entryFields f e entry.now) out.new result }
+    requires len { length entry.now ≡ entry_bytes f }
+    ensures put { Put out.old 0 (entry_fields f e entry.now) out.new result }
     ensures prefix_len { IsPrefixLen result out.new }
 {
     let head = put_entry_head(out, e, entry);

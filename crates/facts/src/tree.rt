@@ -3,7 +3,7 @@ ghost use Rattle.std.specs.Prelude.{◌≡◌, map, ◌+◌, ◌≤◌, length, 
 ghost use Rattle.io.specs.Counts.{IsPrefixLen};
 ghost use Rattle.grammar.specs.Text.{space};
 ghost use Rattle.names.specs.Put.{Put};
-ghost use Rattle.facts.specs.Typed.{shown, markedText};
+ghost use Rattle.facts.specs.Typed.{shown, marked_text};
 
 use names::put::{put_byte, put_bytes};
 
@@ -51,7 +51,7 @@ fn put_spaces(out: &mut [u8], at: usize, n: usize) -> usize
 // The text as it is shown, and below it a mark at the place, at the front of the buffer.
 pub fn put_marked(out: &mut [u8; 4096], text: &[u8], place: usize) -> usize
     requires { (length text.now ≤ 1536) × (place ≤ 1536) }
-    ensures put { Put out.old 0 (markedText text.now place) out.new result }
+    ensures put { Put out.old 0 (marked_text text.now place) out.new result }
     ensures prefix_len { IsPrefixLen result out.new }
 {
     let word = put_bytes(out, 0, b"tree: ");

@@ -12,69 +12,69 @@ use Rattle.paper.specs.Lists.{all, between}
 use Rattle.paper.specs.Format.{Format}
 use Rattle.paper.proofs.Lists.{and, both, within}
 use Rattle.grammar.specs.Text.{dot, parted, followed}
-use Rattle.grammar.specs.Names.{nameText}
-use Rattle.grammar.specs.Grammar.{Name, nameKept, dotted, spelled}
-use Rattle.grammar.specs.Reader.{label_of, parts, labelsOf, named, nameOfWord}
-use Rattle.grammar.proofs.LabelNames.{in-range, label_is, label-right}
+use Rattle.grammar.specs.Names.{name_text}
+use Rattle.grammar.specs.Grammar.{Name, name_kept, dotted, spelled}
+use Rattle.grammar.specs.Reader.{label_of, parts, labels_of, named, name_of_word}
+use Rattle.grammar.proofs.LabelNames.{in_range, label_is, label_right}
 use Rattle.grammar.proofs.NamesRead.{NamesRead}
-use Rattle.grammar.proofs.Parts.{undotted, parts-parted, parts-some, parted-parts, name-undotted, name-some}
+use Rattle.grammar.proofs.Parts.{undotted, parts-parted, parts-some, parted-parts, name_undotted, name_some}
 
 module _ (f : Format) where
   -- each of these is a label of the format
-  abbrev pub allKept : List ℕ → Bool
-  allKept ls = all (λ x. between 1 x f.labels) ls
+  abbrev pub all_kept : List ℕ → Bool
+  all_kept ls = all (λ x. between 1 x f.labels) ls
 
   -- ---- labels and their words
-  labels-read : (ls : List ℕ) → allKept ls ≡ true → map (label_of f) (map nameText ls) ≡ ls
+  labels-read : (ls : List ℕ) → all_kept ls ≡ true → map (label_of f) (map name_text ls) ≡ ls
   labels-read [] e = refl
   labels-read (l ∷ ls) e =
-      let h = both (between 1 l f.labels) (allKept ls) e in
-      ap₂ {C = List ℕ} (λ x xs. x ∷ xs) (label_is f l (nameText l) h.0 refl) (labels-read ls h.1)
+      let h = both (between 1 l f.labels) (all_kept ls) e in
+      ap₂ {C = List ℕ} (λ x xs. x ∷ xs) (label_is f l (name_text l) h.0 refl) (labels-read ls h.1)
 
-  labels-positive : (ls : List ℕ) → allKept ls ≡ true → all (ltb 0) ls ≡ true
-  labels-positive [] e = refl
-  labels-positive (l ∷ ls) e =
-      let h = both (between 1 l f.labels) (allKept ls) e in
-      and (lt-ltb 0 l (within 1 l f.labels h.0).0) (labels-positive ls h.1)
+  labels_positive : (ls : List ℕ) → all_kept ls ≡ true → all (ltb 0) ls ≡ true
+  labels_positive [] e = refl
+  labels_positive (l ∷ ls) e =
+      let h = both (between 1 l f.labels) (all_kept ls) e in
+      and (lt-ltb 0 l (within 1 l f.labels h.0).0) (labels_positive ls h.1)
 
   words-read : (ps : List (List ℕ)) → all (ltb 0) (map (label_of f) ps) ≡ true
-      → (allKept (map (label_of f) ps) ≡ true) × (map nameText (map (label_of f) ps) ≡ ps)
+      → (all_kept (map (label_of f) ps) ≡ true) × (map name_text (map (label_of f) ps) ≡ ps)
   words-read [] e = (refl, refl)
   words-read (p ∷ ps) e =
       let h = both (ltb 0 (label_of f p)) (all (ltb 0) (map (label_of f) ps)) e in
-      let right = label-right f p (ltb-true 0 (label_of f p) h.0) in
+      let right = label_right f p (ltb-true 0 (label_of f p) h.0) in
       let rest = words-read ps h.1 in
       (and right.0 rest.0, ap₂ {C = List (List ℕ)} (λ x xs. x ∷ xs) right.1 rest.1)
 
-  names-undotted : (ls : List ℕ) → all undotted (map nameText ls) ≡ true
-  names-undotted [] = refl
-  names-undotted (l ∷ ls) = and (name-undotted l) (names-undotted ls)
+  names_undotted : (ls : List ℕ) → all undotted (map name_text ls) ≡ true
+  names_undotted [] = refl
+  names_undotted (l ∷ ls) = and (name_undotted l) (names_undotted ls)
 
   -- ---- a list of labels
-  pub dotted-read : (ls : List ℕ) → 1 ≤ length ls → allKept ls ≡ true → labelsOf f (dotted ls) ≡ ls
-  unfolding labelsOf dotted
+  pub dotted-read : (ls : List ℕ) → 1 ≤ length ls → all_kept ls ≡ true → labels_of f (dotted ls) ≡ ls
+  unfolding labels_of dotted
   dotted-read [] le e = absurd (omega arith)
   dotted-read (l ∷ ls) le e =
-      ap (map (label_of f)) (parts-parted (nameText l) (map nameText ls) (names-undotted (l ∷ ls))) ∙ labels-read (l ∷ ls) e
+      ap (map (label_of f)) (parts-parted (name_text l) (map name_text ls) (names_undotted (l ∷ ls))) ∙ labels-read (l ∷ ls) e
 
-  pub read-labels : (w : List ℕ) → all (ltb 0) (labelsOf f w) ≡ true
-      → (1 ≤ length (labelsOf f w)) × (allKept (labelsOf f w) ≡ true) × (dotted (labelsOf f w) ≡ w)
-  unfolding labelsOf dotted
+  pub read-labels : (w : List ℕ) → all (ltb 0) (labels_of f w) ≡ true
+      → (1 ≤ length (labels_of f w)) × (all_kept (labels_of f w) ≡ true) × (dotted (labels_of f w) ≡ w)
+  unfolding labels_of dotted
   read-labels w e =
       let read = words-read (parts w) e in
       (rw (length-map (parts w) (label_of f)) (parts-some w), read.0, ap (parted dot) read.1 ∙ parted-parts w)
 
   -- ---- a name
   -- a word that does not begin with a dot
-  plain_word : (ls : List ℕ) → 1 ≤ length ls → nameOfWord f (dotted ls) ≡ named false (labelsOf f (dotted ls))
-  unfolding nameOfWord dotted parted followed
+  plain_word : (ls : List ℕ) → 1 ≤ length ls → name_of_word f (dotted ls) ≡ named false (labels_of f (dotted ls))
+  unfolding name_of_word dotted parted followed
   plain_word [] le = absurd (omega arith)
-  plain_word (l ∷ ls) le = go (nameText l) (name-some l) (name-undotted l)
+  plain_word (l ∷ ls) le = go (name_text l) (name_some l) (name_undotted l)
     where
       go : (w : List ℕ) → 1 ≤ length w → undotted w ≡ true
-          → nameOfWord f (w ++ followed dot (map nameText ls)) ≡ named false (labelsOf f (w ++ followed dot (map nameText ls)))
+          → name_of_word f (w ++ followed dot (map name_text ls)) ≡ named false (labels_of f (w ++ followed dot (map name_text ls)))
       go [] le e = absurd (omega arith)
-      go (b ∷ bs) le e = rw (not-true (eqb b dot) (both (not (eqb b dot)) (undotted bs) e).0, nameOfWord) refl
+      go (b ∷ bs) le e = rw (not-true (eqb b dot) (both (not (eqb b dot)) (undotted bs) e).0, name_of_word) refl
 
   named-is : (whole : Bool) (ls : List ℕ) → all (ltb 0) ls ≡ true → named whole ls ≡ some (record { whole = whole; labels = ls })
   named-is whole ls e = ap {B = Option Name} (λ t. elim t [ true ↦ some (record { whole = whole; labels = ls }) | false ↦ none ]) e
@@ -88,62 +88,62 @@ module _ (f : Format) where
       go true q e = (q, cc)
       go false q e = let z : ◌≡◌ {A = ℕ} 0 1 = cc in absurd (omega arith)
 
-  pub spelled-read : (n : Name) → nameKept f n ≡ true → nameOfWord f (spelled n) ≡ some n
-  unfolding nameKept spelled nameOfWord
+  pub spelled-read : (n : Name) → name_kept f n ≡ true → name_of_word f (spelled n) ≡ some n
+  unfolding name_kept spelled name_of_word
   spelled-read n e = go n.whole
     where
-      h : (ltb 0 (length n.labels) ≡ true) × (allKept n.labels ≡ true)
-      h = both (ltb 0 (length n.labels)) (allKept n.labels) e
+      h : (ltb 0 (length n.labels) ≡ true) × (all_kept n.labels ≡ true)
+      h = both (ltb 0 (length n.labels)) (all_kept n.labels) e
 
       long : 1 ≤ length n.labels
       long = ltb-true 0 (length n.labels) h.0
 
-      is : (whole : Bool) → named whole (labelsOf f (dotted n.labels)) ≡ some (record { whole = whole; labels = n.labels })
-      is whole = ap (named whole) (dotted-read n.labels long h.1) ∙ named-is whole n.labels (labels-positive n.labels h.1)
+      is : (whole : Bool) → named whole (labels_of f (dotted n.labels)) ≡ some (record { whole = whole; labels = n.labels })
+      is whole = ap (named whole) (dotted-read n.labels long h.1) ∙ named-is whole n.labels (labels_positive n.labels h.1)
 
-      go : (whole : Bool) → nameOfWord f (spelled (record { whole = whole; labels = n.labels })) ≡ some (record { whole = whole; labels = n.labels })
+      go : (whole : Bool) → name_of_word f (spelled (record { whole = whole; labels = n.labels })) ≡ some (record { whole = whole; labels = n.labels })
       go true = is true
       go false = plain_word n.labels long ∙ is false
 
   -- what is read of the labels in a word, behind a dot or not
-  read-as-lem : (whole : Bool) (w : List ℕ) (n : Name) → named whole (labelsOf f w) ≡ some n
-      → (nameKept f n ≡ true) × (spelled n ≡ elim whole [ true ↦ dot ∷ w | false ↦ w ])
-  unfolding nameKept spelled
-  read-as-lem whole w n e =
-      let is = is-named whole (labelsOf f w) n e in
+  read_as_lem : (whole : Bool) (w : List ℕ) (n : Name) → named whole (labels_of f w) ≡ some n
+      → (name_kept f n ≡ true) × (spelled n ≡ elim whole [ true ↦ dot ∷ w | false ↦ w ])
+  unfolding name_kept spelled
+  read_as_lem whole w n e =
+      let is = is-named whole (labels_of f w) n e in
       let read = read-labels w is.0 in
-      subst (λ n. (nameKept f n ≡ true) × (spelled n ≡ elim whole [ true ↦ dot ∷ w | false ↦ w ])) is.1
-      (and (lt-ltb 0 (length (labelsOf f w)) read.0) read.1, as-word whole read.2)
+      subst (λ n. (name_kept f n ≡ true) × (spelled n ≡ elim whole [ true ↦ dot ∷ w | false ↦ w ])) is.1
+      (and (lt-ltb 0 (length (labels_of f w)) read.0) read.1, as_word whole read.2)
     where
-      as-word : (whole : Bool) → dotted (labelsOf f w) ≡ w
-          → spelled (record { whole = whole; labels = labelsOf f w }) ≡ elim whole [ true ↦ dot ∷ w | false ↦ w ]
-      as-word true e = ap {B = List ℕ} (λ l. dot ∷ l) e
-      as-word false e = e
+      as_word : (whole : Bool) → dotted (labels_of f w) ≡ w
+          → spelled (record { whole = whole; labels = labels_of f w }) ≡ elim whole [ true ↦ dot ∷ w | false ↦ w ]
+      as_word true e = ap {B = List ℕ} (λ l. dot ∷ l) e
+      as_word false e = e
 
-  read_right : (w : List ℕ) (n : Name) → nameOfWord f w ≡ some n → (nameKept f n ≡ true) × (spelled n ≡ w)
-  unfolding nameOfWord
-  read_right [] n e = read-as-lem false [] n e
+  read_right : (w : List ℕ) (n : Name) → name_of_word f w ≡ some n → (name_kept f n ≡ true) × (spelled n ≡ w)
+  unfolding name_of_word
+  read_right [] n e = read_as_lem false [] n e
   read_right (b ∷ bs) n e = go (eqb b dot) refl e
     where
       go : (t : Bool) → eqb b dot ≡ t
-          → ◌≡◌ {A = Option Name} (elim t [ true ↦ named true (labelsOf f bs) | false ↦ named false (labelsOf f (b ∷ bs)) ]) (some n)
-          → (nameKept f n ≡ true) × (spelled n ≡ b ∷ bs)
-      go true q e = let r = read-as-lem true bs n e in (r.0, r.1 ∙ ap {B = List ℕ} (λ x. x ∷ bs) (sym (eqb-true b dot q)))
-      go false q e = read-as-lem false (b ∷ bs) n e
+          → ◌≡◌ {A = Option Name} (elim t [ true ↦ named true (labels_of f bs) | false ↦ named false (labels_of f (b ∷ bs)) ]) (some n)
+          → (name_kept f n ≡ true) × (spelled n ≡ b ∷ bs)
+      go true q e = let r = read_as_lem true bs n e in (r.0, r.1 ∙ ap {B = List ℕ} (λ x. x ∷ bs) (sym (eqb-true b dot q)))
+      go false q e = read_as_lem false (b ∷ bs) n e
 
-  pub read_kept : (w : List ℕ) (n : Name) → nameOfWord f w ≡ some n → nameKept f n ≡ true
+  pub read_kept : (w : List ℕ) (n : Name) → name_of_word f w ≡ some n → name_kept f n ≡ true
   read_kept w n e = (read_right w n e).0
 
-  pub read-spelled : (w : List ℕ) (n : Name) → nameOfWord f w ≡ some n → spelled n ≡ w
+  pub read-spelled : (w : List ℕ) (n : Name) → name_of_word f w ≡ some n → spelled n ≡ w
   read-spelled w n e = (read_right w n e).1
 
 -- the reader's walk has what it needs of names
 pub names-read : (f : Format) → 1 ≤ f.labels → NamesRead f
-unfolding nameKept
-names-read f some-label = record {
+unfolding name_kept
+names-read f some_label = record {
   spelled-read = spelled-read f;
   read_kept = read_kept f;
   read-spelled = read-spelled f;
-  a-name = record { whole = false; labels = 1 ∷ [] };
-  a-name-kept = and (in-range 1 1 f.labels (omega arith) some-label) refl;
+  a_name = record { whole = false; labels = 1 ∷ [] };
+  a_name_kept = and (in_range 1 1 f.labels (omega arith) some_label) refl;
 }

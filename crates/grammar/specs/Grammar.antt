@@ -5,7 +5,7 @@ use Prim.Native.Char.{code}
 use Rattle.paper.specs.Lists.{all, between}
 use Rattle.paper.specs.Format.{Format}
 use Rattle.grammar.specs.Text.{space, dot, parted}
-use Rattle.grammar.specs.Names.{nameText}
+use Rattle.grammar.specs.Names.{name_text}
 
 -- ---- tokens
 -- A token is a bracket, or a longest run of other bytes but space.
@@ -14,14 +14,14 @@ pub data Token : Type 0 where
   closing : Token
   word : List ℕ → Token
 
-abbrev pub openByte : ℕ
-openByte = code "["
+abbrev pub open_byte : ℕ
+open_byte = code "["
 
-abbrev pub closeByte : ℕ
-closeByte = code "]"
+abbrev pub close_byte : ℕ
+close_byte = code "]"
 
 abbrev pub bracket : ℕ → Bool
-bracket b = eqb b openByte || eqb b closeByte
+bracket b = eqb b open_byte || eqb b close_byte
 
 -- a byte other than space and brackets
 abbrev pub plain : ℕ → Bool
@@ -33,8 +33,8 @@ run [] = []
 run (b ∷ bs) = elim (plain b) [ true ↦ b ∷ run bs | false ↦ [] ]
 
 -- the token that begins with the byte b, the rest of the text behind it
-abbrev pub tokenAt : ℕ → List ℕ → Token
-tokenAt b bs = elim (eqb b openByte) [ true ↦ opening | false ↦ elim (eqb b closeByte) [ true ↦ closing | false ↦ word (run (b ∷ bs)) ] ]
+abbrev pub token_at : ℕ → List ℕ → Token
+token_at b bs = elim (eqb b open_byte) [ true ↦ opening | false ↦ elim (eqb b close_byte) [ true ↦ closing | false ↦ word (run (b ∷ bs)) ] ]
 
 -- A token begins at each bracket, and at each other byte but space that has none such just before it.
 abbrev pub begins : ℕ → ℕ → Bool
@@ -46,17 +46,17 @@ pub record Placed : Type 0 where
   pub token : Token
 
 -- the tokens of a text that stands at place i, after the byte before it
-unfoldable pub tokensFrom : ℕ → ℕ → List ℕ → List Placed
-tokensFrom before i [] = []
-tokensFrom before i (b ∷ bs) =
+unfoldable pub tokens_from : ℕ → ℕ → List ℕ → List Placed
+tokens_from before i [] = []
+tokens_from before i (b ∷ bs) =
     elim (begins before b) [
-      | true ↦ record { at = i; token = tokenAt b bs } ∷ tokensFrom b (suc i) bs
-      | false ↦ tokensFrom b (suc i) bs
+      | true ↦ record { at = i; token = token_at b bs } ∷ tokens_from b (suc i) bs
+      | false ↦ tokens_from b (suc i) bs
     ]
 
 -- the tokens of a text
 abbrev pub placed : List ℕ → List Placed
-placed text = tokensFrom space 0 text
+placed text = tokens_from space 0 text
 
 abbrev pub tokens : List ℕ → List Token
 tokens text = map (λ (p : Placed). p.token) (placed text)
@@ -68,13 +68,13 @@ pub record Name : Type 0 where
   pub labels : List ℕ
 
 -- It has at least one label, and each is 1 to the largest of the format.
-unfoldable pub nameKept : Format → Name → Bool
-nameKept f n = ltb 0 (length n.labels) && all (λ x. between 1 x f.labels) n.labels
+unfoldable pub name_kept : Format → Name → Bool
+name_kept f n = ltb 0 (length n.labels) && all (λ x. between 1 x f.labels) n.labels
 
 -- The parts with single dots between them. A part is the name of its label in the label list; for other labels it is the number without
 -- leading zeros.
 unfoldable pub dotted : List ℕ → List ℕ
-dotted labels = parted dot (map nameText labels)
+dotted labels = parted dot (map name_text labels)
 
 -- the name as a word
 unfoldable pub spelled : Name → List ℕ
@@ -83,23 +83,23 @@ spelled n = elim n.whole [ true ↦ dot ∷ dotted n.labels | false ↦ dotted n
 -- ---- trees
 -- Trees side by side: none, or a tree, which is a name and the trees beneath it, and the trees beside it.
 pub data Trees : Type 0 where
-  noTrees : Trees
+  no_trees : Trees
   tree : Name → Trees → Trees → Trees
 
 -- Brackets are never empty: where nothing stands beneath a name, there are none.
 abbrev pub bracketed : Trees → List Token → List Token
-bracketed noTrees ts = []
+bracketed no_trees ts = []
 bracketed (tree n below beside) ts = opening ∷ ts ++ (closing ∷ [])
 
 -- the tokens of trees: each is a name, or a name and a bracketed list of trees
-unfoldable pub treesTokens : Trees → List Token
-treesTokens noTrees = []
-treesTokens (tree n below beside) = word (spelled n) ∷ bracketed below (treesTokens below) ++ treesTokens beside
+unfoldable pub trees_tokens : Trees → List Token
+trees_tokens no_trees = []
+trees_tokens (tree n below beside) = word (spelled n) ∷ bracketed below (trees_tokens below) ++ trees_tokens beside
 
 -- every name in the trees is one of the format
-unfoldable pub namesKept : Format → Trees → Bool
-namesKept f noTrees = true
-namesKept f (tree n below beside) = nameKept f n && namesKept f below && namesKept f beside
+unfoldable pub names_kept : Format → Trees → Bool
+names_kept f no_trees = true
+names_kept f (tree n below beside) = name_kept f n && names_kept f below && names_kept f beside
 
 -- A wanted tree is a name and the trees beneath it.
 pub record Tree : Type 0 where
@@ -107,13 +107,13 @@ pub record Tree : Type 0 where
   pub beneath : Trees
 
 abbrev pub alone : Tree → Trees
-alone t = tree t.name t.beneath noTrees
+alone t = tree t.name t.beneath no_trees
 
 -- ---- texts
 -- These tokens are those of the wanted tree.
 pub record TokensOf (f : Format) (ts : List Token) (t : Tree) : Type 0 where
-  pub kept : namesKept f (alone t) ≡ true
-  pub are : ts ≡ treesTokens (alone t)
+  pub kept : names_kept f (alone t) ≡ true
+  pub are : ts ≡ trees_tokens (alone t)
 
 -- The text is one of the wanted tree: its tokens are the tree's, and spaces between them are free.
 abbrev pub TextOf : Format → List ℕ → Tree → Type 0
@@ -132,5 +132,5 @@ pub record Longest (f : Format) (ts : List Token) (n : ℕ) : Type 0 where
   pub longest : (k : ℕ) → k ≤ length ts → Begins f (take k ts) → k ≤ n
 
 -- the first byte of token n of a text, the text's length where it has no such token
-unfoldable pub firstByte : List ℕ → ℕ → ℕ
-firstByte text n = get_or (map (λ (p : Placed). p.at) (placed text)) n (length text)
+unfoldable pub first_byte : List ℕ → ℕ → ℕ
+first_byte text n = get_or (map (λ (p : Placed). p.at) (placed text)) n (length text)

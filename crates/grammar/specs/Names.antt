@@ -20,5 +20,5 @@ unfoldable pub name_of : ℕ → List ℕ
 name_of k = get_or names k []
 
 -- the name of a label: labels 1 to 20 by name, others print as numbers
-unfoldable pub nameText : ℕ → List ℕ
-nameText l = elim (between 1 l named) [ true ↦ name_of (l - 1) | false ↦ decimal l ]
+unfoldable pub name_text : ℕ → List ℕ
+name_text l = elim (between 1 l named) [ true ↦ name_of (l - 1) | false ↦ decimal l ]

@@ -2,17 +2,17 @@
 -- next, and printed lines. Assumes nothing.
 use Rattle.std.specs.Prelude.{ℕ, ◌≡◌, refl, true, false, List, [], ◌∷◌, ◌++◌, map, length, replicate}
 use Prim.Native.String.{String}
-use Rattle.paper.specs.Lists.{joinMap, padded}
+use Rattle.paper.specs.Lists.{join_map, padded}
 use Rattle.paper.specs.Format.{Format, base, eight, bytes}
 use Rattle.paper.specs.Opened.{opened}
 use Rattle.paper.specs.samples.Files.{row, table, entry, A, table7, table10, portfolio, lessee, lease, asset}
-use Rattle.grammar.specs.Text.{ascii, space, digitsIn, decimal, followed, parted}
-use Rattle.grammar.specs.Names.{names, name_of, nameText}
-use Rattle.grammar.specs.Grammar.{tokensFrom, tokens, Name, nameKept, dotted, spelled, Trees, noTrees, tree, treesTokens, namesKept}
-use Rattle.grammar.specs.Grammar.{firstByte}
-use Rattle.grammar.specs.Typed.{wantedFrom, matches, matched, entryBack, shapeBack, shaping, reading, Reading, readAs}
-use Rattle.grammar.specs.Typed.{lineTokens, line_of, printing, printTree}
-use Rattle.grammar.specs.Reader.{label_of, parts, labelsOf, nameOfWord, walk, said_of}
+use Rattle.grammar.specs.Text.{ascii, space, digits_in, decimal, followed, parted}
+use Rattle.grammar.specs.Names.{names, name_of, name_text}
+use Rattle.grammar.specs.Grammar.{tokens_from, tokens, Name, name_kept, dotted, spelled, Trees, no_trees, tree, trees_tokens, names_kept}
+use Rattle.grammar.specs.Grammar.{first_byte}
+use Rattle.grammar.specs.Typed.{wanted_from, matches, matched, entry_back, shape_back, shaping, reading, Reading, read_as}
+use Rattle.grammar.specs.Typed.{line_tokens, line_of, printing, print_tree}
+use Rattle.grammar.specs.Reader.{label_of, parts, labels_of, name_of_word, walk, said_of}
 
 -- ---- texts beside their trees
 -- a name as it is typed, and one with a leading dot
@@ -24,29 +24,29 @@ dotting labels = record { whole = true; labels = labels }
 
 -- a tree with nothing beneath it, and another beside it
 abbrev leaf : Name → Trees → Trees
-leaf n beside = tree n noTrees beside
+leaf n beside = tree n no_trees beside
 
 pub texts : List (String × Trees)
 texts =
-    ("lease", leaf (typed (3 ∷ [])) noTrees)
-    ∷ ("asset [ lease [ lessee ] ]", tree (typed (4 ∷ [])) (tree (typed (3 ∷ [])) (leaf (typed (2 ∷ [])) noTrees) noTrees) noTrees)
+    ("lease", leaf (typed (3 ∷ [])) no_trees)
+    ∷ ("asset [ lease [ lessee ] ]", tree (typed (4 ∷ [])) (tree (typed (3 ∷ [])) (leaf (typed (2 ∷ [])) no_trees) no_trees) no_trees)
     -- spaces are free
-    ∷ ("  lease[lessee   asset]  ", tree (typed (3 ∷ [])) (leaf (typed (2 ∷ [])) (leaf (typed (4 ∷ [])) noTrees)) noTrees)
+    ∷ ("  lease[lessee   asset]  ", tree (typed (3 ∷ [])) (leaf (typed (2 ∷ [])) (leaf (typed (4 ∷ [])) no_trees)) no_trees)
     -- dotted names, a leading dot, and numbers
     ∷ (
       "lessee.lease[.portfolio 21 99]",
-      tree (typed (2 ∷ 3 ∷ [])) (leaf (dotting (1 ∷ [])) (leaf (typed (21 ∷ [])) (leaf (typed (99 ∷ [])) noTrees))) noTrees,
+      tree (typed (2 ∷ 3 ∷ [])) (leaf (dotting (1 ∷ [])) (leaf (typed (21 ∷ [])) (leaf (typed (99 ∷ [])) no_trees))) no_trees,
     )
     ∷ []
 
 -- each text has the tokens of its tree, and the tree's names are names
-pub texts-hold : map (λ (p : String × Trees). tokens (ascii p.0)) texts ≡ map (λ (p : String × Trees). treesTokens p.1) texts
-unfolding digitsIn decimal followed parted names name_of nameText tokensFrom dotted spelled treesTokens texts
-texts-hold = refl
+pub texts_hold : map (λ (p : String × Trees). tokens (ascii p.0)) texts ≡ map (λ (p : String × Trees). trees_tokens p.1) texts
+unfolding digits_in decimal followed parted names name_of name_text tokens_from dotted spelled trees_tokens texts
+texts_hold = refl
 
-pub texts-kept : map (λ (p : String × Trees). namesKept base p.1) texts ≡ true ∷ true ∷ true ∷ true ∷ []
-unfolding base nameKept namesKept texts
-texts-kept = refl
+pub texts_kept : map (λ (p : String × Trees). names_kept base p.1) texts ≡ true ∷ true ∷ true ∷ true ∷ []
+unfolding base name_kept names_kept texts
+texts_kept = refl
 
 -- ---- what the definitions say, as lists of figures
 -- number, place and count of entries, and the lent bytes afterwards
@@ -59,11 +59,11 @@ lent n = replicate n 7
 
 -- a text read over a table with n bytes lent
 abbrev read : Format → List ℕ → ℕ → List ℕ → List (List ℕ)
-read f b n text = told (readAs f b (said_of f text) (lent n))
+read f b n text = told (read_as f b (said_of f text) (lent n))
 
 -- number and place, over table A with no byte lent
 abbrev refusal : List ℕ → List (List ℕ)
-refusal text = let r = (readAs base A (said_of base text) []).reply in (r.number ∷ r.place ∷ []) ∷ []
+refusal text = let r = (read_as base A (said_of base text) []).reply in (r.number ∷ r.place ∷ []) ∷ []
 
 -- the same of a text of characters
 abbrev refused : String → List (List ℕ)
@@ -71,7 +71,7 @@ refused text = refusal (ascii text)
 
 -- number, place and count of bytes, and the line, into 90 lent bytes
 abbrev printed : Format → List ℕ → List (List ℕ)
-printed f s = let p = printTree f s (lent 90) in (p.reply.number ∷ p.reply.place ∷ p.reply.rest ∷ []) ∷ p.text ∷ []
+printed f s = let p = print_tree f s (lent 90) in (p.reply.number ∷ p.reply.place ∷ p.reply.rest ∷ []) ∷ p.text ∷ []
 
 -- what is read: number 0, place 0, a count, and the shape before the bytes that stay
 abbrev shape : ℕ → List ℕ → ℕ → List (List ℕ)
@@ -82,19 +82,19 @@ at number place = (number ∷ place ∷ []) ∷ []
 
 -- an entry of eight levels
 abbrev wide : ℕ → List ℕ → List ℕ
-wide l k = l ∷ length k ∷ 0 ∷ 0 ∷ joinMap (bytes 2) (padded 8 k)
+wide l k = l ∷ length k ∷ 0 ∷ 0 ∷ join_map (bytes 2) (padded 8 k)
 
 -- a portfolio with two lessees of one lease each, and a lease of its own
-abbrev two-leases-lem : List ℕ
-two-leases-lem = table 0 ((1 ∷ [], 1) ∷ (1 ∷ 1 ∷ [], 2) ∷ (1 ∷ 1 ∷ 1 ∷ [], 3) ∷ (1 ∷ 2 ∷ [], 3) ∷ [])
+abbrev two_leases_lem : List ℕ
+two_leases_lem = table 0 ((1 ∷ [], 1) ∷ (1 ∷ 1 ∷ [], 2) ∷ (1 ∷ 1 ∷ 1 ∷ [], 3) ∷ (1 ∷ 2 ∷ [], 3) ∷ [])
 
 -- n portfolios beneath one
 abbrev many : ℕ → List ℕ
-many n = ascii "portfolio[" ++ joinMap (λ w. w) (replicate n (ascii "portfolio ")) ++ ascii "]"
+many n = ascii "portfolio[" ++ join_map (λ w. w) (replicate n (ascii "portfolio ")) ++ ascii "]"
 
 -- n portfolios, one beneath the other, over a lease
 abbrev deep : ℕ → List ℕ
-deep n = joinMap (λ w. w) (replicate n (ascii "portfolio[")) ++ ascii "lease" ++ replicate n 93
+deep n = join_map (λ w. w) (replicate n (ascii "portfolio[")) ++ ascii "lease" ++ replicate n 93
 
 pub samples : List (List (List ℕ) × List (List ℕ))
 samples =
@@ -118,8 +118,8 @@ samples =
     ∷ (refused "portfolio.lessee.lease.asset.meter.tax.site.21", at 13 0)
     ∷ (refused "lease [ lessee tax ]", at 13 2)
     -- several types, and one of them by its whole list
-    ∷ (read base two-leases-lem 16 (ascii "lease"), (13 ∷ 0 ∷ 0 ∷ []) ∷ lent 16 ∷ [])
-    ∷ (read base two-leases-lem 16 (ascii ".portfolio.lease"), shape 1 (entry 1 (1 ∷ 3 ∷ [])) 0)
+    ∷ (read base two_leases_lem 16 (ascii "lease"), (13 ∷ 0 ∷ 0 ∷ []) ∷ lent 16 ∷ [])
+    ∷ (read base two_leases_lem 16 (ascii ".portfolio.lease"), shape 1 (entry 1 (1 ∷ 3 ∷ [])) 0)
     -- an empty table
     ∷ (read base [] 16 (ascii "lease"), (13 ∷ 0 ∷ 0 ∷ []) ∷ lent 16 ∷ [])
     -- no names: 12 at the token's first byte
@@ -168,7 +168,7 @@ samples =
     -- 12 before 5, 5 before 6, 6 before 13, 13 before 29
     ∷ (refusal (many 16 ++ ascii "]"), at 12 171)
     ∷ (refusal (many 16), at 5 0)
-    ∷ (read base A 256 (many 15), shape 16 (entry 1 portfolio ++ joinMap (λ x. x) (replicate 15 (entry 2 portfolio))) 0)
+    ∷ (read base A 256 (many 15), shape 16 (entry 1 portfolio ++ join_map (λ x. x) (replicate 15 (entry 2 portfolio))) 0)
     ∷ (refusal (deep 16), at 5 0)
     ∷ (refusal (deep 6), at 6 6)
     ∷ (refused "tax[tax[tax[tax[tax[tax[tax]]]]]]", at 6 6)
@@ -188,15 +188,15 @@ samples =
       printed base (entry 1 (21 ∷ []) ++ entry 2 (99 ∷ []) ++ entry 3 (15 ∷ []) ++ entry 2 (15 ∷ [])),
       (0 ∷ 0 ∷ 25 ∷ []) ∷ (ascii ".21 [ .99 [ .tax ] .tax ]" ++ lent 65) ∷ [],
     )
-    ∷ (printed eight (wide 1 (1 ∷ 1 ∷ 1 ∷ 1 ∷ 1 ∷ 1 ∷ 1 ∷ 1 ∷ [])), (0 ∷ 0 ∷ 80 ∷ []) ∷ (joinMap (λ x. x) (replicate 8 (ascii ".portfolio")) ++ lent 10) ∷ [])
+    ∷ (printed eight (wide 1 (1 ∷ 1 ∷ 1 ∷ 1 ∷ 1 ∷ 1 ∷ 1 ∷ 1 ∷ [])), (0 ∷ 0 ∷ 80 ∷ []) ∷ (join_map (λ x. x) (replicate 8 (ascii ".portfolio")) ++ lent 10) ∷ [])
     ∷ (printed base [], (5 ∷ 0 ∷ 0 ∷ []) ∷ lent 90 ∷ [])
     ∷ (printed base (entry 2 lease), (6 ∷ 0 ∷ 0 ∷ []) ∷ lent 90 ∷ [])
     ∷ (printed base (entry 1 asset ++ entry 2 asset ++ entry 3 asset), (29 ∷ 0 ∷ 0 ∷ []) ∷ lent 90 ∷ [])
     ∷ []
 
 -- every sample says what document 02 says
-pub samples-hold : map (λ (p : List (List ℕ) × List (List ℕ)). p.0) samples ≡ map (λ (p : List (List ℕ) × List (List ℕ)). p.1) samples
-unfolding opened eight row table entry A table7 table10 portfolio lessee lease asset digitsIn decimal followed parted names name_of nameText tokensFrom
-    nameKept dotted spelled treesTokens namesKept firstByte wantedFrom matches matched entryBack shapeBack shaping reading readAs lineTokens line_of printing
-    printTree label_of parts labelsOf nameOfWord walk said_of samples
-samples-hold = refl
+pub samples_hold : map (λ (p : List (List ℕ) × List (List ℕ)). p.0) samples ≡ map (λ (p : List (List ℕ) × List (List ℕ)). p.1) samples
+unfolding opened eight row table entry A table7 table10 portfolio lessee lease asset digits_in decimal followed parted names name_of name_text tokens_from
+    name_kept dotted spelled trees_tokens names_kept first_byte wanted_from matches matched entry_back shape_back shaping reading read_as line_tokens line_of printing
+    print_tree label_of parts labels_of name_of_word walk said_of samples
+samples_hold = refl

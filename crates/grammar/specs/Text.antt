@@ -2,7 +2,7 @@
 use Rattle.std.specs.Prelude.{ℕ, zero, suc, ◌+◌, ◌/◌, ◌%◌, true, false, List, [], ◌∷◌, ◌++◌, ltb, ℤ, pos, negsuc}
 use Prim.Native.Char.{code}
 use Prim.Native.String.{String, [] as none, ◌∷◌ as ◌then◌}
-use Rattle.paper.specs.Lists.{joinMap}
+use Rattle.paper.specs.Lists.{join_map}
 
 -- the bytes of a text whose characters are ASCII
 abbrev pub ascii : String → List ℕ
@@ -28,23 +28,23 @@ abbrev pub digit : ℕ → ℕ
 digit d = code "0" + d
 
 -- the digits of a number that has at most suc f of them
-unfoldable pub digitsIn : ℕ → ℕ → List ℕ
-digitsIn zero n = digit n ∷ []
-digitsIn (suc f) n = elim (ltb n 10) [ true ↦ digit n ∷ [] | false ↦ digitsIn f (n / 10) ++ (digit (n % 10) ∷ []) ]
+unfoldable pub digits_in : ℕ → ℕ → List ℕ
+digits_in zero n = digit n ∷ []
+digits_in (suc f) n = elim (ltb n 10) [ true ↦ digit n ∷ [] | false ↦ digits_in f (n / 10) ++ (digit (n % 10) ∷ []) ]
 
 -- the decimal digits of a number, the first of them not 0 unless it stands alone; n has at most suc n of them
 unfoldable pub decimal : ℕ → List ℕ
-decimal n = digitsIn n n
+decimal n = digits_in n n
 
 -- a signed number: a hyphen before it where it is below 0
-unfoldable pub signedText : ℤ → List ℕ
-signedText (pos n) = decimal n
-signedText (negsuc n) = hyphen ∷ decimal (suc n)
+unfoldable pub signed_text : ℤ → List ℕ
+signed_text (pos n) = decimal n
+signed_text (negsuc n) = hyphen ∷ decimal (suc n)
 
 -- ---- parts
 -- the parts with the byte c before each
 unfoldable pub followed : ℕ → List (List ℕ) → List ℕ
-followed c ps = joinMap (λ q. c ∷ q) ps
+followed c ps = join_map (λ q. c ∷ q) ps
 
 -- the parts with the byte c between them
 unfoldable pub parted : ℕ → List (List ℕ) → List ℕ

@@ -21,9 +21,9 @@ Fails b i j = (x : ℕ) → i ≤ x → x < j → b x ≡ false
 
 module _ (g : ℕ → Node) (own : (x : ℕ) → (g x).place ≡ x) (q : Node → Bool) where
   -- the places of the nodes that are kept are the numbers that are
-  pub kept-places : (i n : ℕ) → places (keep q (map g (count i n))) ≡ keep (λ x. q (g x)) (count i n)
-  kept-places i zero = refl
-  kept-places i (suc n) = go (q (g i)) refl (kept-places (suc i) n)
+  pub kept_places : (i n : ℕ) → places (keep q (map g (count i n))) ≡ keep (λ x. q (g x)) (count i n)
+  kept_places i zero = refl
+  kept_places i (suc n) = go (q (g i)) refl (kept_places (suc i) n)
     where
       go : (b : Bool) → q (g i) ≡ b → places (keep q (map g (count (suc i) n))) ≡ keep (λ x. q (g x)) (count (suc i) n)
           → places (keep q (map g (count i (suc n)))) ≡ keep (λ x. q (g x)) (count i (suc n))
@@ -46,24 +46,24 @@ module _ (b : ℕ → Bool) where
   here : (i n : ℕ) (c : Bool) → b i ≡ c → kept i (suc n) ≡ pick c i (kept (suc i) n)
   here i n c e = ap (λ c. pick c i (kept (suc i) n)) e
 
-  kept-none : (i n : ℕ) → Fails b i (i + n) → keep b (count i n) ≡ []
-  kept-none i zero none = refl
-  kept-none i (suc n) none = here i n false (none i (omega arith) (omega arith)) ∙ kept-none (suc i) n (λ x a l. none x (omega arith) (omega arith))
+  kept_none : (i n : ℕ) → Fails b i (i + n) → keep b (count i n) ≡ []
+  kept_none i zero none = refl
+  kept_none i (suc n) none = here i n false (none i (omega arith) (omega arith)) ∙ kept_none (suc i) n (λ x a l. none x (omega arith) (omega arith))
 
   pub first-none : (d i n : ℕ) → Fails b i (i + n) → first_or d (keep b (count i n)) ≡ d
-  first-none d i n none = ap (first_or d) (kept-none i n none)
+  first-none d i n none = ap (first_or d) (kept_none i n none)
 
-  pub first-at-lem : (d i n p : ℕ) → i ≤ p → p < i + n → b p ≡ true → Fails b i p → first_or d (keep b (count i n)) ≡ p
-  first-at-lem d i zero p le lt e none = let z : ⊥ = omega arith in absurd z
-  first-at-lem d i (suc n) p le lt e none = ⊎_elim
-      (λ a. ap (first_or d) (here i n false (none i (omega arith) a)) ∙ first-at-lem d (suc i) n p a (omega arith) e (λ x c l. none x (omega arith) l))
+  pub first_at_lem : (d i n p : ℕ) → i ≤ p → p < i + n → b p ≡ true → Fails b i p → first_or d (keep b (count i n)) ≡ p
+  first_at_lem d i zero p le lt e none = let z : ⊥ = omega arith in absurd z
+  first_at_lem d i (suc n) p le lt e none = ⊎_elim
+      (λ a. ap (first_or d) (here i n false (none i (omega arith) a)) ∙ first_at_lem d (suc i) n p a (omega arith) e (λ x c l. none x (omega arith) l))
       (λ q. ap (first_or d) (here i n true (ap b q ∙ e)) ∙ q) (below i p (omega arith))
 
-  pub last-at : (d i n p : ℕ) → i ≤ p → p < i + n → b p ≡ true → Fails b (suc p) (i + n) → last_or d (keep b (count i n)) ≡ p
-  last-at d i zero p le lt e none = let z : ⊥ = omega arith in absurd z
-  last-at d i (suc n) p le lt e none = ⊎_elim
-      (λ a. later (b i) refl (λ d. last-at d (suc i) n p a (omega arith) e (λ x c l. none x c (omega arith))))
-      (λ q. ap (last_or d) (here i n true (ap b q ∙ e)) ∙ ap (last_or i) (kept-none (suc i) n (λ x c l. none x (omega arith) (omega arith))) ∙ q)
+  pub last_at : (d i n p : ℕ) → i ≤ p → p < i + n → b p ≡ true → Fails b (suc p) (i + n) → last_or d (keep b (count i n)) ≡ p
+  last_at d i zero p le lt e none = let z : ⊥ = omega arith in absurd z
+  last_at d i (suc n) p le lt e none = ⊎_elim
+      (λ a. later (b i) refl (λ d. last_at d (suc i) n p a (omega arith) e (λ x c l. none x c (omega arith))))
+      (λ q. ap (last_or d) (here i n true (ap b q ∙ e)) ∙ ap (last_or i) (kept_none (suc i) n (λ x c l. none x (omega arith) (omega arith))) ∙ q)
       (below i p (omega arith))
     where
       later : (c : Bool) → b i ≡ c → ((d : ℕ) → last_or d (kept (suc i) n) ≡ p) → last_or d (kept i (suc n)) ≡ p

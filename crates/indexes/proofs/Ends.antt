@@ -18,8 +18,8 @@ pub record Ends (rows : ℕ) (levels ends : List ℕ) (behind i : ℕ) : Type 0 
   pub level-is : i < rows → get_or levels i 0 ≡ behind
   pub deep : (l : ℕ) → l < behind → DeepTo rows levels l i (get_or ends l 0)
 
-pub ends-start : (rows : ℕ) (levels ends : List ℕ) → Ends rows levels ends 0 rows
-ends-start rows levels ends = record {
+pub ends_start : (rows : ℕ) (levels ends : List ℕ) → Ends rows levels ends 0 rows
+ends_start rows levels ends = record {
   within = omega arith;
   level-is = λ lt. let z : ⊥ = omega arith in absurd z;
   deep = λ l lt. let z : ⊥ = omega arith in absurd z;
@@ -38,8 +38,8 @@ module _ {rows : ℕ} {levels ends new : List ℕ} {behind m l r : ℕ} (so_far 
   shallow : (k : ℕ) → behind ≤ k → suc i < rows → get_or levels (suc i) 0 ≤ k
   shallow k le lt = subst (λ n. get_or levels n 0 ≤ k) (sym next) (omega (arith, so_far.level-is (omega arith)))
 
-  pub last-here : LastRow rows levels (m - 1) r
-  last-here = subst (λ k. DeepTo rows levels k (suc i) r) own (go (ltb l behind) refl)
+  pub last_here : LastRow rows levels (m - 1) r
+  last_here = subst (λ k. DeepTo rows levels k (suc i) r) own (go (ltb l behind) refl)
     where
       go : (b : Bool) → ltb l behind ≡ b → DeepTo rows levels l (suc i) r
       go true e =
@@ -54,11 +54,11 @@ module _ {rows : ℕ} {levels ends new : List ℕ} {behind m l r : ℕ} (so_far 
             ends = shallow l le;
           })
 
-  pub ends-step : Ends rows levels new l (m - 1)
-  ends-step = record { within = omega (arith, so_far.within); level-is = λ _. sym own; deep = λ k lt. go k lt (ltb k behind) refl }
+  pub ends_step : Ends rows levels new l (m - 1)
+  ends_step = record { within = omega (arith, so_far.within); level-is = λ _. sym own; deep = λ k lt. go k lt (ltb k behind) refl }
     where
-      above-own : (k j : ℕ) → k < l → j ≡ i → k < get_or levels j 0
-      above-own k j lt e = subst (λ n. k < get_or levels n 0) (sym e) (omega (arith, own))
+      above_own : (k j : ℕ) → k < l → j ≡ i → k < get_or levels j 0
+      above_own k j lt e = subst (λ n. k < get_or levels n 0) (sym e) (omega (arith, own))
 
       go : (k : ℕ) → k < l → (b : Bool) → ltb k behind ≡ b → DeepTo rows levels k i (get_or new k 0)
       go k lt true e =
@@ -67,7 +67,7 @@ module _ {rows : ℕ} {levels ends new : List ℕ} {behind m l r : ℕ} (so_far 
           subst (λ p. DeepTo rows levels k i p) (sym (step.above k up)) (record {
             from = omega (arith, old.from);
             inside = old.inside;
-            deep = λ j a b. ⊎_elim (λ c. old.deep j (omega arith) b) (λ c. above-own k j lt (sym c)) (below i j (omega arith));
+            deep = λ j a b. ⊎_elim (λ c. old.deep j (omega arith) b) (λ c. above_own k j lt (sym c)) (below i j (omega arith));
             ends = old.ends;
           })
       go k lt false e =
@@ -75,7 +75,7 @@ module _ {rows : ℕ} {levels ends new : List ℕ} {behind m l r : ℕ} (so_far 
           subst (λ p. DeepTo rows levels k i p) (sym (step.between k le lt)) (record {
             from = omega arith;
             inside = omega (arith, so_far.within);
-            deep = λ j a b. above-own k j lt (omega arith);
+            deep = λ j a b. above_own k j lt (omega arith);
             ends = shallow k le;
           })
 
@@ -86,12 +86,12 @@ pub record Putting (rows : ℕ) (levels old new : List ℕ) (i : ℕ) : Type 0 w
   pub lasts : (j : ℕ) → i ≤ j → j < rows → LastRow rows levels j (get_or new j 0)
   pub rest : (j : ℕ) → rows ≤ j → get_or new j 0 ≡ get_or old j 0
 
-pub putting-start : (rows : ℕ) (levels old : List ℕ) → Putting rows levels old old rows
-putting-start rows levels old = record { long = refl; lasts = λ j le lt. let z : ⊥ = omega arith in absurd z; rest = λ j le. refl }
+pub putting_start : (rows : ℕ) (levels old : List ℕ) → Putting rows levels old old rows
+putting_start rows levels old = record { long = refl; lasts = λ j le lt. let z : ⊥ = omega arith in absurd z; rest = λ j le. refl }
 
-pub putting-step : {rows : ℕ} {levels old new : List ℕ} {m r : ℕ} → Putting rows levels old new m → 0 < m → m ≤ rows → rows ≤ length old
+pub putting_step : {rows : ℕ} {levels old new : List ℕ} {m r : ℕ} → Putting rows levels old new m → 0 < m → m ≤ rows → rows ≤ length old
     → LastRow rows levels (m - 1) r → Putting rows levels old (set new (m - 1) r) (m - 1)
-putting-step {rows} {levels} {old} {new} {m} {r} so_far pos within long is = record {
+putting_step {rows} {levels} {old} {new} {m} {r} so_far pos within long is = record {
   long = length-set new (m - 1) r ∙ so_far.long;
   lasts = λ j le lt. ⊎_elim
       (λ a. subst (LastRow rows levels j) (sym (get_or-set_other new (m - 1) j r 0 (λ e. omega arith))) (so_far.lasts j (omega arith) lt))

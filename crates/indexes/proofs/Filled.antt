@@ -15,8 +15,8 @@ pub record Filling (from x : ℕ) (old new : List ℕ) (m : ℕ) : Type 0 where
   pub here : (k : ℕ) → from ≤ k → k < m → get_or new k 0 ≡ x
   pub before : (k : ℕ) → k < from → get_or new k 0 ≡ get_or old k 0
 
-pub filling-start : (from x : ℕ) (old : List ℕ) → Filling from x old old from
-filling-start from x old = record {
+pub filling_start : (from x : ℕ) (old : List ℕ) → Filling from x old old from
+filling_start from x old = record {
   long = refl;
   begun = omega arith;
   here = λ k a b. let z : ⊥ = omega arith in absurd z;
@@ -39,13 +39,13 @@ pub record Placing (Right : ℕ → ℕ → Type 0) (n : ℕ) (old new : List �
   pub right : (j : ℕ) → j < i → Right j (get_or new j 0)
   pub rest : (j : ℕ) → n ≤ j → get_or new j 0 ≡ get_or old j 0
 
-pub placing-start : (Right : ℕ → ℕ → Type 0) (n : ℕ) (old : List ℕ) → Placing Right n old old 0
-placing-start Right n old =
+pub placing_start : (Right : ℕ → ℕ → Type 0) (n : ℕ) (old : List ℕ) → Placing Right n old old 0
+placing_start Right n old =
     record { long = refl; within = omega arith; right = λ j lt. let z : ⊥ = omega arith in absurd z; rest = λ j le. refl }
 
-pub placing-step : {Right : ℕ → ℕ → Type 0} {n : ℕ} {old new : List ℕ} {i v : ℕ} → Placing Right n old new i → i < n → n ≤ length old → Right i v
+pub placing_step : {Right : ℕ → ℕ → Type 0} {n : ℕ} {old new : List ℕ} {i v : ℕ} → Placing Right n old new i → i < n → n ≤ length old → Right i v
     → Placing Right n old (set new i v) (i + 1)
-placing-step {Right} {n} {old} {new} {i} {v} so_far lt room is = record {
+placing_step {Right} {n} {old} {new} {i} {v} so_far lt room is = record {
   long = length-set new i v ∙ so_far.long;
   within = omega arith;
   right = λ j b. ⊎_elim (λ c. subst (Right j) (sym (get_or-set_other new i j v 0 (λ e. omega arith))) (so_far.right j c))

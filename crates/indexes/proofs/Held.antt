@@ -14,17 +14,17 @@ use Rattle.paper.specs.Format.{Format}
 use Rattle.paper.specs.Tables as Tables
 use Rattle.paper.specs.Tables.{Row}
 use Rattle.paper.specs.Closeness.{Node, nodes, level, meet}
-use Rattle.paper.specs.Calls.{given, tests1-4}
-use Rattle.paper.specs.Index.{no_row, descends, repeats, places, lastDescendant, nextOfType, tooShort, wrongAt, wrongRow, testsIndex}
-use Rattle.paper.proofs.Index.{length-nodes, tested, tests-are}
+use Rattle.paper.specs.Calls.{given, tests1_4}
+use Rattle.paper.specs.Index.{no_row, descends, repeats, places, last_descendant, next_of_type, too_short, wrong_at, wrong_row, tests_index}
+use Rattle.paper.proofs.Index.{length-nodes, tested, tests_are}
 use Rattle.closest.specs.Node.{node, Typed}
 use Rattle.closest.specs.Runs.{Levelled, NextRow}
-use Rattle.closest.proofs.Meets.{nodes-are, kind_at}
-use Rattle.closest.proofs.Levels.{meet-level, meet-above, meet_within}
+use Rattle.closest.proofs.Meets.{nodes_are, kind_at}
+use Rattle.closest.proofs.Levels.{meet-level, meet_above, meet_within}
 use Rattle.indexes.specs.Last.{LastRow}
 use Rattle.indexes.specs.Wrong.{FirstWrong}
 use Rattle.indexes.specs.Tested.{Says}
-use Rattle.indexes.proofs.Counted.{kept-places, placed, first-none, first-at-lem, last-at, place_none, place_at}
+use Rattle.indexes.proofs.Counted.{kept_places, placed, first-none, first_at_lem, last_at, place_none, place_at}
 
 module _ (f : Format) (rows : ℕ) (t levels types : List ℕ) (lv : Levelled f rows t levels types) where
   abbrev ns : List Node
@@ -47,44 +47,44 @@ module _ (f : Format) (rows : ℕ) (t levels types : List ℕ) (lv : Levelled f 
 
     past : (x : ℕ) → suc p ≤ x → x < rows → descends (at i) (at x) ≡ false
     past x le lt = ne_eqb (meet (at i) (at x)) (level (at i)) (λ e. omega
-        (arith, e, own, last.ends (omega arith), lv.level-is (suc p) (omega arith), meet-above f rows t types ty i (suc p) x (omega (arith, last.from)) le lt))
+        (arith, e, own, last.ends (omega arith), lv.level-is (suc p) (omega arith), meet_above f rows t types ty i (suc p) x (omega (arith, last.from)) le lt))
 
-    pub last-is : lastDescendant (nodes (Tables.rows f t)) (node f t i) ≡ p
-    unfolding lastDescendant
-    last-is =
-        ap (λ ns. last_or i (places (keep (descends (at i)) ns))) (nodes-are f rows t types ty)
-        ∙ ap (last_or i) (kept-places at (λ x. refl) (descends (at i)) 0 rows)
-        ∙ last-at (λ x. descends (at i) (at x)) i 0 rows p (omega arith) (omega (arith, last.inside)) under (λ x a b. past x a (omega arith))
+    pub last_is : last_descendant (nodes (Tables.rows f t)) (node f t i) ≡ p
+    unfolding last_descendant
+    last_is =
+        ap (λ ns. last_or i (places (keep (descends (at i)) ns))) (nodes_are f rows t types ty)
+        ∙ ap (last_or i) (kept_places at (λ x. refl) (descends (at i)) 0 rows)
+        ∙ last_at (λ x. descends (at i) (at x)) i 0 rows p (omega arith) (omega (arith, last.inside)) under (λ x a b. past x a (omega arith))
 
   -- ---- the next row of the type
   module _ (i p : ℕ) (li : i < rows) (next : NextRow rows types i p) where
     same_kind : (x : ℕ) → x < rows → get_or types x 0 ≡ get_or types i 0 → (at x).kind ≡ (at i).kind
     same_kind x lx e = sym (kind_at f rows t types ty x lx) ∙ e ∙ kind_at f rows t types ty i li
 
-    own-kind : (x : ℕ) → x < rows → (at x).kind ≡ (at i).kind → get_or types x 0 ≡ get_or types i 0
-    own-kind x lx e = kind_at f rows t types ty x lx ∙ e ∙ sym (kind_at f rows t types ty i li)
+    own_kind : (x : ℕ) → x < rows → (at x).kind ≡ (at i).kind → get_or types x 0 ≡ get_or types i 0
+    own_kind x lx e = kind_at f rows t types ty x lx ∙ e ∙ sym (kind_at f rows t types ty i li)
 
     -- rows at or before row i, and those of another type
     unlike : (x : ℕ) → x < rows → (i < x → get_or types x 0 ≡ get_or types i 0 → ⊥) → repeats (at i) (at x) ≡ false
     unlike x lx other = go (ltb i x) refl
       where
         go : (b : Bool) → ltb i x ≡ b → repeats (at i) (at x) ≡ false
-        go true e = ap₂ ◌&&◌ e (ne_eqb (at x).kind (at i).kind (λ q. other (ltb-true i x e) (own-kind x lx q)))
+        go true e = ap₂ ◌&&◌ e (ne_eqb (at x).kind (at i).kind (λ q. other (ltb-true i x e) (own_kind x lx q)))
         go false e = ap (λ b. b && eqb (at x).kind (at i).kind) e
 
-    by_count : nextOfType ns (at i) ≡ first_or no_row (keep (λ x. repeats (at i) (at x)) (count 0 rows))
-    unfolding nextOfType
+    by_count : next_of_type ns (at i) ≡ first_or no_row (keep (λ x. repeats (at i) (at x)) (count 0 rows))
+    unfolding next_of_type
     by_count =
-        ap (λ ns. first_or no_row (places (keep (repeats (at i)) ns))) (nodes-are f rows t types ty)
-        ∙ ap (first_or no_row) (kept-places at (λ x. refl) (repeats (at i)) 0 rows)
+        ap (λ ns. first_or no_row (places (keep (repeats (at i)) ns))) (nodes_are f rows t types ty)
+        ∙ ap (first_or no_row) (kept_places at (λ x. refl) (repeats (at i)) 0 rows)
 
-    pub next-is : nextOfType (nodes (Tables.rows f t)) (node f t i) ≡ p
-    next-is = by_count ∙ go (ltb p rows) refl
+    pub next_is : next_of_type (nodes (Tables.rows f t)) (node f t i) ≡ p
+    next_is = by_count ∙ go (ltb p rows) refl
       where
         go : (b : Bool) → ltb p rows ≡ b → first_or no_row (keep (λ x. repeats (at i) (at x)) (count 0 rows)) ≡ p
         go true e =
             let lp = ltb-true p rows e in
-            first-at-lem (λ x. repeats (at i) (at x)) no_row 0 rows p (omega arith) (omega arith)
+            first_at_lem (λ x. repeats (at i) (at x)) no_row 0 rows p (omega arith) (omega arith)
             (ap₂ ◌&&◌ (lt-ltb i p (next.after lp)) (eq-eqb (at p).kind (at i).kind (same_kind p lp (next.typed lp))))
             (λ x a b. unlike x (omega arith) (λ lt q. next.passed x lt (omega arith) b q))
         go false e =
@@ -95,82 +95,82 @@ module _ (f : Format) (rows : ℕ) (t levels types : List ℕ) (lv : Levelled f 
   -- ---- lists that are held to it
   module _ (last next : List ℕ) where
     abbrev wrong : ℕ → Bool
-    wrong x = wrongAt ns last next (at x)
+    wrong x = wrong_at ns last next (at x)
 
-    right-at : (i : ℕ) → i < rows → LastRow rows levels i (get_or last i 0) → NextRow rows types i (get_or next i 0) → wrong i ≡ false
-    unfolding wrongAt
-    right-at i li a b = ap₂ (λ x y. not x || not y)
-        (eq-eqb (get_or last i 0) (lastDescendant ns (at i)) (sym (last-is i (get_or last i 0) li a)))
-        (eq-eqb (get_or next i 0) (nextOfType ns (at i)) (sym (next-is i (get_or next i 0) li b)))
+    right_at : (i : ℕ) → i < rows → LastRow rows levels i (get_or last i 0) → NextRow rows types i (get_or next i 0) → wrong i ≡ false
+    unfolding wrong_at
+    right_at i li a b = ap₂ (λ x y. not x || not y)
+        (eq-eqb (get_or last i 0) (last_descendant ns (at i)) (sym (last_is i (get_or last i 0) li a)))
+        (eq-eqb (get_or next i 0) (next_of_type ns (at i)) (sym (next_is i (get_or next i 0) li b)))
 
-    wrong-last : (i p : ℕ) → i < rows → LastRow rows levels i p → (get_or last i 0 ≡ p → ⊥) → wrong i ≡ true
-    unfolding wrongAt
-    wrong-last i p li is ne = ap (λ x. not x || not (eqb (get_or next i 0) (nextOfType ns (at i))))
-        (ne_eqb (get_or last i 0) (lastDescendant ns (at i)) (λ e. ne (e ∙ last-is i p li is)))
+    wrong_last : (i p : ℕ) → i < rows → LastRow rows levels i p → (get_or last i 0 ≡ p → ⊥) → wrong i ≡ true
+    unfolding wrong_at
+    wrong_last i p li is ne = ap (λ x. not x || not (eqb (get_or next i 0) (next_of_type ns (at i))))
+        (ne_eqb (get_or last i 0) (last_descendant ns (at i)) (λ e. ne (e ∙ last_is i p li is)))
 
-    wrong-next : (i p : ℕ) → i < rows → NextRow rows types i p → (get_or next i 0 ≡ p → ⊥) → wrong i ≡ true
-    unfolding wrongAt
-    wrong-next i p li is ne =
-        ap (λ x. not (eqb (get_or last i 0) (lastDescendant ns (at i))) || not x)
-        (ne_eqb (get_or next i 0) (nextOfType ns (at i)) (λ e. ne (e ∙ next-is i p li is))) ∙ or-true (not (eqb (get_or last i 0) (lastDescendant ns (at i))))
+    wrong_next : (i p : ℕ) → i < rows → NextRow rows types i p → (get_or next i 0 ≡ p → ⊥) → wrong i ≡ true
+    unfolding wrong_at
+    wrong_next i p li is ne =
+        ap (λ x. not (eqb (get_or last i 0) (last_descendant ns (at i))) || not x)
+        (ne_eqb (get_or next i 0) (next_of_type ns (at i)) (λ e. ne (e ∙ next_is i p li is))) ∙ or_true (not (eqb (get_or last i 0) (last_descendant ns (at i))))
       where
-        or-true : (b : Bool) → b || true ≡ true
-        or-true true = refl
-        or-true false = refl
+        or_true : (b : Bool) → b || true ≡ true
+        or_true true = refl
+        or_true false = refl
 
     -- w is the first row at which one of the lists is wrong
     module _ (a b : ℕ) (fa : FirstWrong rows (LastRow rows levels) last a) (fb : FirstWrong rows (NextRow rows types) next b) where
       before : (x : ℕ) → x < a → x < b → wrong x ≡ false
-      before x la lb = right-at x (omega (arith, fa.within)) (fa.right x la) (fb.right x lb)
+      before x la lb = right_at x (omega (arith, fa.within)) (fa.right x la) (fb.right x lb)
 
-      by_place : place (wrongAt ns last next) ns ≡ place wrong (count 0 rows)
-      by_place = ap (place (wrongAt ns last next)) (nodes-are f rows t types ty) ∙ placed at (λ x. refl) (wrongAt ns last next) 0 rows
+      by_place : place (wrong_at ns last next) ns ≡ place wrong (count 0 rows)
+      by_place = ap (place (wrong_at ns last next)) (nodes_are f rows t types ty) ∙ placed at (λ x. refl) (wrong_at ns last next) 0 rows
 
-      first-wrong : (w : ℕ) → w ≡ min a b → w < rows → place wrong (count 0 rows) ≡ w
-      first-wrong w e lt = place_at wrong 0 rows w lt (here (leb a b) refl) (λ x le l. before x (omega arith) (omega arith))
+      first_wrong : (w : ℕ) → w ≡ min a b → w < rows → place wrong (count 0 rows) ≡ w
+      first_wrong w e lt = place_at wrong 0 rows w lt (here (leb a b) refl) (λ x le l. before x (omega arith) (omega arith))
         where
           here : (c : Bool) → leb a b ≡ c → wrong (0 + w) ≡ true
           here true q =
               let is : a ≡ 0 + w = omega (arith, leb-true a b q) in
               let (p, r, ne) = fa.wrong (omega arith) in
-              ap wrong (sym is) ∙ wrong-last a p (omega arith) r ne
+              ap wrong (sym is) ∙ wrong_last a p (omega arith) r ne
           here false q =
               let is : b ≡ 0 + w = omega (arith, leb-false a b q) in
               let (p, r, ne) = fb.wrong (omega arith) in
-              ap wrong (sym is) ∙ wrong-next b p (omega arith) r ne
+              ap wrong (sym is) ∙ wrong_next b p (omega arith) r ne
 
       abbrev found : ℕ → Bool → Option ℕ
       found w c = elim c [ true ↦ some w | false ↦ none ]
 
-      by_row : (w : ℕ) → place wrong (count 0 rows) ≡ w → wrongRow ns last next ≡ found w (ltb w rows)
-      unfolding wrongRow
-      by_row w e = ap₂ (λ p n. found p (ltb p n)) (by_place ∙ e) (length-nodes (Tables.rows f t) ∙ sym ty.rows-n)
+      by_row : (w : ℕ) → place wrong (count 0 rows) ≡ w → wrong_row ns last next ≡ found w (ltb w rows)
+      unfolding wrong_row
+      by_row w e = ap₂ (λ p n. found p (ltb p n)) (by_place ∙ e) (length-nodes (Tables.rows f t) ∙ sym ty.rows_n)
 
-      pub wrong-row-lem : (w : ℕ) → w ≡ min a b → w < rows → wrongRow (nodes (Tables.rows f t)) last next ≡ some w
-      wrong-row-lem w e lt = by_row w (first-wrong w e lt) ∙ ap (found w) (lt-ltb w rows lt)
+      pub wrong_row_lem : (w : ℕ) → w ≡ min a b → w < rows → wrong_row (nodes (Tables.rows f t)) last next ≡ some w
+      wrong_row_lem w e lt = by_row w (first_wrong w e lt) ∙ ap (found w) (lt-ltb w rows lt)
 
-      pub no-wrong-row : rows ≤ min a b → wrongRow (nodes (Tables.rows f t)) last next ≡ none
-      no-wrong-row le =
+      pub no_wrong_row : rows ≤ min a b → wrong_row (nodes (Tables.rows f t)) last next ≡ none
+      no_wrong_row le =
           by_row rows (place_none wrong 0 rows (λ x a b. before x (omega arith) (omega arith))) ∙ ap (found rows) (le-ltb rows rows (omega arith))
 
 -- ---- the tests
-module _ (f : Format) (t last next : List ℕ) (table : tests1-4 f t ≡ given (Tables.rows f t)) where
+module _ (f : Format) (t last next : List ℕ) (table : tests1_4 f t ≡ given (Tables.rows f t)) where
   abbrev rs : List Row
   rs = Tables.rows f t
 
-  are : testsIndex f t last next ≡ tested rs (tooShort rs last next) (wrongRow (nodes rs) last next)
-  are = tests-are f t last next rs table
+  are : tests_index f t last next ≡ tested rs (too_short rs last next) (wrong_row (nodes rs) last next)
+  are = tests_are f t last next rs table
 
-  pub lists-short : tooShort (Tables.rows f t) last next ≡ true → Says (testsIndex f t last next) (Tables.rows f t) 14 0
-  lists-short e = record {
-    refused-is = λ _. are ∙ ap (λ b. tested rs b (wrongRow (nodes rs) last next)) e;
+  pub lists_short : too_short (Tables.rows f t) last next ≡ true → Says (tests_index f t last next) (Tables.rows f t) 14 0
+  lists_short e = record {
+    refused-is = λ _. are ∙ ap (λ b. tested rs b (wrong_row (nodes rs) last next)) e;
     given_is = λ z. let w : ⊥ = omega (arith, z) in absurd w;
   }
 
-  pub lists-wrong : tooShort (Tables.rows f t) last next ≡ false → (w : ℕ) → wrongRow (nodes (Tables.rows f t)) last next ≡ some w
-      → Says (testsIndex f t last next) (Tables.rows f t) 15 w
-  lists-wrong e w q = record { refused-is = λ _. are ∙ ap₂ (tested rs) e q; given_is = λ z. let w : ⊥ = omega (arith, z) in absurd w }
+  pub lists_wrong : too_short (Tables.rows f t) last next ≡ false → (w : ℕ) → wrong_row (nodes (Tables.rows f t)) last next ≡ some w
+      → Says (tests_index f t last next) (Tables.rows f t) 15 w
+  lists_wrong e w q = record { refused-is = λ _. are ∙ ap₂ (tested rs) e q; given_is = λ z. let w : ⊥ = omega (arith, z) in absurd w }
 
-  pub lists-right : tooShort (Tables.rows f t) last next ≡ false → wrongRow (nodes (Tables.rows f t)) last next ≡ none
-      → Says (testsIndex f t last next) (Tables.rows f t) 0 0
-  lists-right e q = record { refused-is = λ ne. absurd (ne refl); given_is = λ _. are ∙ ap₂ (tested rs) e q }
+  pub lists_right : too_short (Tables.rows f t) last next ≡ false → wrong_row (nodes (Tables.rows f t)) last next ≡ none
+      → Says (tests_index f t last next) (Tables.rows f t) 0 0
+  lists_right e q = record { refused-is = λ ne. absurd (ne refl); given_is = λ _. are ∙ ap₂ (tested rs) e q }

@@ -6,14 +6,14 @@ use mathlib.Core.List.{List, [], map}
 use lib.ListN.{length, get_or, length-map}
 use lib.Seq.{ext_get_or, take_all}
 use Rattle.paper.specs.Lists.{Has}
-use Rattle.paper.specs.Format.{Format, rowBytes, whole}
+use Rattle.paper.specs.Format.{Format, row_bytes, whole}
 use Rattle.paper.specs.Tables as Tables
-use Rattle.paper.specs.Tables.{rowTypes, types, typeNumber}
+use Rattle.paper.specs.Tables.{row_types, types, type_number}
 use Rattle.paper.specs.Closeness.{level}
-use Rattle.paper.proofs.Lists.{getD-has}
+use Rattle.paper.proofs.Lists.{get_d_has}
 use Rattle.paper.proofs.Tables.{step, length-ways, has-distinct, number_same}
 use Rattle.paper.proofs.Calls.{count-rows}
-use Rattle.bytes.specs.Served.{mostLevels}
+use Rattle.octets.specs.Served.{most_levels}
 use Rattle.tables.proofs.Rows.{rec}
 use Rattle.tables.proofs.Laws.{dewey-length}
 use Rattle.types.specs.Types.{kinds}
@@ -29,50 +29,50 @@ module _ (f : Format) (n : ℕ) (t levels : List ℕ) (sound : SoundRows f n t) 
   rs = Tables.rows f t
 
   abbrev ws : List (List ℕ)
-  ws = rowTypes rs
+  ws = row_types rs
 
-  in_table : (i : ℕ) → i < n → i < whole (rowBytes f) t
-  in_table i lt = omega (arith, sound.rows-n, count-rows f t)
+  in_table : (i : ℕ) → i < n → i < whole (row_bytes f) t
+  in_table i lt = omega (arith, sound.rows_n, count-rows f t)
 
   -- the rows with the numbers of their types, however many there are
   pub levelled : Levelled f n t levels (kinds (Tables.rows f t))
   levelled = record {
-    typed = record { sound = sound.sound; rows-n = sound.rows-n; listed = take_all n (kinds rs) (omega (arith, length-kinds f t, sound.rows-n)) };
+    typed = record { sound = sound.sound; rows_n = sound.rows_n; listed = take_all n (kinds rs) (omega (arith, length-kinds f t, sound.rows_n)) };
     level-is = ls.level-is;
   }
 
-  pub shallow : f.levels ≤ mostLevels → n ≤ length levels → Shallow n levels
-  shallow le long = record { few = sound.few; long = long; shallow = λ i lt. omega (arith, ls.level-most i lt) }
+  pub shallow : f.levels ≤ most_levels → n ≤ length levels → Shallow n levels
+  shallow le long = record { few = sound.few; long = long; shallow = λ i lt. omega (arith, ls.level_most i lt) }
 
-  pub label-rows : f.levels ≤ mostLevels → n ≤ length levels → (labels : List ℕ) → mostLevels * n ≤ length labels → LabelRows n levels labels
-  label-rows le long labels room =
-      record { few = sound.few; levels-long = long; labels-long = room; shallow = λ i lt. omega (arith, ls.level-most i lt) }
+  pub label_rows : f.levels ≤ most_levels → n ≤ length levels → (labels : List ℕ) → most_levels * n ≤ length labels → LabelRows n levels labels
+  label_rows le long labels room =
+      record { few = sound.few; levels_long = long; labels_long = room; shallow = λ i lt. omega (arith, ls.level_most i lt) }
 
   -- a row's type is as long as its level
   long : (i : ℕ) → i < n → length (get_or ws i []) ≡ get_or levels i 0
   long i lt =
-      let b = rec (rowBytes f) i t in
+      let b = rec (row_bytes f) i t in
       way_long f t sound.sound.kept i (in_table i lt)
       ∙ sym (ls.level-is i lt ∙ dewey-length f b (row-level f t sound.sound.kept i (in_table i lt)).1)
 
-  length-ws : length ws ≡ n
-  unfolding rowTypes
-  length-ws = length-ways [] (map step rs) ∙ length-map rs step ∙ sym sound.rows-n
+  length_ws : length ws ≡ n
+  unfolding row_types
+  length_ws = length-ways [] (map step rs) ∙ length-map rs step ∙ sym sound.rows_n
 
-  number : (i : ℕ) → i < n → get_or (kinds rs) i 0 ≡ typeNumber (types rs) (get_or ws i [])
+  number : (i : ℕ) → i < n → get_or (kinds rs) i 0 ≡ type_number (types rs) (get_or ws i [])
   unfolding kinds
-  number i lt = map_at (typeNumber (types rs)) ws i (omega (arith, length-ws))
+  number i lt = map_at (type_number (types rs)) ws i (omega (arith, length_ws))
 
   listed : (i : ℕ) → i < n → Has (get_or ws i []) (types rs)
   unfolding types
-  listed i lt = has-distinct (get_or ws i []) ws (getD-has [] ws i (omega (arith, length-ws)))
+  listed i lt = has-distinct (get_or ws i []) ws (get_d_has [] ws i (omega (arith, length_ws)))
 
-  pub numbers : (labels : List ℕ) → LabelLists n (rowTypes (Tables.rows f t)) labels → Numbers n levels labels (kinds (Tables.rows f t))
+  pub numbers : (labels : List ℕ) → LabelLists n (row_types (Tables.rows f t)) labels → Numbers n levels labels (kinds (Tables.rows f t))
   numbers labels lists i j li lj = (to, from)
     where
       to : Alike levels labels i j → get_or (kinds rs) j 0 ≡ get_or (kinds rs) i 0
       to alike =
-          number j lj ∙ ap (typeNumber (types rs)) (ext_get_or 0 (get_or ws j []) (get_or ws i []) (omega (arith, long i li, long j lj, alike.level)) (λ m lm.
+          number j lj ∙ ap (type_number (types rs)) (ext_get_or 0 (get_or ws j []) (get_or ws i []) (omega (arith, long i li, long j lj, alike.level)) (λ m lm.
           sym (lists j m lj lm) ∙ sym (alike.label m (omega (arith, long j lj, alike.level))) ∙ lists i m li (omega (arith, long i li, long j lj, alike.level))))
           ∙ sym (number i li)
 

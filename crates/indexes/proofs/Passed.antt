@@ -5,23 +5,23 @@ use Prim.Native.Nat.{ℕ}
 use mathlib.Core.List.{List}
 use Rattle.paper.specs.Format.{Format}
 use Rattle.paper.specs.Tables.{rows}
-use Rattle.paper.specs.Calls.{given, examine, tests1-3}
-use Rattle.paper.proofs.Calls.{passed1-3, few-rows, count-rows}
-use Rattle.bytes.specs.Served.{Served}
+use Rattle.paper.specs.Calls.{given, examine, tests1_3}
+use Rattle.paper.proofs.Calls.{passed1_3, few_rows, count-rows}
+use Rattle.octets.specs.Served.{Served}
 use Rattle.tables.specs.Reply.{examined}
 use Rattle.tables.specs.declared.table.Examined.{Examined}
 use Rattle.tables.proofs.Examine.{examined-given}
 use Rattle.closest.specs.Runs.{SoundRows}
 
 pub passed : {f : Format} {t : List ℕ} → Served f → (x : Examined) → examined x ≡ examine f t → x.number ≡ 0
-    → (tests1-3 f t ≡ given (rows f t)) × SoundRows f x.rows t
+    → (tests1_3 f t ≡ given (rows f t)) × SoundRows f x.rows t
 passed {f} {t} served x e z =
     let (g, w) = examined-given f t x.number x.place x.rows e z in
-    let (same, kept, short) = passed1-3 f t (rows f t) g in (
+    let (same, kept, short) = passed1_3 f t (rows f t) g in (
       g,
       record {
         sound = record { kept = kept; shallow = omega (arith, served.shallow) };
-        rows-n = w ∙ sym (count-rows f t);
-        few = omega (arith, w, few-rows f t short, count-rows f t);
+        rows_n = w ∙ sym (count-rows f t);
+        few = omega (arith, w, few_rows f t short, count-rows f t);
       },
     )

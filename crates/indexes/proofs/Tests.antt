@@ -9,10 +9,10 @@ use lib.ListN.{length}
 use borrow.Author.Tests.{lt-ltb, le-ltb}
 use Rattle.paper.specs.Format.{Format}
 use Rattle.paper.specs.Tables.{rows}
-use Rattle.paper.specs.Index.{tooShort}
+use Rattle.paper.specs.Index.{too_short}
 use Rattle.paper.proofs.Lists.{or_left, or_right}
-use Rattle.paper.proofs.Index.{index-refused}
-use Rattle.bytes.specs.Served.{Served}
+use Rattle.paper.proofs.Index.{index_refused}
+use Rattle.octets.specs.Served.{Served}
 use Rattle.tables.specs.declared.table.Refusal.{Refusal}
 use Rattle.closest.specs.Runs.{Levelled, NextRow}
 use Rattle.closest.specs.Rows.{RowsIn, ReadRows}
@@ -20,40 +20,40 @@ use Rattle.closest.specs.declared.rows.RowsRead.{RowsRead}
 use Rattle.indexes.specs.Last.{Shallow, LastRow}
 use Rattle.indexes.specs.Wrong.{FirstWrong}
 use Rattle.indexes.specs.Tested.{Holds, ReadsIndexed}
-use Rattle.indexes.proofs.Held.{wrong-row-lem, no-wrong-row, lists-short, lists-wrong, lists-right}
+use Rattle.indexes.proofs.Held.{wrong_row_lem, no_wrong_row, lists_short, lists_wrong, lists_right}
 
 module _ (n : ℕ) (levels types last next : List ℕ) where
   -- a list is too short for the rows
-  pub holds-short : length next < n → Holds n levels types last next (record { number = 14; place = 0 })
-  holds-short lt = record {
-    says = λ f t lv table. lists-short f t last next table
-        (or_right (ltb (length last) (length (rows f t))) (lt-ltb (length next) (length (rows f t)) (omega (arith, lv.typed.rows-n))));
-    next-in = λ z. let w : ⊥ = omega (arith, z) in absurd w;
+  pub holds_short : length next < n → Holds n levels types last next (record { number = 14; place = 0 })
+  holds_short lt = record {
+    says = λ f t lv table. lists_short f t last next table
+        (or_right (ltb (length last) (length (rows f t))) (lt-ltb (length next) (length (rows f t)) (omega (arith, lv.typed.rows_n))));
+    next_in = λ z. let w : ⊥ = omega (arith, z) in absurd w;
   }
 
-  pub holds-short-last : length last < n → Holds n levels types last next (record { number = 14; place = 0 })
-  holds-short-last lt = record {
-    says = λ f t lv table. lists-short f t last next table
-        (or_left (ltb (length next) (length (rows f t))) (lt-ltb (length last) (length (rows f t)) (omega (arith, lv.typed.rows-n))));
-    next-in = λ z. let w : ⊥ = omega (arith, z) in absurd w;
+  pub holds_short_last : length last < n → Holds n levels types last next (record { number = 14; place = 0 })
+  holds_short_last lt = record {
+    says = λ f t lv table. lists_short f t last next table
+        (or_left (ltb (length next) (length (rows f t))) (lt-ltb (length last) (length (rows f t)) (omega (arith, lv.typed.rows_n))));
+    next_in = λ z. let w : ⊥ = omega (arith, z) in absurd w;
   }
 
-  module _ (long-last : n ≤ length last) (long-next : n ≤ length next) where
-    fits : (f : Format) (t : List ℕ) → Levelled f n t levels types → tooShort (rows f t) last next ≡ false
-    fits f t lv = ap₂ ◌||◌ (le-ltb (length last) (length (rows f t)) (omega (arith, lv.typed.rows-n)))
-        (le-ltb (length next) (length (rows f t)) (omega (arith, lv.typed.rows-n)))
+  module _ (long_last : n ≤ length last) (long_next : n ≤ length next) where
+    fits : (f : Format) (t : List ℕ) → Levelled f n t levels types → too_short (rows f t) last next ≡ false
+    fits f t lv = ap₂ ◌||◌ (le-ltb (length last) (length (rows f t)) (omega (arith, lv.typed.rows_n)))
+        (le-ltb (length next) (length (rows f t)) (omega (arith, lv.typed.rows_n)))
 
     module _ (a b w : ℕ) (fa : FirstWrong n (LastRow n levels) last a) (fb : FirstWrong n (NextRow n types) next b) (is : w ≡ min a b) where
-      pub holds-wrong : w < n → Holds n levels types last next (record { number = 15; place = w })
-      holds-wrong lt = record {
-        says = λ f t lv table. lists-wrong f t last next table (fits f t lv) w (wrong-row-lem f n t levels types lv last next a b fa fb w is lt);
-        next-in = λ z. let w : ⊥ = omega (arith, z) in absurd w;
+      pub holds_wrong : w < n → Holds n levels types last next (record { number = 15; place = w })
+      holds_wrong lt = record {
+        says = λ f t lv table. lists_wrong f t last next table (fits f t lv) w (wrong_row_lem f n t levels types lv last next a b fa fb w is lt);
+        next_in = λ z. let w : ⊥ = omega (arith, z) in absurd w;
       }
 
-      pub holds-right : n ≤ w → Holds n levels types last next (record { number = 0; place = 0 })
-      holds-right le = record {
-        says = λ f t lv table. lists-right f t last next table (fits f t lv) (no-wrong-row f n t levels types lv last next a b fa fb (omega arith));
-        next-in = λ _. record { long = long-next; nexts = λ i lt. fb.right i (omega arith) };
+      pub holds_right : n ≤ w → Holds n levels types last next (record { number = 0; place = 0 })
+      holds_right le = record {
+        says = λ f t lv table. lists_right f t last next table (fits f t lv) (no_wrong_row f n t levels types lv last next a b fa fb (omega arith));
+        next_in = λ _. record { long = long_next; nexts = λ i lt. fb.right i (omega arith) };
       }
 
 -- ---- the rows with their index
@@ -62,11 +62,11 @@ module _ (f : Format) (t last next levels types : List ℕ) (r : RowsRead) (read
   pub unread : (r.number ≡ 0 → ⊥) → ReadsIndexed f t last next r levels types
   unread ne = record {
     reads = record {
-      refused-is = λ _. index-refused f t last next r.number r.place (read.refused-is ne);
+      refused-is = λ _. index_refused f t last next r.number r.place (read.refused-is ne);
       given_is = λ z. absurd (ne z);
       read = read.read;
     };
-    next-in = λ z. absurd (ne z);
+    next_in = λ z. absurd (ne z);
   }
 
   -- and where it is not, the lists decide
@@ -82,18 +82,18 @@ module _ (f : Format) (t last next levels types : List ℕ) (r : RowsRead) (read
           read = λ _. record {
             given_is = in_rows.given_is;
             levelled = in_rows.levelled;
-            levels-are = in_rows.levels-are;
+            levels_are = in_rows.levels_are;
             rows_are = in_rows.rows_are;
             told = in_rows.told;
           };
         };
-        next-in = holds.next-in;
+        next_in = holds.next_in;
       }
 
 -- the levels of rows that are read
-pub shallow-rows : {f : Format} {t levels types : List ℕ} {r : RowsRead} → Served f → RowsIn f t r levels types → Shallow r.rows levels
-shallow-rows served in_rows = record {
+pub shallow_rows : {f : Format} {t levels types : List ℕ} {r : RowsRead} → Served f → RowsIn f t r levels types → Shallow r.rows levels
+shallow_rows served in_rows = record {
   few = in_rows.rows_are.few;
-  long = in_rows.rows_are.levels-long;
-  shallow = λ i lt. omega (arith, in_rows.levels-are.level-most i lt, served.shallow);
+  long = in_rows.rows_are.levels_long;
+  shallow = λ i lt. omega (arith, in_rows.levels_are.level_most i lt, served.shallow);
 }

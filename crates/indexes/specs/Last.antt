@@ -1,13 +1,13 @@
 -- The last descendant of each row, by levels. Assumes nothing.
 use Rattle.std.specs.Prelude.{ℕ, suc, ◌≤◌, ◌<◌, ◌≡◌, List, length, get_or}
-use Rattle.paper.specs.Format.{mostRows}
-use Rattle.bytes.specs.Served.{mostLevels}
+use Rattle.paper.specs.Format.{most_rows}
+use Rattle.octets.specs.Served.{most_levels}
 
 -- so many rows with their levels, each of which has a place in a list of ends
 pub record Shallow (rows : ℕ) (levels : List ℕ) : Type 0 where
-  pub few : rows ≤ mostRows
+  pub few : rows ≤ most_rows
   pub long : rows ≤ length levels
-  pub shallow : (i : ℕ) → i < rows → get_or levels i 0 ≤ mostLevels
+  pub shallow : (i : ℕ) → i < rows → get_or levels i 0 ≤ most_levels
 
 -- p is the last of the rows from row i on that are deeper than level l without a break
 pub record DeepTo (rows : ℕ) (levels : List ℕ) (l i p : ℕ) : Type 0 where

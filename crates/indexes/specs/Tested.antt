@@ -3,8 +3,8 @@ use Rattle.std.specs.Prelude.{ℕ, ◌≤◌, ◌≡◌, List, length}
 use Rattle.paper.specs.Format.{Format}
 use Rattle.paper.specs.Tables as Tables
 use Rattle.paper.specs.Tables.{Row}
-use Rattle.paper.specs.Calls.{Answer, refused, given, tests1-4}
-use Rattle.paper.specs.Index.{testsIndex}
+use Rattle.paper.specs.Calls.{Answer, refused, given, tests1_4}
+use Rattle.paper.specs.Index.{tests_index}
 use Rattle.tables.specs.declared.table.Refusal.{Refusal}
 use Rattle.closest.specs.Runs.{Levelled, NextRows}
 use Rattle.closest.specs.Rows.{Reads}
@@ -22,11 +22,11 @@ pub record NextIn (rows : ℕ) (types next : List ℕ) : Type 0 where
 
 -- of whatever table these are the rows: r is what 14 and 15 say of the lists, and where neither refuses, `next` has the next rows
 pub record Holds (rows : ℕ) (levels types last next : List ℕ) (r : Refusal) : Type 0 where
-  pub says : (f : Format) (t : List ℕ) → Levelled f rows t levels types → tests1-4 f t ≡ given (Tables.rows f t)
-      → Says (testsIndex f t last next) (Tables.rows f t) r.number r.place
-  pub next-in : r.number ≡ 0 → NextIn rows types next
+  pub says : (f : Format) (t : List ℕ) → Levelled f rows t levels types → tests1_4 f t ≡ given (Tables.rows f t)
+      → Says (tests_index f t last next) (Tables.rows f t) r.number r.place
+  pub next_in : r.number ≡ 0 → NextIn rows types next
 
 -- what tests 1 to 4, 14 and 15 say of a table t and the lists, and where none refuses, the rows of t
 pub record ReadsIndexed (f : Format) (t last next : List ℕ) (r : RowsRead) (levels types : List ℕ) : Type 0 where
-  pub reads : Reads (testsIndex f t last next) f t r levels types
-  pub next-in : r.number ≡ 0 → NextIn r.rows types next
+  pub reads : Reads (tests_index f t last next) f t r levels types
+  pub next_in : r.number ≡ 0 → NextIn r.rows types next

@@ -1,14 +1,14 @@
 // The last descendant of each row. A row's descendants are the rows behind it that are deeper, up to the first that is not; so a walk back
 // over the levels finds them all.
 ghost use Rattle.std.specs.Prelude.{◌≤◌, ◌<◌, length};
-ghost use Rattle.bytes.specs.Served.{mostLevels};
+ghost use Rattle.octets.specs.Served.{most_levels};
 ghost use Rattle.indexes.specs.Last.{Stepped, Shallow, LastRow, LastRows};
 ghost use Rattle.indexes.specs.Wrong.{FirstWrong};
 
 // The last descendant of row i, which is of level l and has a row of level `behind` behind it. For each level above that one `ends` has the
 // last row from there on that is deeper without a break; afterwards it has that of row i.
 fn end_of(ends: &mut [u16], behind: usize, l: usize, i: u16) -> u16
-    requires { (l ≤ mostLevels) × (mostLevels < length ends.old) }
+    requires { (l ≤ most_levels) × (most_levels < length ends.old) }
     ensures { Stepped behind l i ends.old ends.new result }
 {
     if l < behind {
@@ -32,7 +32,7 @@ pub fn put_last(levels: &[u8], rows: usize, last: &mut [u16])
     let mut i = rows;
     while 0 < i {
         i -= 1;
-        let l = bytes::wide(levels[i]);
+        let l = octets::wide(levels[i]);
         last[i] = end_of(&mut ends, behind, l, i as u16);
         behind = l;
     }
@@ -49,7 +49,7 @@ pub fn wrong_last(levels: &[u8], rows: usize, last: &[u16]) -> usize
     let mut i = rows;
     while 0 < i {
         i -= 1;
-        let l = bytes::wide(levels[i]);
+        let l = octets::wide(levels[i]);
         let end = end_of(&mut ends, behind, l, i as u16);
         wrong = if last[i] == end { wrong } else { i };
         behind = l;

@@ -1,7 +1,7 @@
 // The lists that are lent with a table, held to it.
 ghost use Rattle.std.specs.Prelude.{◌≡◌, length};
-ghost use Rattle.paper.specs.Format.{mostRows};
-ghost use Rattle.bytes.specs.Served.{Served};
+ghost use Rattle.paper.specs.Format.{most_rows};
+ghost use Rattle.octets.specs.Served.{Served};
 ghost use Rattle.closest.specs.Runs.{Rows};
 ghost use Rattle.indexes.specs.Last.{Shallow};
 ghost use Rattle.indexes.specs.Tested.{Holds, ReadsIndexed};
@@ -55,7 +55,7 @@ pub fn read_indexed(
     levels: &mut [u8],
     types: &mut [u8],
 ) -> RowsRead
-    requires { Served f × (length levels.old ≡ mostRows) × (length types.old ≡ mostRows) }
+    requires { Served f × (length levels.old ≡ most_rows) × (length types.old ≡ most_rows) }
     ensures { ReadsIndexed f table.now last.now next.now result levels.new types.new }
 {
     let read = read_rows(table, f, levels, types);

@@ -7,15 +7,15 @@ use mathlib.Core.Bool.{Bool, true, false}
 use mathlib.Core.List.{List, [], ◌∷◌, ◌++◌}
 use lib.Dec.{eqb}
 use borrow.Author.Tests.{eq-eqb, ne_eqb}
-use Rattle.paper.specs.Lists.{joinMap, count}
+use Rattle.paper.specs.Lists.{join_map, count}
 use Rattle.paper.specs.Verdict
-use Rattle.paper.specs.Verdict.{apart, overPairs}
+use Rattle.paper.specs.Verdict.{apart, over_pairs}
 use types.Run.{OneOf}
 use denote.Enum.Declared.{tag_of}
 use Rattle.shapes.specs.declared.shape.Shape.{Shape}
-use Rattle.judging.specs.Pairs.{Found, earned, fault, apartBy, apartPair}
+use Rattle.judging.specs.Pairs.{Found, earned, fault, apart_by, apart_pair}
 use Rattle.judging.specs.declared.pairs.Path.{Path}
-use Rattle.shapes.specs.Edges.{meetingOf}
+use Rattle.shapes.specs.Edges.{meeting_of}
 use Rattle.judging.specs.Told.{told}
 use Rattle.judging.specs.declared.verdict.Verdict.{Verdict}
 use Rattle.judging.specs.declared.verdict.Verdict.TheVariants.{Kept, Missing, Apart, Unsure}
@@ -26,66 +26,66 @@ use Rattle.judging.proofs.Counting.{count-from, count-done}
 module _ {B : Type 0} (ask : List Verdict.Verdict → B) (g : ℕ → ℕ → List Verdict.Verdict) (n : ℕ) where
   -- the answer for all pairs
   abbrev pub answer : B
-  answer = ask (overPairs g (count 0 n))
+  answer = ask (over_pairs g (count 0 n))
 
   -- it is the answer from entry e on
   abbrev pub Outer : ℕ → Type 0
-  Outer e = ask (overPairs g (count e (n - e))) ≡ answer
+  Outer e = ask (over_pairs g (count e (n - e))) ≡ answer
 
   -- the faults of entry e with f and those after it, then of the entries after e
   abbrev pub from : ℕ → ℕ → List Verdict.Verdict
-  from e f = joinMap (g e) (count f (n - f)) ++ overPairs g (count (e + 1) (n - (e + 1)))
+  from e f = join_map (g e) (count f (n - f)) ++ over_pairs g (count (e + 1) (n - (e + 1)))
 
   -- it is the answer for these
   abbrev pub Inner : ℕ → ℕ → Type 0
   Inner e f = ask (from e f) ≡ answer
 
   pub outer_start : Outer 0
-  outer_start = let q : n - 0 ≡ n = omega arith in ap (λ k. ask (overPairs g (count 0 k))) q
+  outer_start = let q : n - 0 ≡ n = omega arith in ap (λ k. ask (over_pairs g (count 0 k))) q
 
   pub inner_start : (e : ℕ) → e < n → Outer e → Inner e (e + 1)
-  inner_start e lt o = ap (λ c. ask (overPairs g c)) (sym (count-from e n lt)) ∙ o
+  inner_start e lt o = ap (λ c. ask (over_pairs g c)) (sym (count-from e n lt)) ∙ o
 
   module _ (e f : ℕ) (i : Inner e f) where
     module _ (lt : f < n) where
       later : List Verdict.Verdict
-      later = joinMap (g e) (count (f + 1) (n - (f + 1)))
+      later = join_map (g e) (count (f + 1) (n - (f + 1)))
 
-      next : (l : List Verdict.Verdict) → g e f ≡ l → ask ((l ++ later) ++ overPairs g (count (e + 1) (n - (e + 1)))) ≡ answer
+      next : (l : List Verdict.Verdict) → g e f ≡ l → ask ((l ++ later) ++ over_pairs g (count (e + 1) (n - (e + 1)))) ≡ answer
       unfolding later
       next l q =
-          ap (λ k. ask ((k ++ later) ++ overPairs g (count (e + 1) (n - (e + 1))))) (sym q)
-          ∙ ap (λ c. ask (joinMap (g e) c ++ overPairs g (count (e + 1) (n - (e + 1))))) (sym (count-from f n lt)) ∙ i
+          ap (λ k. ask ((k ++ later) ++ over_pairs g (count (e + 1) (n - (e + 1))))) (sym q)
+          ∙ ap (λ c. ask (join_map (g e) c ++ over_pairs g (count (e + 1) (n - (e + 1))))) (sym (count-from f n lt)) ∙ i
 
-      pub inner-step : g e f ≡ [] → Inner e (f + 1)
+      pub inner_step : g e f ≡ [] → Inner e (f + 1)
       unfolding later
-      inner-step q = next [] q
+      inner_step q = next [] q
 
-      pub inner-found : (v : Verdict.Verdict) → g e f ≡ v ∷ [] → ask (v ∷ from e (f + 1)) ≡ answer
+      pub inner_found : (v : Verdict.Verdict) → g e f ≡ v ∷ [] → ask (v ∷ from e (f + 1)) ≡ answer
       unfolding later
-      inner-found v q = next (v ∷ []) q
+      inner_found v q = next (v ∷ []) q
 
-    pub inner-end : n ≤ f → Outer (e + 1)
-    inner-end past = ap (λ c. ask (joinMap (g e) c ++ overPairs g (count (e + 1) (n - (e + 1))))) (sym (count-done f n past)) ∙ i
+    pub inner_end : n ≤ f → Outer (e + 1)
+    inner_end past = ap (λ c. ask (join_map (g e) c ++ over_pairs g (count (e + 1) (n - (e + 1))))) (sym (count-done f n past)) ∙ i
 
-  pub outer-end : (e : ℕ) → n ≤ e → Outer e → ask [] ≡ answer
-  outer-end e past o = ap (λ c. ask (overPairs g c)) (sym (count-done e n past)) ∙ o
+  pub outer_end : (e : ℕ) → n ≤ e → Outer e → ask [] ≡ answer
+  outer_end e past o = ap (λ c. ask (over_pairs g c)) (sym (count-done e n past)) ∙ o
 
 -- ---- one pair
 -- what each pair of entries earns, where it is a fault
-abbrev pub faultsOf : Shape → List ℕ → List Bool → List ℕ → ℕ → ℕ → List Verdict.Verdict
-faultsOf s ways full meetings e f = fault (earned s.levels s.edges full ways (meetingOf meetings s.types e f) e f)
+abbrev pub faults_of : Shape → List ℕ → List Bool → List ℕ → ℕ → ℕ → List Verdict.Verdict
+faults_of s ways full meetings e f = fault (earned s.levels s.edges full ways (meeting_of meetings s.types e f) e f)
 
-module _ (s : Shape) (ways : List ℕ) (full : List Bool) (meetings : List ℕ) (e f m : ℕ) (qm : m ≡ meetingOf meetings s.types e f) (v : Verdict)
+module _ (s : Shape) (ways : List ℕ) (full : List Bool) (meetings : List ℕ) (e f m : ℕ) (qm : m ≡ meeting_of meetings s.types e f) (v : Verdict)
     (qv : told v ≡ earned s.levels s.edges full ways m e f) where
-  faults-told : faultsOf s ways full meetings e f ≡ fault (told v)
-  faults-told = ap (λ m. fault (earned s.levels s.edges full ways m e f)) (sym qm) ∙ ap fault (sym qv)
+  faults_told : faults_of s ways full meetings e f ≡ fault (told v)
+  faults_told = ap (λ m. fault (earned s.levels s.edges full ways m e f)) (sym qm) ∙ ap fault (sym qv)
 
-  pub faults-none : v ≡ Kept → faultsOf s ways full meetings e f ≡ []
-  faults-none q = faults-told ∙ ap (λ v. fault (told v)) q
+  pub faults_none : v ≡ Kept → faults_of s ways full meetings e f ≡ []
+  faults_none q = faults_told ∙ ap (λ v. fault (told v)) q
 
-  pub faults-one : OneOf (1 ∷ 2 ∷ 3 ∷ []) (tag_of the_type v) → faultsOf s ways full meetings e f ≡ told v ∷ []
-  faults-one h = faults-told ∙ one v h
+  pub faults_one : OneOf (1 ∷ 2 ∷ 3 ∷ []) (tag_of the_type v) → faults_of s ways full meetings e f ≡ told v ∷ []
+  faults_one h = faults_told ∙ one v h
     where
       one : (v : Verdict) → OneOf (1 ∷ 2 ∷ 3 ∷ []) (tag_of the_type v) → fault (told v) ≡ told v ∷ []
       one Kept h = ⊎_elim (λ x. absurd (omega arith)) (⊎_elim (λ x. absurd (omega arith)) (λ x. absurd (omega arith))) h
@@ -94,13 +94,13 @@ module _ (s : Shape) (ways : List ℕ) (full : List Bool) (meetings : List ℕ) 
       one (Unsure e f) h = refl
 
 -- ---- one pair and a 2
-module _ (s : Shape) (ways meetings : List ℕ) (e f m : ℕ) (qm : m ≡ meetingOf meetings s.types e f) {path : Path}
+module _ (s : Shape) (ways meetings : List ℕ) (e f m : ℕ) (qm : m ≡ meeting_of meetings s.types e f) {path : Path}
     (w : Found s.levels s.edges ways e f path) where
-  apart-by-lem : (b : Bool) → eqb path.least m ≡ b → apartPair s ways meetings e f ≡ apartBy e f b
-  apart-by-lem b q = rw (← q, qm, w.least-is) refl
+  apart_by_lem : (b : Bool) → eqb path.least m ≡ b → apart_pair s ways meetings e f ≡ apart_by e f b
+  apart_by_lem b q = rw (← q, qm, w.least-is) refl
 
-  pub apart_none : path.least ≡ m → apartPair s ways meetings e f ≡ []
-  apart_none q = apart-by-lem true (eq-eqb path.least m q)
+  pub apart_none : path.least ≡ m → apart_pair s ways meetings e f ≡ []
+  apart_none q = apart_by_lem true (eq-eqb path.least m q)
 
-  pub apart-one : (path.least ≡ m → ⊥) → apartPair s ways meetings e f ≡ apart e f ∷ []
-  apart-one ne = apart-by-lem false (ne_eqb path.least m ne)
+  pub apart_one : (path.least ≡ m → ⊥) → apart_pair s ways meetings e f ≡ apart e f ∷ []
+  apart_one ne = apart_by_lem false (ne_eqb path.least m ne)

@@ -9,20 +9,20 @@ use lib.Dec.{eqb}
 use lib.ListN.{length, get_or, drop, length-take, length-drop, drop_of_length-le}
 use lib.Seq.{drop-cons}
 use borrow.Author.Tests.{eq-eqb, ne_eqb}
-use Rattle.paper.specs.Format.{mostEntries}
+use Rattle.paper.specs.Format.{most_entries}
 use Rattle.paper.specs.Closeness.{shared}
-use Rattle.tables.proofs.Laws.{shared_step, shared-stop, shared-end}
-use Rattle.shapes.specs.Shape.{levelOf}
-use Rattle.shapes.specs.Ways.{wayPlaces, wayAt}
+use Rattle.tables.proofs.Laws.{shared_step, shared-stop, shared_end}
+use Rattle.shapes.specs.Shape.{level_of}
+use Rattle.shapes.specs.Ways.{way_places, way_at}
 use Rattle.shapes.specs.declared.shape.Shape.{Shape}
-use Rattle.shapes.proofs.Places.{way-place}
-use Rattle.judging.specs.Pairs.{WayFits, Room, lowest, levelsOn, sureOn}
+use Rattle.shapes.proofs.Places.{way_place}
+use Rattle.judging.specs.Pairs.{WayFits, Room, lowest, levels_on, sure_on}
 
 -- ---- one way
-pub way-fits : {s : Shape} {ways : List ℕ} → Room s ways → (e : ℕ) → e < s.entries → WayFits ways e (levelOf s e)
-way-fits room e le = record {
+pub way_fits : {s : Shape} {ways : List ℕ} → Room s ways → (e : ℕ) → e < s.entries → WayFits ways e (level_of s e)
+way_fits room e le = record {
   entry = omega (arith, room.sized.few);
-  ways-long = room.ways-long;
+  ways_long = room.ways_long;
   short = room.short e le;
   inside = λ k lt. omega (arith, room.sized.few, room.inside e k le lt);
 }
@@ -33,96 +33,96 @@ fits_read q fits = rw q fits
 
 module _ {ways : List ℕ} {e n : ℕ} (fits : WayFits ways e n) where
   -- the places of a way lie within the ways
-  pub way-within : wayPlaces * e + n ≤ length ways
-  way-within = omega (arith, fits.entry, fits.ways-long, fits.short)
+  pub way_within : way_places * e + n ≤ length ways
+  way_within = omega (arith, fits.entry, fits.ways_long, fits.short)
 
-  pub way_long : length (wayAt ways e n) ≡ n
-  way_long = omega (arith, way-within, length-take n (drop (wayPlaces * e) ways), length-drop (wayPlaces * e) ways)
+  pub way_long : length (way_at ways e n) ≡ n
+  way_long = omega (arith, way_within, length-take n (drop (way_places * e) ways), length-drop (way_places * e) ways)
 
   -- from place i on a way is the entry at that place, then what follows
-  pub way-from : (i : ℕ) → i < n → drop i (wayAt ways e n) ≡ get_or ways (wayPlaces * e + i) 0 ∷ drop (i + 1) (wayAt ways e n)
-  way-from i lt =
-      drop-cons (wayAt ways e n) i 0 (omega (arith, way_long))
-      ∙ ap₂ {C = List ℕ} (λ c j. c ∷ drop j (wayAt ways e n)) (way-place ways e n i lt) (sym (add-one i))
+  pub way_from : (i : ℕ) → i < n → drop i (way_at ways e n) ≡ get_or ways (way_places * e + i) 0 ∷ drop (i + 1) (way_at ways e n)
+  way_from i lt =
+      drop-cons (way_at ways e n) i 0 (omega (arith, way_long))
+      ∙ ap₂ {C = List ℕ} (λ c j. c ∷ drop j (way_at ways e n)) (way_place ways e n i lt) (sym (add-one i))
 
   -- a way holds entries
-  pub way-entry : (i c : ℕ) → i < n → c ≡ get_or ways (wayPlaces * e + i) 0 → c < mostEntries
-  way-entry i c lt q = rw q (fits.inside i lt)
+  pub way_entry : (i c : ℕ) → i < n → c ≡ get_or ways (way_places * e + i) 0 → c < most_entries
+  way_entry i c lt q = rw q (fits.inside i lt)
 
-  pub way-done : (i : ℕ) → n ≤ i → drop i (wayAt ways e n) ≡ []
-  way-done i past = drop_of_length-le (wayAt ways e n) {i = i} (omega (arith, way_long))
+  pub way_done : (i : ℕ) → n ≤ i → drop i (way_at ways e n) ≡ []
+  way_done i past = drop_of_length-le (way_at ways e n) {i = i} (omega (arith, way_long))
 
 -- ---- what two ways share
 -- the first k places of two ways are alike
 abbrev pub Alike : List ℕ → ℕ → ℕ → ℕ → Type 0
-Alike ways e f k = (j : ℕ) → j < k → get_or ways (wayPlaces * e + j) 0 ≡ get_or ways (wayPlaces * f + j) 0
+Alike ways e f k = (j : ℕ) → j < k → get_or ways (way_places * e + j) 0 ≡ get_or ways (way_places * f + j) 0
 
 module _ {ways : List ℕ} {e f m n : ℕ} (fits-e : WayFits ways e m) (fits-f : WayFits ways f n) where
   abbrev here : ℕ → ℕ
-  here k = get_or ways (wayPlaces * e + k) 0
+  here k = get_or ways (way_places * e + k) 0
 
   abbrev there : ℕ → ℕ
-  there k = get_or ways (wayPlaces * f + k) 0
+  there k = get_or ways (way_places * f + k) 0
 
-  at-e : (k : ℕ) → k < m → (k < length (wayAt ways e m)) × (get_or (wayAt ways e m) k 0 ≡ here k)
-  at-e k lt = (omega (arith, way_long fits-e), way-place ways e m k lt)
+  at_e : (k : ℕ) → k < m → (k < length (way_at ways e m)) × (get_or (way_at ways e m) k 0 ≡ here k)
+  at_e k lt = (omega (arith, way_long fits-e), way_place ways e m k lt)
 
-  at_f : (k : ℕ) → k < n → (k < length (wayAt ways f n)) × (get_or (wayAt ways f n) k 0 ≡ there k)
-  at_f k lt = (omega (arith, way_long fits-f), way-place ways f n k lt)
+  at_f : (k : ℕ) → k < n → (k < length (way_at ways f n)) × (get_or (way_at ways f n) k 0 ≡ there k)
+  at_f k lt = (omega (arith, way_long fits-f), way_place ways f n k lt)
 
   along : (k : ℕ) → k ≤ m → k ≤ n → Alike ways e f k
-      → k + shared (drop k (wayAt ways e m)) (drop k (wayAt ways f n)) ≡ shared (wayAt ways e m) (wayAt ways f n)
+      → k + shared (drop k (way_at ways e m)) (drop k (way_at ways f n)) ≡ shared (way_at ways e m) (way_at ways f n)
   along zero a b h = omega arith
   along (suc k) a b h =
-      let x = at-e k (omega arith) in
+      let x = at_e k (omega arith) in
       let y = at_f k (omega arith) in
-      let step : shared (drop k (wayAt ways e m)) (drop k (wayAt ways f n)) ≡ suc (shared (drop (suc k) (wayAt ways e m)) (drop (suc k) (wayAt ways f n))) =
-      shared_step (wayAt ways e m) (wayAt ways f n) k x.0 y.0 (x.1 ∙ h k (omega arith) ∙ sym y.1)
-      ∙ ap (λ i. suc (shared (drop i (wayAt ways e m)) (drop i (wayAt ways f n)))) (add-one k) in
+      let step : shared (drop k (way_at ways e m)) (drop k (way_at ways f n)) ≡ suc (shared (drop (suc k) (way_at ways e m)) (drop (suc k) (way_at ways f n))) =
+      shared_step (way_at ways e m) (way_at ways f n) k x.0 y.0 (x.1 ∙ h k (omega arith) ∙ sym y.1)
+      ∙ ap (λ i. suc (shared (drop i (way_at ways e m)) (drop i (way_at ways f n)))) (add-one k) in
       omega (arith, step, along k (omega arith) (omega arith) (λ j lt. h j (omega arith)))
 
   module _ (most k : ℕ) (least : most ≡ min m n) (h : Alike ways e f k) where
     -- the ways part at place k
-    pub shared-apart : k < most → (here k ≡ there k → ⊥) → k ≡ shared (wayAt ways e m) (wayAt ways f n)
-    shared-apart lt ne =
-        let x = at-e k (omega arith) in
+    pub shared_apart : k < most → (here k ≡ there k → ⊥) → k ≡ shared (way_at ways e m) (way_at ways f n)
+    shared_apart lt ne =
+        let x = at_e k (omega arith) in
         let y = at_f k (omega arith) in
-        omega (arith, along k (omega arith) (omega arith) h, shared-stop (wayAt ways e m) (wayAt ways f n) k x.0 y.0 (λ q. ne (sym x.1 ∙ q ∙ y.1)))
+        omega (arith, along k (omega arith) (omega arith) h, shared-stop (way_at ways e m) (way_at ways f n) k x.0 y.0 (λ q. ne (sym x.1 ∙ q ∙ y.1)))
 
     -- one way ends there
-    pub shared-whole : k ≤ most → most ≤ k → most ≡ shared (wayAt ways e m) (wayAt ways f n)
+    pub shared-whole : k ≤ most → most ≤ k → most ≡ shared (way_at ways e m) (way_at ways f n)
     shared-whole a b =
         omega (
           arith,
           along k (omega arith) (omega arith) h,
-          shared-end (wayAt ways e m) (wayAt ways f n) k (omega (arith, way_long fits-e, way_long fits-f)),
+          shared_end (way_at ways e m) (way_at ways f n) k (omega (arith, way_long fits-e, way_long fits-f)),
         )
 
 -- ---- down one way
 module _ {ways : List ℕ} {e n : ℕ} (fits : WayFits ways e n) (edges : List ℕ) (i : ℕ) where
   module _ (lt : i < n) where
     -- one edge more is passed
-    pub lowest_step : (c v b r : ℕ) → c ≡ get_or ways (wayPlaces * e + i) 0 → v ≡ get_or edges c 0 → r ≡ min b v
-        → lowest r (levelsOn edges (drop (i + 1) (wayAt ways e n))) ≡ lowest b (levelsOn edges (drop i (wayAt ways e n)))
-    lowest_step c v b r qc qv qr = rw (qr, qv, qc, way-from fits i lt) refl
+    pub lowest_step : (c v b r : ℕ) → c ≡ get_or ways (way_places * e + i) 0 → v ≡ get_or edges c 0 → r ≡ min b v
+        → lowest r (levels_on edges (drop (i + 1) (way_at ways e n))) ≡ lowest b (levels_on edges (drop i (way_at ways e n)))
+    lowest_step c v b r qc qv qr = rw (qr, qv, qc, way_from fits i lt) refl
 
-    module _ (full : List Bool) (c v l : ℕ) (qc : c ≡ get_or ways (wayPlaces * e + i) 0) (qv : v ≡ get_or edges c 0) where
-      sure-here : sureOn edges full l (drop i (wayAt ways e n)) ≡ (eqb v l || (get_or full c false && sureOn edges full l (drop (i + 1) (wayAt ways e n))))
-      sure-here = rw (qv, qc, way-from fits i lt) refl
+    module _ (full : List Bool) (c v l : ℕ) (qc : c ≡ get_or ways (way_places * e + i) 0) (qv : v ≡ get_or edges c 0) where
+      sure_here : sure_on edges full l (drop i (way_at ways e n)) ≡ (eqb v l || (get_or full c false && sure_on edges full l (drop (i + 1) (way_at ways e n))))
+      sure_here = rw (qv, qc, way_from fits i lt) refl
 
-      pub sure-found : v ≡ l → sureOn edges full l (drop i (wayAt ways e n)) ≡ true
-      sure-found h = sure-here ∙ rw (eq-eqb v l h) refl
+      pub sure_found : v ≡ l → sure_on edges full l (drop i (way_at ways e n)) ≡ true
+      sure_found h = sure_here ∙ rw (eq-eqb v l h) refl
 
       module _ (other : v ≡ l → ⊥) where
-        pub sure-lost : get_or full c false ≡ false → sureOn edges full l (drop i (wayAt ways e n)) ≡ false
-        sure-lost h = sure-here ∙ rw (ne_eqb v l other, h) refl
+        pub sure_lost : get_or full c false ≡ false → sure_on edges full l (drop i (way_at ways e n)) ≡ false
+        sure_lost h = sure_here ∙ rw (ne_eqb v l other, h) refl
 
-        pub sure_step : get_or full c false ≡ true → sureOn edges full l (drop i (wayAt ways e n)) ≡ sureOn edges full l (drop (i + 1) (wayAt ways e n))
-        sure_step h = sure-here ∙ rw (ne_eqb v l other, h) refl
+        pub sure_step : get_or full c false ≡ true → sure_on edges full l (drop i (way_at ways e n)) ≡ sure_on edges full l (drop (i + 1) (way_at ways e n))
+        sure_step h = sure_here ∙ rw (ne_eqb v l other, h) refl
 
   module _ (past : n ≤ i) where
-    pub lowest-end : (b : ℕ) → lowest b (levelsOn edges (drop i (wayAt ways e n))) ≡ b
-    lowest-end b = ap (λ w. lowest b (levelsOn edges w)) (way-done fits i past)
+    pub lowest_end : (b : ℕ) → lowest b (levels_on edges (drop i (way_at ways e n))) ≡ b
+    lowest_end b = ap (λ w. lowest b (levels_on edges w)) (way_done fits i past)
 
-    pub sure-end : (full : List Bool) (l : ℕ) → sureOn edges full l (drop i (wayAt ways e n)) ≡ false
-    sure-end full l = ap (sureOn edges full l) (way-done fits i past)
+    pub sure_end : (full : List Bool) (l : ℕ) → sure_on edges full l (drop i (way_at ways e n)) ≡ false
+    sure_end full l = ap (sure_on edges full l) (way_done fits i past)

@@ -1,24 +1,24 @@
 -- Rows without a partner, entry by entry, and candidates along a run. Assumes nothing.
 use Rattle.std.specs.Prelude.{ℕ, ◌+◌, ◌≤◌, ◌<◌, ◌≡◌, ◌⊎◌, true, false, List, map, eqb, leb, get_or}
-use Rattle.paper.specs.Lists.{keep, joinMap, count}
-use Rattle.paper.specs.Closeness.{Node, ofKind, closestNumber}
+use Rattle.paper.specs.Lists.{keep, join_map, count}
+use Rattle.paper.specs.Closeness.{Node, of_kind, closest_number}
 use Rattle.paper.specs.Verdict.{Verdict, missing}
 use Rattle.shapes.specs.declared.shape.Shape.{Shape}
-use Rattle.partners.specs.Closest.{aloneRows}
+use Rattle.partners.specs.Closest.{alone_rows}
 
 -- the rows of type a whose number of closest rows of type b is 0
-unfoldable pub aloneOf : List Node → ℕ → ℕ → List Node
-aloneOf t a b = keep (λ r. eqb (closestNumber t b r) 0) (ofKind t a)
+unfoldable pub alone_of : List Node → ℕ → ℕ → List Node
+alone_of t a b = keep (λ r. eqb (closest_number t b r) 0) (of_kind t a)
 
 module _ (levels types : List ℕ) (rows : ℕ) (s : Shape) where
   -- for each of n entries from c on: its rows without a partner
-  unfoldable pub loneFrom : ℕ → ℕ → List Verdict
-  loneFrom c n = joinMap (λ c. map (missing c) (aloneRows levels types rows s c)) (count c n)
+  unfoldable pub lone_from : ℕ → ℕ → List Verdict
+  lone_from c n = join_map (λ c. map (missing c) (alone_rows levels types rows s c)) (count c n)
 
 -- ---- along a run
 -- where the candidates for row r are looked for: from r itself where a run begins there, and else from j on
-abbrev pub candidateFrom : List ℕ → ℕ → ℕ → ℕ → ℕ
-candidateFrom levels bound r j = elim (leb (get_or levels r 0) bound) [ true ↦ r | false ↦ j ]
+abbrev pub candidate_from : List ℕ → ℕ → ℕ → ℕ → ℕ
+candidate_from levels bound r j = elim (leb (get_or levels r 0) bound) [ true ↦ r | false ↦ j ]
 
 -- k is the row after row j in its run, past the rows for none
 abbrev pub OnInRun : List ℕ → ℕ → ℕ → ℕ → ℕ → Type 0

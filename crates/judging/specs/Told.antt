@@ -10,7 +10,7 @@ use Rattle.partners.specs.declared.edges.Edges.{Edges}
 use Rattle.judging.specs.declared.verdict.Verdict.{Verdict}
 use Rattle.judging.specs.declared.verdict.Verdict.TheVariants.{Kept, Missing, Apart, Unsure}
 use Rattle.judging.specs.declared.judge.Judged.{Judged}
-use Rattle.judging.specs.Judged.{judged, inNumbers}
+use Rattle.judging.specs.Judged.{judged, in_numbers}
 
 -- the paper's verdict
 abbrev pub told : Verdict → Rattle.paper.specs.Verdict.Verdict
@@ -20,14 +20,14 @@ told (Apart e f) = Rattle.paper.specs.Verdict.apart e f
 told (Unsure e f) = Rattle.paper.specs.Verdict.unsure e f
 
 -- the numbers of each edge as they are found
-abbrev pub numbersIn : Edges → EdgeNumbers
-numbersIn r = record {
-  leastChildren = r.least_children;
-  greatestChildren = r.greatest_children;
-  leastParents = r.least_parents;
-  greatestParents = r.greatest_parents;
+abbrev pub numbers_in : Edges → EdgeNumbers
+numbers_in r = record {
+  least_children = r.least_children;
+  greatest_children = r.greatest_children;
+  least_parents = r.least_parents;
+  greatest_parents = r.greatest_parents;
 }
 
 -- whatever table the rows are of, r is what judging it says
 abbrev pub JudgesRows : Format → List ℕ → RowsRead → List ℕ → List ℕ → Judged → Type 0
-JudgesRows f s read levels types r = (t : List ℕ) → RowsIn f t read levels types → judged r ≡ inNumbers (judge f t s)
+JudgesRows f s read levels types r = (t : List ℕ) → RowsIn f t read levels types → judged r ≡ in_numbers (judge f t s)

@@ -1,11 +1,11 @@
 // Judging a table and a shape.
 ghost use Rattle.std.specs.Prelude.{◌≡◌};
-ghost use Rattle.paper.specs.Calls.{judge, noJudgement};
-ghost use Rattle.paper.specs.Index.{judgeWith};
-ghost use Rattle.bytes.specs.Served.{Served};
+ghost use Rattle.paper.specs.Calls.{judge, no_judgement};
+ghost use Rattle.paper.specs.Index.{judge_with};
+ghost use Rattle.octets.specs.Served.{Served};
 ghost use Rattle.closest.specs.Rows.{SomeRows};
-ghost use Rattle.judging.specs.Judged.{judged, inNumbers, edgesOf};
-ghost use Rattle.judging.specs.Told.{numbersIn, JudgesRows};
+ghost use Rattle.judging.specs.Judged.{judged, in_numbers, edges_of};
+ghost use Rattle.judging.specs.Told.{numbers_in, JudgesRows};
 
 use crate::full::full_edges;
 use crate::lone::first_lone;
@@ -33,7 +33,7 @@ pub struct Judged {
 }
 
 pub fn refused(number: usize, place: usize) -> Judged
-    ensures { judged result ≡ inNumbers (record { number = number; place = place; rest = noJudgement }) }
+    ensures { judged result ≡ in_numbers (record { number = number; place = place; rest = no_judgement }) }
 {
     Judged {
         number: number,
@@ -48,7 +48,7 @@ pub fn refused(number: usize, place: usize) -> Judged
 }
 
 fn given(verdict: Verdict, none: bool, edges: Edges) -> Judged
-    ensures { (result.number ≡ 0) × (result.place ≡ 0) × (result.verdict ≡ verdict) × (result.none_apart ≡ none) × (edgesOf result ≡ numbersIn edges) }
+    ensures { (result.number ≡ 0) × (result.place ≡ 0) × (result.verdict ≡ verdict) × (result.none_apart ≡ none) × (edges_of result ≡ numbers_in edges) }
 {
     let least_children = edges.least_children;
     let greatest_children = edges.greatest_children;
@@ -104,7 +104,7 @@ pub fn judge_rows(shape: &[u8], f: Format, read: RowsRead, levels: &[u8], types:
 // Refusals 1 to 4, or what is judged of the rows that were read.
 pub fn judge(table: &[u8], shape: &[u8], f: Format) -> Judged
     requires { Served f }
-    ensures { judged result ≡ inNumbers (judge f table.now shape.now) }
+    ensures { judged result ≡ in_numbers (judge f table.now shape.now) }
 {
     let mut levels = [0u8; 1024];
     let mut types = [0u8; 1024];
@@ -120,7 +120,7 @@ pub fn judge(table: &[u8], shape: &[u8], f: Format) -> Judged
 // Refusals 1 to 4, then 14 and 15 of the lists that are lent as the table's index, or what is judged of the rows that were read.
 pub fn judge_with_index(table: &[u8], shape: &[u8], f: Format, last: &[u16], next: &[u16]) -> Judged
     requires { Served f }
-    ensures { judged result ≡ inNumbers (judgeWith f table.now shape.now last.now next.now) }
+    ensures { judged result ≡ in_numbers (judge_with f table.now shape.now last.now next.now) }
 {
     let mut levels = [0u8; 1024];
     let mut types = [0u8; 1024];

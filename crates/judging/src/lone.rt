@@ -6,7 +6,7 @@ ghost use Rattle.paper.specs.Verdict.{kept};
 ghost use Rattle.closest.specs.Runs.{Rows};
 ghost use Rattle.shapes.specs.Shape.{Sized};
 ghost use Rattle.judging.specs.Told.{told};
-ghost use Rattle.judging.specs.Lone.{candidateFrom, OnInRun, loneFrom};
+ghost use Rattle.judging.specs.Lone.{candidate_from, OnInRun, lone_from};
 ghost use Rattle.partners.specs.Edges.{AllMet};
 
 use crate::verdict::Verdict;
@@ -16,7 +16,7 @@ use shapes::shape::Shape;
 // Where the candidates for row r are looked for: from r itself where a run begins there, and else from j on.
 fn candidate_from(levels: &[u8], bound: u8, r: usize, j: usize) -> usize
     requires { r < length levels.now }
-    ensures { result ≡ candidateFrom levels.now bound r j }
+    ensures { result ≡ candidate_from levels.now bound r j }
 {
     if levels[r] <= bound {
         return r;
@@ -49,14 +49,14 @@ pub fn first_lone(
     from: usize,
 ) -> Verdict
     requires { Rows rows levels.now types.now × Sized shape × AllMet levels.now types.now rows shape met from }
-    ensures { told result ≡ first_or kept (loneFrom levels.now types.now rows shape 1 (shape.entries - 1)) }
+    ensures { told result ≡ first_or kept (lone_from levels.now types.now rows shape 1 (shape.entries - 1)) }
 {
     let mut lone = Verdict::Kept;
     let mut c = met;
     let mut r = from;
     'entries: while c < shape.entries {
         let own = shape.types[c];
-        let other = shape.types[bytes::wide(shape.parents[c])];
+        let other = shape.types[octets::wide(shape.parents[c])];
         let bound = run_bound(shape.edges[c]);
         let mut j = r;
         'rows: while r < rows {

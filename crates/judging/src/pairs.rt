@@ -4,7 +4,7 @@
 ghost use Rattle.std.specs.Prelude.{◌≡◌, length, get_or, drop};
 ghost use Rattle.paper.specs.Closeness.{shared};
 ghost use Rattle.judging.specs.Told.{told};
-ghost use Rattle.judging.specs.Pairs.{WayFits, way_of, lowest, levelsOn, sureOn, Found, earned, Room, firstFault};
+ghost use Rattle.judging.specs.Pairs.{WayFits, way_of, lowest, levels_on, sure_on, Found, earned, Room, first_fault};
 
 use crate::verdict::Verdict;
 use shapes::edges::meeting;
@@ -15,7 +15,7 @@ fn shared_way(levels: [u8; 16], ways: &[u8], e: usize, f: usize) -> usize
     requires { WayFits ways.now e (get_or levels e 0) × WayFits ways.now f (get_or levels f 0) }
     ensures { result ≡ shared (way_of levels ways.now e) (way_of levels ways.now f) }
 {
-    let most = tables::row::smaller(bytes::wide(levels[e]), bytes::wide(levels[f]));
+    let most = tables::row::smaller(octets::wide(levels[e]), octets::wide(levels[f]));
     let mut k = 0;
     while k < most {
         if ways[8 * e + k] != ways[8 * f + k] {
@@ -36,14 +36,14 @@ fn least_level(
     b: usize,
 ) -> usize
     requires { WayFits ways.now e (get_or levels e 0) }
-    ensures { result ≡ lowest b (levelsOn edges (drop k (way_of levels ways.now e))) }
+    ensures { result ≡ lowest b (levels_on edges (drop k (way_of levels ways.now e))) }
 {
-    let size = bytes::wide(levels[e]);
+    let size = octets::wide(levels[e]);
     let mut least = b;
     let mut i = k;
     while i < size {
-        let c = bytes::wide(ways[8 * e + i]);
-        least = tables::row::smaller(least, bytes::wide(edges[c]));
+        let c = octets::wide(ways[8 * e + i]);
+        least = tables::row::smaller(least, octets::wide(edges[c]));
         i += 1;
     }
     least
@@ -60,13 +60,13 @@ fn sure_down(
     l: usize,
 ) -> bool
     requires { WayFits ways.now e (get_or levels e 0) }
-    ensures { result ≡ sureOn edges full l (drop k (way_of levels ways.now e)) }
+    ensures { result ≡ sure_on edges full l (drop k (way_of levels ways.now e)) }
 {
-    let size = bytes::wide(levels[e]);
+    let size = octets::wide(levels[e]);
     let mut i = k;
     while i < size {
-        let c = bytes::wide(ways[8 * e + i]);
-        if bytes::wide(edges[c]) == l {
+        let c = octets::wide(ways[8 * e + i]);
+        if octets::wide(edges[c]) == l {
             return true;
         }
         if !full[c] {
@@ -134,7 +134,7 @@ fn pair_verdict(
 // The first pair, by e, then f, that earns a 2 or a 3.
 pub fn first_fault(shape: Shape, ways: &[u8], full: [bool; 16], meetings: &[u8]) -> Verdict
     requires { Room shape ways.now × (length meetings.now ≡ 1024) }
-    ensures { told result ≡ firstFault shape ways.now full meetings.now }
+    ensures { told result ≡ first_fault shape ways.now full meetings.now }
 {
     let levels = shape.levels;
     let edges = shape.edges;

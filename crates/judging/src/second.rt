@@ -1,7 +1,7 @@
 // The second answer: does no pair of entries earn a 2? Whether edges are full does not matter for it, so that a pair costs less than in
 // the search for the first that earns a 2 or a 3.
 ghost use Rattle.std.specs.Prelude.{◌≡◌, length};
-ghost use Rattle.judging.specs.Pairs.{Room, noPairApart, FirstFault};
+ghost use Rattle.judging.specs.Pairs.{Room, no_pair_apart, FirstFault};
 
 use crate::pairs::walk_path;
 use crate::verdict::Verdict;
@@ -11,7 +11,7 @@ use shapes::shape::Shape;
 // Does no pair earn a 2?
 pub fn none_apart(shape: Shape, ways: &[u8], meetings: &[u8]) -> bool
     requires { Room shape ways.now × (length meetings.now ≡ 1024) }
-    ensures { result ≡ noPairApart shape ways.now meetings.now }
+    ensures { result ≡ no_pair_apart shape ways.now meetings.now }
 {
     let levels = shape.levels;
     let edges = shape.edges;
@@ -36,7 +36,7 @@ pub fn none_apart(shape: Shape, ways: &[u8], meetings: &[u8]) -> bool
 // the pairs are looked at for a 2.
 pub fn none_apart_beside(fault: Verdict, shape: Shape, ways: &[u8], meetings: &[u8]) -> bool
     requires { Room shape ways.now × (length meetings.now ≡ 1024) × FirstFault shape ways.now meetings.now fault }
-    ensures { result ≡ noPairApart shape ways.now meetings.now }
+    ensures { result ≡ no_pair_apart shape ways.now meetings.now }
 {
     match fault {
         Verdict::Kept => true,

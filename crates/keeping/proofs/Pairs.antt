@@ -11,14 +11,14 @@ use lib.ListN.{length, take, length-take, length-map}
 use borrow.Author.Tests.{ltb-false, eqb-true, eq-eqb, not-true}
 use Rattle.paper.specs.Lists.{Has, any, first_or, between, count}
 use Rattle.paper.specs.Format.{Format}
-use Rattle.paper.specs.Labels.{mostOld, Pair, listed, taken, pairKept, badPairFrom, badPair, unlisted, converted}
-use Rattle.paper.proofs.Lists.{both, has-any, has_left, has_right, has-map, map-has, has-count, within}
+use Rattle.paper.specs.Labels.{most_old, Pair, listed, taken, pair_kept, bad_pair_from, bad_pair, unlisted, converted}
+use Rattle.paper.proofs.Lists.{both, has_any, has_left, has_right, has-map, map-has, has-count, within}
 use Rattle.paper.proofs.Kept.{length-count}
-use Rattle.paper.proofs.NewTypes.{Once, once-few}
+use Rattle.paper.proofs.NewTypes.{Once, once_few}
 
 -- none of a list passes a test that none of them passes
 none_passes : {A : Type 0} (p : A → Bool) (x : A) (xs : List A) → not (any p xs) ≡ true → Has x xs → p x ≡ true → ⊥
-none_passes p x xs h i e = true≢false (sym (has-any p x xs i e) ∙ not-true (any p xs) h)
+none_passes p x xs h i e = true≢false (sym (has_any p x xs i e) ∙ not-true (any p xs) h)
 
 -- ---- what a label becomes
 -- A label is an old one of the list and becomes the new one of its pair, or it is none and stays.
@@ -39,15 +39,15 @@ becomes (p ∷ ps) x = go (eqb p.old x) refl (becomes ps x)
 module _ (f : Format) (ls : List ℕ) where
   -- what the rules say of a pair after those before it, one by one
   pub record Kept (before : List Pair) (p : Pair) : Type 0 where
-    pub old : (f.labels < p.old) × (p.old ≤ mostOld)
+    pub old : (f.labels < p.old) × (p.old ≤ most_old)
     pub new : (1 ≤ p.new) × (p.new ≤ f.labels)
     pub absent : Has p.new ls → ⊥
     pub fresh : (q : Pair) → Has q before → q.new ≡ p.new → ⊥
 
-  kept-parts : (before : List Pair) (p : Pair) → pairKept f ls before p ≡ true → Kept before p
-  unfolding pairKept
-  kept-parts before p h =
-      let range = between (suc f.labels) p.old mostOld in
+  kept_parts : (before : List Pair) (p : Pair) → pair_kept f ls before p ≡ true → Kept before p
+  unfolding pair_kept
+  kept_parts before p h =
+      let range = between (suc f.labels) p.old most_old in
       let small = between 1 p.new f.labels in
       let absent = not (any (eqb p.new) ls) in
       let first = not (listed before p.old) in
@@ -56,7 +56,7 @@ module _ (f : Format) (ls : List ℕ) where
       let (c, out) = both (range && small) absent b in
       let (d, e) = both range small c in
       record {
-        old = within (suc f.labels) p.old mostOld d;
+        old = within (suc f.labels) p.old most_old d;
         new = within 1 p.new f.labels e;
         absent = λ i. none_passes (eqb p.new) p.new ls out i (eq-eqb p.new p.new refl);
         fresh = λ q i e. none_passes (λ (q : Pair). eqb q.new p.new) q before own i (eq-eqb q.new p.new e);
@@ -67,44 +67,44 @@ module _ (f : Format) (ls : List ℕ) where
   Right before [] = Unit
   Right before (p ∷ ps) = Kept before p × Right (before ++ (p ∷ [])) ps
 
-  pub none_right : (i : ℕ) (before ps : List Pair) → badPairFrom f ls i before ps ≡ none → Right before ps
+  pub none_right : (i : ℕ) (before ps : List Pair) → bad_pair_from f ls i before ps ≡ none → Right before ps
   none_right i before [] h = tt
-  none_right i before (p ∷ ps) h = go (pairKept f ls before p) refl (none_right (suc i) (before ++ (p ∷ [])) ps) h
+  none_right i before (p ∷ ps) h = go (pair_kept f ls before p) refl (none_right (suc i) (before ++ (p ∷ [])) ps) h
     where
-      go : (t : Bool) → pairKept f ls before p ≡ t
-          → (badPairFrom f ls (suc i) (before ++ (p ∷ [])) ps ≡ none → Right (before ++ (p ∷ [])) ps)
-          → ◌≡◌ {A = Option ℕ} (elim t [ true ↦ badPairFrom f ls (suc i) (before ++ (p ∷ [])) ps | false ↦ some i ]) none → Right before (p ∷ ps)
-      go true e ih q = (kept-parts before p e, ih q)
+      go : (t : Bool) → pair_kept f ls before p ≡ t
+          → (bad_pair_from f ls (suc i) (before ++ (p ∷ [])) ps ≡ none → Right (before ++ (p ∷ [])) ps)
+          → ◌≡◌ {A = Option ℕ} (elim t [ true ↦ bad_pair_from f ls (suc i) (before ++ (p ∷ [])) ps | false ↦ some i ]) none → Right before (p ∷ ps)
+      go true e ih q = (kept_parts before p e, ih q)
       go false e ih q = let z : ◌≡◌ {A = ℕ} 0 1 = cc in let w : ⊥ = omega arith in absurd w
 
-  right-each : (before ps : List Pair) → Right before ps → (p : Pair) → Has p ps → (qs : List Pair) × Kept qs p
-  right-each before [] r p h = absurd h
-  right-each before (q ∷ ps) r p (inl e) = (before, subst (Kept before) (sym e) r.0)
-  right-each before (q ∷ ps) r p (inr h) = right-each (before ++ (q ∷ [])) ps r.1 p h
+  right_each : (before ps : List Pair) → Right before ps → (p : Pair) → Has p ps → (qs : List Pair) × Kept qs p
+  right_each before [] r p h = absurd h
+  right_each before (q ∷ ps) r p (inl e) = (before, subst (Kept before) (sym e) r.0)
+  right_each before (q ∷ ps) r p (inr h) = right_each (before ++ (q ∷ [])) ps r.1 p h
 
   -- no pair shares its new label with one before the list
-  pub right-fresh : (before ps : List Pair) → Right before ps → (p q : Pair) → Has p before → Has q ps → p.new ≡ q.new → ⊥
-  right-fresh before [] r p q hp hq e = hq
-  right-fresh before (x ∷ ps) r p q hp (inl i) e = r.0.fresh p hp (e ∙ ap (λ (q : Pair). q.new) i)
-  right-fresh before (x ∷ ps) r p q hp (inr h) e = right-fresh (before ++ (x ∷ [])) ps r.1 p q (has_left p before (x ∷ []) hp) h e
+  pub right_fresh : (before ps : List Pair) → Right before ps → (p q : Pair) → Has p before → Has q ps → p.new ≡ q.new → ⊥
+  right_fresh before [] r p q hp hq e = hq
+  right_fresh before (x ∷ ps) r p q hp (inl i) e = r.0.fresh p hp (e ∙ ap (λ (q : Pair). q.new) i)
+  right_fresh before (x ∷ ps) r p q hp (inr h) e = right_fresh (before ++ (x ∷ [])) ps r.1 p q (has_left p before (x ∷ []) hp) h e
 
   -- pairs with one new label have one old label
-  one-old : (before ps : List Pair) → Right before ps → (p q : Pair) → Has p ps → Has q ps → p.new ≡ q.new → p.old ≡ q.old
-  one-old before [] r p q hp hq e = absurd hp
-  one-old before (x ∷ ps) r p q (inl i) (inl j) e = ap (λ (q : Pair). q.old) (i ∙ sym j)
-  one-old before (x ∷ ps) r p q (inl i) (inr h) e =
-      absurd (right-fresh (before ++ (x ∷ [])) ps r.1 x q (has_right x before (x ∷ []) (inl refl)) h (sym (ap (λ (q : Pair). q.new) i) ∙ e))
-  one-old before (x ∷ ps) r p q (inr h) (inl j) e =
-      absurd (right-fresh (before ++ (x ∷ [])) ps r.1 x p (has_right x before (x ∷ []) (inl refl)) h (sym (ap (λ (q : Pair). q.new) j) ∙ sym e))
-  one-old before (x ∷ ps) r p q (inr h) (inr k) e = one-old (before ++ (x ∷ [])) ps r.1 p q h k e
+  one_old : (before ps : List Pair) → Right before ps → (p q : Pair) → Has p ps → Has q ps → p.new ≡ q.new → p.old ≡ q.old
+  one_old before [] r p q hp hq e = absurd hp
+  one_old before (x ∷ ps) r p q (inl i) (inl j) e = ap (λ (q : Pair). q.old) (i ∙ sym j)
+  one_old before (x ∷ ps) r p q (inl i) (inr h) e =
+      absurd (right_fresh (before ++ (x ∷ [])) ps r.1 x q (has_right x before (x ∷ []) (inl refl)) h (sym (ap (λ (q : Pair). q.new) i) ∙ e))
+  one_old before (x ∷ ps) r p q (inr h) (inl j) e =
+      absurd (right_fresh (before ++ (x ∷ [])) ps r.1 x p (has_right x before (x ∷ []) (inl refl)) h (sym (ap (λ (q : Pair). q.new) j) ∙ sym e))
+  one_old before (x ∷ ps) r p q (inr h) (inr k) e = one_old (before ++ (x ∷ [])) ps r.1 p q h k e
 
-  module _ (ps : List Pair) (none-bad : badPair f ls ps ≡ none) where
+  module _ (ps : List Pair) (none_bad : bad_pair f ls ps ≡ none) where
     right : Right [] ps
-    unfolding badPair
-    right = none_right 0 [] ps none-bad
+    unfolding bad_pair
+    right = none_right 0 [] ps none_bad
 
     each : (p : Pair) → Has p ps → (qs : List Pair) × Kept qs p
-    each = right-each [] ps right
+    each = right_each [] ps right
 
     -- A label of the new range stays.
     pub converted-small : (x : ℕ) → x ≤ f.labels → converted ps x ≡ x
@@ -112,11 +112,11 @@ module _ (f : Format) (ls : List ℕ) where
         ⊎_elim (λ (p, h, o, n). let z : ⊥ = omega (arith, (each p h).1.old.0, o) in absurd z) (λ k. k.1) (becomes ps x)
 
     -- Every label that is not above the new range without standing in the list comes to lie in the new range.
-    pub converted-range : (x : ℕ) → 1 ≤ x → unlisted f ps x ≡ false → (1 ≤ converted ps x) × (converted ps x ≤ f.labels)
+    pub converted_range : (x : ℕ) → 1 ≤ x → unlisted f ps x ≡ false → (1 ≤ converted ps x) × (converted ps x ≤ f.labels)
     unfolding unlisted
-    converted-range x pos in-range =
+    converted_range x pos in_range =
         ⊎_elim (λ (p, h, o, n). let (lo, hi) = (each p h).1.new in (omega (arith, n), omega (arith, n)))
-        (λ (out, stays). let le = ltb-false f.labels x (small (ltb f.labels x) (listed ps x) in-range out) in
+        (λ (out, stays). let le = ltb-false f.labels x (small (ltb f.labels x) (listed ps x) in_range out) in
         (omega (arith, stays), omega (arith, stays))) (becomes ps x)
       where
         small : (t l : Bool) → t && not l ≡ false → l ≡ false → t ≡ false
@@ -125,9 +125,9 @@ module _ (f : Format) (ls : List ℕ) where
         small true true e q = absurd (true≢false q)
 
     -- LABELS THAT OCCUR STAY APART: a new label is none of those that occur, and no two pairs share one.
-    pub converted-apart : (x y : ℕ) → Has x ls → Has y ls → converted ps x ≡ converted ps y → x ≡ y
-    converted-apart x y hx hy e =
-        ⊎_elim (λ (p, h, o, n). ⊎_elim (λ (q, k, o₁, n₁). sym o ∙ one-old [] ps right p q h k (sym n ∙ e ∙ n₁) ∙ o₁)
+    pub converted_apart : (x y : ℕ) → Has x ls → Has y ls → converted ps x ≡ converted ps y → x ≡ y
+    converted_apart x y hx hy e =
+        ⊎_elim (λ (p, h, o, n). ⊎_elim (λ (q, k, o₁, n₁). sym o ∙ one_old [] ps right p q h k (sym n ∙ e ∙ n₁) ∙ o₁)
         (λ (out, stays). absurd ((each p h).1.absent (subst (λ z. Has z ls) (sym stays ∙ sym e ∙ n) hy))) (becomes ps y))
         (λ (out, stays). ⊎_elim (λ (q, k, o₁, n₁). absurd ((each q k).1.absent (subst (λ z. Has z ls) (sym stays ∙ e ∙ n₁) hx)))
         (λ (out₁, stays₁). sym stays ∙ e ∙ stays₁) (becomes ps y)) (becomes ps x)
@@ -142,50 +142,50 @@ module _ (f : Format) (ls : List ℕ) where
   news = map (λ (p : Pair). alone p.new)
 
   -- no new label stands twice
-  news-once : (before ps : List Pair) → Right f ls before ps → Once (news ps)
-  news-once before [] r = tt
-  news-once before (p ∷ ps) r = (
+  news_once : (before ps : List Pair) → Right f ls before ps → Once (news ps)
+  news_once before [] r = tt
+  news_once before (p ∷ ps) r = (
     (λ h. let (q, i, e) = map-has (λ (p : Pair). alone p.new) (alone p.new) ps h in
-        right-fresh f ls (before ++ (p ∷ [])) ps r.1 p q (has_right p before (p ∷ []) (inl refl)) i (ap (first_or 0) e)),
-    news-once (before ++ (p ∷ [])) ps r.1,
+        right_fresh f ls (before ++ (p ∷ [])) ps r.1 p q (has_right p before (p ∷ []) (inl refl)) i (ap (first_or 0) e)),
+    news_once (before ++ (p ∷ [])) ps r.1,
   )
 
   -- There are no more pairs than new labels.
-  few-right : (before ps : List Pair) → Right f ls before ps → length ps ≤ f.labels
-  few-right before ps r =
+  few_right : (before ps : List Pair) → Right f ls before ps → length ps ≤ f.labels
+  few_right before ps r =
       let range = map alone (count 1 f.labels) in
-      let le : length (news ps) ≤ length range = once-few (news ps) range (news-once before ps r) in-range in
+      let le : length (news ps) ≤ length range = once_few (news ps) range (news_once before ps r) in_range in
       omega (arith, le, length-map ps (λ (p : Pair). alone p.new), length-map (count 1 f.labels) alone, length-count 1 f.labels)
     where
-      in-range : (x : List ℕ) → Has x (news ps) → Has x (map alone (count 1 f.labels))
-      in-range x h =
+      in_range : (x : List ℕ) → Has x (news ps) → Has x (map alone (count 1 f.labels))
+      in_range x h =
           let (p, i, e) = map-has (λ (p : Pair). alone p.new) x ps h in
-          let (lo, hi) = (right-each f ls before ps r p i).1.new in
+          let (lo, hi) = (right_each f ls before ps r p i).1.new in
           subst (λ z. Has z (map alone (count 1 f.labels))) (sym e)
           (has-map alone p.new (count 1 f.labels) (has-count 1 f.labels p.new lo (omega arith)))
 
   -- the pairs before the first that breaks a rule keep them
-  bad-from : (i : ℕ) (before ps : List Pair) (n : ℕ) → badPairFrom f ls i before ps ≡ some n
+  bad_from : (i : ℕ) (before ps : List Pair) (n : ℕ) → bad_pair_from f ls i before ps ≡ some n
       → (k : ℕ) × (n ≡ i + k) × (k < length ps) × Right f ls before (take k ps)
-  bad-from i before [] n h = let z : ◌≡◌ {A = ℕ} 0 1 = cc in let w : ⊥ = omega arith in absurd w
-  bad-from i before (p ∷ ps) n h = go (pairKept f ls before p) refl (bad-from (suc i) (before ++ (p ∷ [])) ps n) h
+  bad_from i before [] n h = let z : ◌≡◌ {A = ℕ} 0 1 = cc in let w : ⊥ = omega arith in absurd w
+  bad_from i before (p ∷ ps) n h = go (pair_kept f ls before p) refl (bad_from (suc i) (before ++ (p ∷ [])) ps n) h
     where
-      go : (t : Bool) → pairKept f ls before p ≡ t
-          → (badPairFrom f ls (suc i) (before ++ (p ∷ [])) ps ≡ some n
+      go : (t : Bool) → pair_kept f ls before p ≡ t
+          → (bad_pair_from f ls (suc i) (before ++ (p ∷ [])) ps ≡ some n
           → (k : ℕ) × (n ≡ suc i + k) × (k < length ps) × Right f ls (before ++ (p ∷ [])) (take k ps))
-          → ◌≡◌ {A = Option ℕ} (elim t [ true ↦ badPairFrom f ls (suc i) (before ++ (p ∷ [])) ps | false ↦ some i ]) (some n)
+          → ◌≡◌ {A = Option ℕ} (elim t [ true ↦ bad_pair_from f ls (suc i) (before ++ (p ∷ [])) ps | false ↦ some i ]) (some n)
           → (k : ℕ) × (n ≡ i + k) × (k < suc (length ps)) × Right f ls before (take k (p ∷ ps))
-      go true e ih q = let (k, at, lt, r) = ih q in (suc k, omega (arith, at), omega (arith, lt), (kept-parts f ls before p e, r))
+      go true e ih q = let (k, at, lt, r) = ih q in (suc k, omega (arith, at), omega (arith, lt), (kept_parts f ls before p e, r))
       go false e ih q = let same : i ≡ n = cc in (0, omega (arith, same), omega arith, tt)
 
   -- A LIST THAT BREAKS NO RULE is no longer than the new range.
-  pub most-pairs : (ps : List Pair) → badPair f ls ps ≡ none → length ps ≤ f.labels
-  unfolding badPair
-  most-pairs ps h = few-right [] ps (none_right f ls 0 [] ps h)
+  pub most_pairs : (ps : List Pair) → bad_pair f ls ps ≡ none → length ps ≤ f.labels
+  unfolding bad_pair
+  most_pairs ps h = few_right [] ps (none_right f ls 0 [] ps h)
 
   -- The first pair to break a rule stands at one of the places 0 to the largest label.
-  pub bad-early : (ps : List Pair) (n : ℕ) → badPair f ls ps ≡ some n → (n ≤ f.labels) × (n < length ps)
-  unfolding badPair
-  bad-early ps n h =
-      let (k, at, lt, r) = bad-from 0 [] ps n h in
-      (omega (arith, at, few-right [] (take k ps) r, length-take k ps), omega (arith, at))
+  pub bad_early : (ps : List Pair) (n : ℕ) → bad_pair f ls ps ≡ some n → (n ≤ f.labels) × (n < length ps)
+  unfolding bad_pair
+  bad_early ps n h =
+      let (k, at, lt, r) = bad_from 0 [] ps n h in
+      (omega (arith, at, few_right [] (take k ps) r, length-take k ps), omega (arith, at))

@@ -28,35 +28,35 @@ count-is l = let (a, b) = counted l in omega (arith, a, b, div-add-mod' (length 
 abbrev pub none : Pair
 none = record { old = 0; new = 0 }
 
-pub pair-at-lem : (l : List ℕ) (i : ℕ) → i < length (pairs l) → get_or (pairs l) i none ≡ pair_at l i
-pair-at-lem [] i lt = absurd (not-suc-le-zero lt)
-pair-at-lem (x ∷ []) zero lt = refl
-pair-at-lem (x ∷ []) (suc i) lt = absurd (not-suc-le-zero (le_of_suc-le-suc lt))
-pair-at-lem (x ∷ y ∷ l) zero lt = refl
-pair-at-lem (x ∷ y ∷ l) (suc i) lt =
+pub pair_at_lem : (l : List ℕ) (i : ℕ) → i < length (pairs l) → get_or (pairs l) i none ≡ pair_at l i
+pair_at_lem [] i lt = absurd (not-suc-le-zero lt)
+pair_at_lem (x ∷ []) zero lt = refl
+pair_at_lem (x ∷ []) (suc i) lt = absurd (not-suc-le-zero (le_of_suc-le-suc lt))
+pair_at_lem (x ∷ y ∷ l) zero lt = refl
+pair_at_lem (x ∷ y ∷ l) (suc i) lt =
     let twice : 2 * suc i ≡ suc (suc (2 * i)) = omega arith in
     let next : 2 * suc i + 1 ≡ suc (suc (2 * i + 1)) = omega arith in
-    pair-at-lem l i (le_of_suc-le-suc lt)
+    pair_at_lem l i (le_of_suc-le-suc lt)
     ∙ ap₂ (λ (a b : ℕ). record { old = get_or (x ∷ y ∷ l) a 0; new = get_or (x ∷ y ∷ l) b 0 }) (sym twice) (sym next)
 
-pub next-pair : (l : List ℕ) (i : ℕ) → i < length (pairs l) → drop i (pairs l) ≡ pair_at l i ∷ drop (suc i) (pairs l)
-next-pair l i lt = drop-cons (pairs l) i none lt ∙ ap (λ (p : Pair). p ∷ drop (suc i) (pairs l)) (pair-at-lem l i lt)
+pub next_pair : (l : List ℕ) (i : ℕ) → i < length (pairs l) → drop i (pairs l) ≡ pair_at l i ∷ drop (suc i) (pairs l)
+next_pair l i lt = drop-cons (pairs l) i none lt ∙ ap (λ (p : Pair). p ∷ drop (suc i) (pairs l)) (pair_at_lem l i lt)
 
 -- so among the first n of them
 module _ (l : List ℕ) (n : ℕ) (le : n ≤ length (pairs l)) where
   pub first-pairs : length (take n (pairs l)) ≡ n
   first-pairs = length-take-le n (pairs l) le
 
-  pub next-of-first : (i : ℕ) → i < n → drop i (take n (pairs l)) ≡ pair_at l i ∷ drop (suc i) (take n (pairs l))
-  next-of-first i lt =
+  pub next_of_first : (i : ℕ) → i < n → drop i (take n (pairs l)) ≡ pair_at l i ∷ drop (suc i) (take n (pairs l))
+  next_of_first i lt =
       drop-cons (take n (pairs l)) i none (omega (arith, first-pairs))
-      ∙ ap (λ (p : Pair). p ∷ drop (suc i) (take n (pairs l))) (get_or-take n (pairs l) i none lt ∙ pair-at-lem l i (omega arith))
+      ∙ ap (λ (p : Pair). p ∷ drop (suc i) (take n (pairs l))) (get_or-take n (pairs l) i none lt ∙ pair_at_lem l i (omega arith))
 
 -- ---- what a pair has
-pub side-has : (l : List ℕ) (i side x v : ℕ) → side ≤ 1 → v ≡ get_or l (2 * i + side) 0 → has side x (pair_at l i) ≡ eqb v x
-side-has l i zero x v le e = ap (λ k. eqb k x) (ap (λ k. get_or l k 0) (omega arith) ∙ sym e)
-side-has l i (suc zero) x v le e = ap (λ k. eqb k x) (sym e)
-side-has l i (suc (suc side)) x v le e = absurd (not-suc-le-zero (le_of_suc-le-suc le))
+pub side_has : (l : List ℕ) (i side x v : ℕ) → side ≤ 1 → v ≡ get_or l (2 * i + side) 0 → has side x (pair_at l i) ≡ eqb v x
+side_has l i zero x v le e = ap (λ k. eqb k x) (ap (λ k. get_or l k 0) (omega arith) ∙ sym e)
+side_has l i (suc zero) x v le e = ap (λ k. eqb k x) (sym e)
+side_has l i (suc (suc side)) x v le e = absurd (not-suc-le-zero (le_of_suc-le-suc le))
 
 -- ---- what is found
 -- one further on both sides
@@ -68,17 +68,17 @@ suc-ltb k n = go (ltb k n) refl
     go false e = le-ltb (suc k) (suc n) (omega (arith, ltb-false k n e))
 
 -- A place within the list has what is looked for; the list's length says that there is none.
-pub place-any : {A : Type 0} (p : A → Bool) (xs : List A) → any p xs ≡ ltb (place p xs) (length xs)
-place-any p [] = refl
-place-any {A} p (x ∷ xs) = at (p x) (any p xs) (place p xs) (place-any p xs)
+pub place_any : {A : Type 0} (p : A → Bool) (xs : List A) → any p xs ≡ ltb (place p xs) (length xs)
+place_any p [] = refl
+place_any {A} p (x ∷ xs) = at (p x) (any p xs) (place p xs) (place_any p xs)
   where
     at : (b c : Bool) (k : ℕ) → c ≡ ltb k (length xs) → b || c ≡ ltb (elim b as (λ _. ℕ) [ true ↦ 0 | false ↦ suc k ]) (suc (length xs))
     at true c k e = sym (lt-ltb 0 (suc (length xs)) (omega arith))
     at false c k e = e ∙ sym (suc-ltb k (length xs))
 
-pub place-most : {A : Type 0} (p : A → Bool) (xs : List A) → place p xs ≤ length xs
-place-most p [] = omega arith
-place-most p (x ∷ xs) = at (p x) (place-most p xs)
+pub place_most : {A : Type 0} (p : A → Bool) (xs : List A) → place p xs ≤ length xs
+place_most p [] = omega arith
+place_most p (x ∷ xs) = at (p x) (place_most p xs)
   where
     at : (b : Bool) → place p xs ≤ length xs → elim b as (λ _. ℕ) [ true ↦ 0 | false ↦ suc (place p xs) ] ≤ suc (length xs)
     at true le = omega arith
@@ -86,9 +86,9 @@ place-most p (x ∷ xs) = at (p x) (place-most p xs)
 
 module _ (x : ℕ) where
   -- What a label becomes is told by the first pair that has it as its old one.
-  pub converted-found : (ps : List Pair) → place (has 0 x) ps < length ps → converted ps x ≡ (get_or ps (place (has 0 x) ps) none).new
-  converted-found [] lt = absurd (not-suc-le-zero lt)
-  converted-found (p ∷ ps) lt = at (eqb p.old x) lt (λ (l : place (has 0 x) ps < length ps). converted-found ps l)
+  pub converted_found : (ps : List Pair) → place (has 0 x) ps < length ps → converted ps x ≡ (get_or ps (place (has 0 x) ps) none).new
+  converted_found [] lt = absurd (not-suc-le-zero lt)
+  converted_found (p ∷ ps) lt = at (eqb p.old x) lt (λ (l : place (has 0 x) ps < length ps). converted_found ps l)
     where
       at : (b : Bool) → elim b as (λ _. ℕ) [ true ↦ 0 | false ↦ suc (place (has 0 x) ps) ] < suc (length ps)
           → (place (has 0 x) ps < length ps → converted ps x ≡ (get_or ps (place (has 0 x) ps) none).new)
@@ -107,8 +107,8 @@ module _ (x : ℕ) where
       at false l rest = rest (le_of_suc-le-suc l)
 
 -- The walk ends at the last place exactly if it has not stopped before.
-pub at-end : (i n : ℕ) → i ≤ n → eqb i n ≡ not (ltb i n)
-at-end i n le = go (ltb i n) refl
+pub at_end : (i n : ℕ) → i ≤ n → eqb i n ≡ not (ltb i n)
+at_end i n le = go (ltb i n) refl
   where
     go : (b : Bool) → ltb i n ≡ b → eqb i n ≡ not b
     go true e = let lt = ltb-true i n e in ne_eqb i n (λ (same : i ≡ n). let w : ⊥ = omega arith in w)
@@ -122,22 +122,22 @@ module _ (l : List ℕ) (n i x : ℕ) (en : n ≡ length (pairs l)) (ei : i ≡ 
   found_at : i ≡ place (has 0 x) (pairs l)
   found_at = ei ∙ ap (place (has 0 x)) whole
 
-  pub converts-found : i < n → get_or l (2 * i + 1) 0 ≡ converted (pairs l) x
-  converts-found lt =
-      sym (ap (λ (p : Pair). p.new) (pair-at-lem l i (omega (arith, en)))) ∙ ap (λ k. (get_or (pairs l) k none).new) found_at
-      ∙ sym (converted-found x (pairs l) (omega (arith, en, found_at)))
+  pub converts_found : i < n → get_or l (2 * i + 1) 0 ≡ converted (pairs l) x
+  converts_found lt =
+      sym (ap (λ (p : Pair). p.new) (pair_at_lem l i (omega (arith, en)))) ∙ ap (λ k. (get_or (pairs l) k none).new) found_at
+      ∙ sym (converted_found x (pairs l) (omega (arith, en, found_at)))
 
-  pub converts-stays : n ≤ i → x ≡ converted (pairs l) x
-  converts-stays le = sym (converted-stays x (pairs l) (omega (arith, en, found_at)))
+  pub converts_stays : n ≤ i → x ≡ converted (pairs l) x
+  converts_stays le = sym (converted-stays x (pairs l) (omega (arith, en, found_at)))
 
   listed_at : listed (pairs l) x ≡ ltb i n
-  listed_at = place-any (has 0 x) (pairs l) ∙ ap₂ ltb (sym found_at) (sym en)
+  listed_at = place_any (has 0 x) (pairs l) ∙ ap₂ ltb (sym found_at) (sym en)
 
   -- A label above the largest is not in the list exactly if none has it.
   pub unlisted-at : (f : Format) → f.labels < x → eqb i n ≡ unlisted f (pairs l) x
   unfolding unlisted
   unlisted-at f above =
-      at-end i n (omega (arith, en, found_at, place-most (has 0 x) (pairs l))) ∙ sym (ap₂ (λ a b. a && not b) (lt-ltb f.labels x above) listed_at)
+      at_end i n (omega (arith, en, found_at, place_most (has 0 x) (pairs l))) ∙ sym (ap₂ (λ a b. a && not b) (lt-ltb f.labels x above) listed_at)
 
 -- A label up to the largest is none of these.
 pub unlisted-small : (f : Format) (ps : List Pair) (x : ℕ) → x ≤ f.labels → false ≡ unlisted f ps x

@@ -7,13 +7,13 @@ use Rattle.paper.specs.Format.{Format}
 use Rattle.paper.specs.Calls.{given, Reply}
 use Rattle.paper.specs.Labels as Labels
 use Rattle.paper.specs.Labels.{pairs, converting, Converting, convert}
-use Rattle.keeping.proofs.ConvertedLeft.{converted-left}
+use Rattle.keeping.proofs.ConvertedLeft.{converted_left}
 use Rattle.labels.specs.Answers.{Converts}
 use Rattle.labels.specs.declared.convert.Converted.{Converted}
 
-pub converts-unique : (c : Converting) (r q : Converted) (t₁ u₁ t₂ u₂ : List ℕ) → Converts c r t₁ u₁ → Converts c q t₂ u₂
+pub converts_unique : (c : Converting) (r q : Converted) (t₁ u₁ t₂ u₂ : List ℕ) → Converts c r t₁ u₁ → Converts c q t₂ u₂
     → (r ≡ q) × (t₁ ≡ t₂) × (u₁ ≡ u₂)
-converts-unique c r q t₁ u₁ t₂ u₂ a b = (
+converts_unique c r q t₁ u₁ t₂ u₂ a b = (
   ap {B = Converted} (λ (x : Reply Labels.Converted). record { number = x.number; place = x.place; rows = x.rest.rows; entries = x.rest.entries })
       (a.0 ∙ sym b.0),
   a.1 ∙ sym b.1,
@@ -21,13 +21,13 @@ converts-unique c r q t₁ u₁ t₂ u₂ a b = (
 )
 
 -- What an accepted call leaves at the front of what was lent is an accepted conversion.
-pub converts-left : (f : Format) → f.labels < 65536 → (b s l lent-table lent-shape : List ℕ) (r : Converted) (t u : List ℕ)
+pub converts_left : (f : Format) → f.labels < 65536 → (b s l lent-table lent-shape : List ℕ) (r : Converted) (t u : List ℕ)
     → Converts (convert f b s l lent-table lent-shape) r t u → r.number ≡ 0
     → converting f b s (pairs l) (length lent-table) (length lent-shape)
     ≡ given (record { rows = r.rows; entries = r.entries }, take (length b) t, take (length s) u)
-converts-left f few b s l lent-table lent-shape r t u x e =
+converts_left f few b s l lent-table lent-shape r t u x e =
     let told = x.0 in
     let number = sym (ap (λ (y : Reply Labels.Converted). y.number) told) ∙ e in
     let counts = sym (ap (λ (y : Reply Labels.Converted). y.rest) told) in
-    converted-left f b s l lent-table lent-shape few number
+    converted_left f b s l lent-table lent-shape few number
     ∙ (λ i. given (counts i, take (length b) (sym x.1 i), take (length s) (sym x.2 i)))

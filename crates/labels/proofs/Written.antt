@@ -5,26 +5,26 @@ use mathlib.Core.Path.{◌≡◌, refl, ◌∙◌, ap}
 use mathlib.Core.List.{List, ◌++◌, map}
 use lib.ListN.{length, take, drop, length-drop}
 use lib.Seq.{sets, take_all}
-use Rattle.paper.specs.Lists.{joinMap}
+use Rattle.paper.specs.Lists.{join_map}
 use Rattle.paper.specs.Format.{bytes, words}
-use Rattle.paper.specs.Labels.{Pair, converted, recordWith}
+use Rattle.paper.specs.Labels.{Pair, converted, record_with}
 use Rattle.keeping.proofs.ConvertedFiles.{parts, front, middle, length-with}
-use Rattle.bytes.proofs.Writing.{all_left, part-written}
+use Rattle.octets.proofs.Writing.{all_left, part_written}
 
 module _ (ps : List Pair) (i n : ℕ) where
   -- What stands before the labels, what they become, and what stands past them are written as one.
-  pub record-written : (r : List ℕ) → i + 2 * n ≤ length r → (at : ℕ) (l l₁ l₂ l₃ : List ℕ) → l₁ ≡ sets l at (take (i - 0) (drop 0 r))
-      → l₂ ≡ sets l₁ (at + i) (joinMap (bytes 2) (map (converted ps) (words n r i)))
-      → l₃ ≡ sets l₂ (at + (i + 2 * n)) (take (length r - (i + 2 * n)) (drop (i + 2 * n) r)) → l₃ ≡ sets l at (recordWith ps i n r)
-  record-written r le at l l₁ l₂ l₃ e₁ e₂ e₃ =
-      let labels = joinMap (bytes 2) (map (converted ps) (words n r i)) in
+  pub record_written : (r : List ℕ) → i + 2 * n ≤ length r → (at : ℕ) (l l₁ l₂ l₃ : List ℕ) → l₁ ≡ sets l at (take (i - 0) (drop 0 r))
+      → l₂ ≡ sets l₁ (at + i) (join_map (bytes 2) (map (converted ps) (words n r i)))
+      → l₃ ≡ sets l₂ (at + (i + 2 * n)) (take (length r - (i + 2 * n)) (drop (i + 2 * n) r)) → l₃ ≡ sets l at (record_with ps i n r)
+  record_written r le at l l₁ l₂ l₃ e₁ e₂ e₃ =
+      let labels = join_map (bytes 2) (map (converted ps) (words n r i)) in
       let back = drop (i + 2 * n) r in
       let none : i - 0 ≡ i = omega arith in
-      let w₁ = part-written (all_left l at (recordWith ps i n r) at refl) (take i r) (labels ++ back) (parts ps i n r le) l₁
+      let w₁ = part_written (all_left l at (record_with ps i n r) at refl) (take i r) (labels ++ back) (parts ps i n r le) l₁
       (e₁ ∙ ap (λ k. sets l at (take k r)) none) (at + i) (omega (arith, front ps i n r le)) in
-      let w₂ = part-written w₁ labels back refl l₂ e₂ (at + (i + 2 * n)) (omega (arith, middle ps i n r le)) in
+      let w₂ = part_written w₁ labels back refl l₂ e₂ (at + (i + 2 * n)) (omega (arith, middle ps i n r le)) in
       e₃ ∙ ap (sets l₂ (at + (i + 2 * n))) (take_all (length r - (i + 2 * n)) back (omega (arith, length-drop (i + 2 * n) r))) ∙ w₂.asked
 
   -- A record has as many bytes as before.
-  pub as_long : (w : ℕ) → i + 2 * n ≤ w → (r : List ℕ) → length r ≡ w → length (recordWith ps i n r) ≡ w
+  pub as_long : (w : ℕ) → i + 2 * n ≤ w → (r : List ℕ) → length r ≡ w → length (record_with ps i n r) ≡ w
   as_long w le r e = length-with ps i n r (omega (arith, e)) ∙ e

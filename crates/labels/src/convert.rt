@@ -1,8 +1,8 @@
 // The whole call: the tests of both files on the old range, 25, 26, 29, then the bytes.
 ghost use Rattle.std.specs.Prelude.{◌≡◌, ◌<◌, eqb, length, take};
 ghost use Rattle.paper.specs.Lists.{any};
-ghost use Rattle.paper.specs.Labels.{oldRange, pairs, pairKept, badPair, convert};
-ghost use Rattle.bytes.specs.Served.{Served};
+ghost use Rattle.paper.specs.Labels.{old_range, pairs, pair_kept, bad_pair, convert};
+ghost use Rattle.octets.specs.Served.{Served};
 ghost use Rattle.tables.specs.Place.{place_of};
 ghost use Rattle.labels.specs.Pairs.{pair_at};
 ghost use Rattle.labels.specs.Records.{standing};
@@ -38,7 +38,7 @@ fn refused(number: usize, place: usize) -> Converted
 
 // The same levels, with labels 1 to 999.
 fn old_range(f: Format) -> Format
-    ensures { result ≡ oldRange f }
+    ensures { result ≡ old_range f }
 {
     Format {
         levels: f.levels,
@@ -51,10 +51,10 @@ fn occurs(table: &[u8], rows: usize, shape: &[u8], entries: usize, f: Format, x:
     requires { Counted f table.now shape.now rows entries }
     ensures { result ≡ any (eqb x) (standing f table.now shape.now) }
 {
-    if file_has(table, bytes::row_bytes(f), rows, 2, 1, x) {
+    if file_has(table, octets::row_bytes(f), rows, 2, 1, x) {
         return true;
     }
-    file_has(shape, bytes::entry_bytes(f), entries, 4, f.levels, x)
+    file_has(shape, octets::entry_bytes(f), entries, 4, f.levels, x)
 }
 
 // Does pair i keep the rules after those before it? The new label of a half pair reads zero, which is too small.
@@ -68,7 +68,7 @@ fn pair_kept(
     i: usize,
 ) -> bool
     requires { Counted f table.now shape.now rows entries × (i < length (pairs list.now)) }
-    ensures { result ≡ pairKept f (standing f table.now shape.now) (take i (pairs list.now)) (pair_at list.now i) }
+    ensures { result ≡ pair_kept f (standing f table.now shape.now) (take i (pairs list.now)) (pair_at list.now i) }
 {
     let old = number_at(list, 2 * i);
     let new = number_at(list, 2 * i + 1);
@@ -103,7 +103,7 @@ fn first_bad(
     list: &[u16],
 ) -> usize
     requires { Counted f table.now shape.now rows entries }
-    ensures { badPair f (standing f table.now shape.now) (pairs list.now) ≡ place_of result (length (pairs list.now)) }
+    ensures { bad_pair f (standing f table.now shape.now) (pairs list.now) ≡ place_of result (length (pairs list.now)) }
 {
     let n = count_pairs(list);
     let mut i = 0;
@@ -135,12 +135,12 @@ fn convert_tested(
     if pair < count_pairs(list) {
         return refused(25, pair);
     }
-    let w = bytes::row_bytes(f);
+    let w = octets::row_bytes(f);
     let row = first_unlisted(table, w, rows, 2, 1, list, f);
     if row < rows {
         return refused(26, row);
     }
-    let v = bytes::entry_bytes(f);
+    let v = octets::entry_bytes(f);
     let entry = first_unlisted(shape, v, entries, 4, f.levels, list, f);
     if entry < entries {
         return refused(26, entry);

@@ -11,7 +11,7 @@ pub fn number_at(list: &[u16], k: usize) -> usize
     ensures { (result ≡ get_or list.now k 0) × (result < 65536) }
 {
     if k < list.len() {
-        return bytes::wide16(list[k]);
+        return octets::wide16(list[k]);
     }
     0
 }

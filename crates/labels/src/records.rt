@@ -2,27 +2,27 @@
 // byte 4, zeros past its type. Zero is no label: it is in no list and stays zero.
 ghost use Rattle.std.specs.Prelude.{◌≡◌, map, ◌+◌, ◌*◌, ◌≤◌, ◌<◌, eqb, length, get_or};
 ghost use Rattle.std.proofs.lemmas.List.Edits.{sets};
-ghost use Rattle.paper.specs.Lists.{any, place, joinMap};
+ghost use Rattle.paper.specs.Lists.{any, place, join_map};
 ghost use Rattle.paper.specs.Format.{bytes, words, records, whole};
-ghost use Rattle.paper.specs.Labels.{pairs, converted, recordWith};
-ghost use Rattle.bytes.specs.Served.{mostBytes};
-ghost use Rattle.labels.specs.Records.{hasLabel, anyUnlisted, fileLabels};
+ghost use Rattle.paper.specs.Labels.{pairs, converted, record_with};
+ghost use Rattle.octets.specs.Served.{most_bytes};
+ghost use Rattle.labels.specs.Records.{has_label, any_unlisted, file_labels};
 
 use crate::pairs::{convert_label, is_unlisted};
 use paper::Format;
 
 // Label k of a record.
 fn label_at(r: &[u8], from: usize, n: usize, k: usize) -> usize
-    requires { (from + 2 * n ≤ length r.now) × (k < n) × (n ≤ mostBytes) × (from ≤ mostBytes) }
+    requires { (from + 2 * n ≤ length r.now) × (k < n) × (n ≤ most_bytes) × (from ≤ most_bytes) }
     ensures { (result ≡ get_or (words n r.now from) k 0) × (result < 65536) }
 {
-    bytes::word(r, from + 2 * k)
+    octets::word(r, from + 2 * k)
 }
 
 // Does a record have the label x?
 fn has_label(r: &[u8], from: usize, n: usize, x: usize) -> bool
-    requires { (from + 2 * n ≤ length r.now) × (n ≤ mostBytes) × (from ≤ mostBytes) }
-    ensures { result ≡ hasLabel from n x r.now }
+    requires { (from + 2 * n ≤ length r.now) × (n ≤ most_bytes) × (from ≤ most_bytes) }
+    ensures { result ≡ has_label from n x r.now }
 {
     let mut k = 0;
     while k < n {
@@ -36,12 +36,12 @@ fn has_label(r: &[u8], from: usize, n: usize, x: usize) -> bool
 
 // Does one of the records of w bytes?
 pub fn file_has(b: &[u8], w: usize, count: usize, from: usize, n: usize, x: usize) -> bool
-    requires { (from + 2 * n ≤ w) × (w ≤ mostBytes) × (count ≡ whole w b.now) }
-    ensures { result ≡ any (eqb x) (fileLabels w count from n b.now) }
+    requires { (from + 2 * n ≤ w) × (w ≤ most_bytes) × (count ≡ whole w b.now) }
+    ensures { result ≡ any (eqb x) (file_labels w count from n b.now) }
 {
     let mut i = 0;
     while i < count {
-        if has_label(bytes::record(b, w, i), from, n, x) {
+        if has_label(octets::record(b, w, i), from, n, x) {
             return true;
         }
         i += 1;
@@ -51,8 +51,8 @@ pub fn file_has(b: &[u8], w: usize, count: usize, from: usize, n: usize, x: usiz
 
 // Has a record a label that is too large and not in the list?
 fn has_unlisted(r: &[u8], from: usize, n: usize, list: &[u16], f: Format) -> bool
-    requires { (from + 2 * n ≤ length r.now) × (n ≤ mostBytes) × (from ≤ mostBytes) }
-    ensures { result ≡ anyUnlisted f (pairs list.now) from n r.now }
+    requires { (from + 2 * n ≤ length r.now) × (n ≤ most_bytes) × (from ≤ most_bytes) }
+    ensures { result ≡ any_unlisted f (pairs list.now) from n r.now }
 {
     let mut k = 0;
     while k < n {
@@ -74,12 +74,12 @@ pub fn first_unlisted(
     list: &[u16],
     f: Format,
 ) -> usize
-    requires { (from + 2 * n ≤ w) × (w ≤ mostBytes) × (count ≡ whole w b.now) }
-    ensures { result ≡ place (anyUnlisted f (pairs list.now) from n) (records w count b.now) }
+    requires { (from + 2 * n ≤ w) × (w ≤ most_bytes) × (count ≡ whole w b.now) }
+    ensures { result ≡ place (any_unlisted f (pairs list.now) from n) (records w count b.now) }
 {
     let mut i = 0;
     while i < count {
-        if has_unlisted(bytes::record(b, w, i), from, n, list, f) {
+        if has_unlisted(octets::record(b, w, i), from, n, list, f) {
             return i;
         }
         i += 1;
@@ -89,26 +89,26 @@ pub fn first_unlisted(
 
 // What the labels of a record become, put at a place.
 fn put_labels(r: &[u8], from: usize, n: usize, list: &[u16], new: &mut [u8], at: usize)
-    requires { (from + 2 * n ≤ length r.now) × (n ≤ mostBytes) × (from ≤ mostBytes) × (at + 2 * n ≤ length new.old) }
-    ensures { new.new ≡ sets new.old at (joinMap (bytes 2) (map (converted (pairs list.now)) (words n r.now from))) }
+    requires { (from + 2 * n ≤ length r.now) × (n ≤ most_bytes) × (from ≤ most_bytes) × (at + 2 * n ≤ length new.old) }
+    ensures { new.new ≡ sets new.old at (join_map (bytes 2) (map (converted (pairs list.now)) (words n r.now from))) }
 {
     let mut k = 0;
     while k < n {
         let label = convert_label(list, label_at(r, from, n, k));
-        bytes::put_word(new, at + 2 * k, label as u16);
+        octets::put_word(new, at + 2 * k, label as u16);
         k += 1;
     }
 }
 
 // A record with its labels converted, put at a place; its other bytes stay.
 fn put_record(r: &[u8], from: usize, n: usize, list: &[u16], new: &mut [u8], at: usize)
-    requires { (from + 2 * n ≤ length r.now) × (n ≤ mostBytes) × (from ≤ mostBytes) × (at + length r.now ≤ length new.old) }
-    ensures { new.new ≡ sets new.old at (recordWith (pairs list.now) from n r.now) }
+    requires { (from + 2 * n ≤ length r.now) × (n ≤ most_bytes) × (from ≤ most_bytes) × (at + length r.now ≤ length new.old) }
+    ensures { new.new ≡ sets new.old at (record_with (pairs list.now) from n r.now) }
 {
     let past = from + 2 * n;
-    bytes::put(new, at, &r[0..from]);
+    octets::put(new, at, &r[0..from]);
     put_labels(r, from, n, list, new, at + from);
-    bytes::put(new, at + past, &r[past..r.len()]);
+    octets::put(new, at + past, &r[past..r.len()]);
 }
 
 // The records of w bytes, one after the other, at the front of new.
@@ -121,12 +121,12 @@ pub fn put_records(
     list: &[u16],
     new: &mut [u8],
 )
-    requires { (from + 2 * n ≤ w) × (w ≤ mostBytes) × (count ≡ whole w b.now) × (w * count ≤ length new.old) }
-    ensures { new.new ≡ sets new.old 0 (joinMap (recordWith (pairs list.now) from n) (records w count b.now)) }
+    requires { (from + 2 * n ≤ w) × (w ≤ most_bytes) × (count ≡ whole w b.now) × (w * count ≤ length new.old) }
+    ensures { new.new ≡ sets new.old 0 (join_map (record_with (pairs list.now) from n) (records w count b.now)) }
 {
     let mut i = 0;
     while i < count {
-        put_record(bytes::record(b, w, i), from, n, list, new, w * i);
+        put_record(octets::record(b, w, i), from, n, list, new, w * i);
         i += 1;
     }
 }

@@ -1,28 +1,28 @@
 // One line written: its record into the lent bytes.
 ghost use Rattle.std.specs.Prelude.{◌≡◌, ◌+◌, ◌≤◌, length, set};
 ghost use Rattle.std.proofs.lemmas.List.Edits.{sets};
-ghost use Rattle.paper.specs.Lists.{joinMap};
-ghost use Rattle.paper.specs.Format.{valueBytes, span, bytes};
-ghost use Rattle.lines.specs.Put.{LineFits, withLine};
+ghost use Rattle.paper.specs.Lists.{join_map};
+ghost use Rattle.paper.specs.Format.{value_bytes, span, bytes};
+ghost use Rattle.lines.specs.Put.{LineFits, with_line};
 
 use paper::Format;
 
 // The eight places of a Dewey number.
 fn put_number(new: &mut [u8], at: usize, number: [u16; 8])
     requires { at + 16 ≤ length new.old }
-    ensures { new.new ≡ sets new.old at (joinMap (bytes 2) number) }
+    ensures { new.new ≡ sets new.old at (join_map (bytes 2) number) }
 {
     let mut k = 0;
     while k < 8 {
-        bytes::put_word(new, at + 2 * k, number[k]);
+        octets::put_word(new, at + 2 * k, number[k]);
         k += 1;
     }
 }
 
 // The eight bytes of a value, by value: they are read before any byte of the line is written.
 fn value_at(table: &[u8], at: usize) -> [u8; 8]
-    requires { at + valueBytes ≤ length table.now }
-    ensures { result ≡ span valueBytes table.now at }
+    requires { at + value_bytes ≤ length table.now }
+    ensures { result ≡ span value_bytes table.now at }
 {
     [
         table[at],
@@ -37,7 +37,7 @@ fn value_at(table: &[u8], at: usize) -> [u8; 8]
 }
 
 fn put_value(new: &mut [u8], at: usize, value: [u8; 8])
-    requires { at + valueBytes ≤ length new.old }
+    requires { at + value_bytes ≤ length new.old }
     ensures { new.new ≡ sets new.old at value }
 {
     let mut k = 0;
@@ -63,15 +63,15 @@ pub fn put_line(
     r: usize,
 )
     requires { LineFits f table.now new.old place at r }
-    ensures { new.new ≡ withLine f table.now new.old place level label (set number at position) r }
+    ensures { new.new ≡ with_line f table.now new.old place level label (set number at position) r }
 {
-    let width = bytes::row_bytes(f);
+    let width = octets::row_bytes(f);
     let value = value_at(table, width * r + width - 8);
     let start = width * place;
     new[start] = level;
     new[start + 1] = 0;
-    bytes::put_word(new, start + 2, label);
+    octets::put_word(new, start + 2, label);
     put_number(new, start + 4, number);
-    bytes::put_word(new, start + 4 + 2 * at, position);
+    octets::put_word(new, start + 4 + 2 * at, position);
     put_value(new, start + width - 8, value);
 }

@@ -6,9 +6,9 @@ use mathlib.Core.Path.{◌≡◌, refl, sym, ◌∙◌, ap}
 use mathlib.Core.List.{List, [], ◌∷◌, ◌++◌, map, append-nil}
 use lib.ListN.{take}
 use Rattle.paper.specs.Format.{word, words}
-use Rattle.paper.proofs.Lists.{map-append, join-append}
+use Rattle.paper.proofs.Lists.{map_append, join_append}
 use Rattle.grammar.specs.Text.{dot, decimal, followed, parted}
-use Rattle.listing.specs.Listing.{deweyText}
+use Rattle.listing.specs.Listing.{dewey_text}
 use Rattle.names.specs.Put.{Put}
 use Rattle.names.proofs.Putting.{put_then, put_as}
 
@@ -34,17 +34,17 @@ abbrev pub leading : (ℕ → List ℕ) → ℕ → List ℕ → ℕ → ℕ →
 leading said c b from k = followed c (map said (words k b from))
 
 -- The next of them is put.
-pub leading-put : {l l' l'' : List ℕ} {at i j : ℕ} (said : ℕ → List ℕ) (c : ℕ) (b : List ℕ) (from k x : ℕ) → x ≡ word b (from + 2 * k)
+pub leading_put : {l l' l'' : List ℕ} {at i j : ℕ} (said : ℕ → List ℕ) (c : ℕ) (b : List ℕ) (from k x : ℕ) → x ≡ word b (from + 2 * k)
     → Put l at (leading said c b from k) l' i → Put l' i (c ∷ said x) l'' j → Put l at (leading said c b from (k + 1)) l'' j
 unfolding followed
-leading-put said c b from k x e before next =
+leading_put said c b from k x e before next =
     let y = word b (from + 2 * k) in
     let ws = words k b from in
     let more : leading said c b from (k + 1) ≡ leading said c b from k ++ (c ∷ said y) =
     ap (leading said c b from) (add-one k)
     ∙ ap (λ l. followed c (map said l)) (words_more k b from)
-    ∙ ap (followed c) (map-append said ws (y ∷ []))
-    ∙ join-append (λ q. c ∷ q) (map said ws) (said y ∷ [])
+    ∙ ap (followed c) (map_append said ws (y ∷ []))
+    ∙ join_append (λ q. c ∷ q) (map said ws) (said y ∷ [])
     ∙ ap (λ l. leading said c b from k ++ l) (append-nil (c ∷ said y)) in
     put_as (put_then before next) (sym (more ∙ ap (λ z. leading said c b from k ++ (c ∷ said z)) (sym e)))
 
@@ -54,13 +54,13 @@ abbrev pub further : ℕ → List ℕ → List ℕ
 further k held = leading decimal dot held 6 k
 
 -- They stand after the first.
-pub list-parts : (n : ℕ) (held : List ℕ) → 1 ≤ n → decimal (word held 4) ++ further (n - 1) held ≡ deweyText (words n held 4)
-unfolding parted deweyText
-list-parts zero held le = absurd (omega arith)
-list-parts (suc m) held le = let less : suc m - 1 ≡ m = omega arith in ap (λ k. decimal (word held 4) ++ further k held) less
+pub list_parts : (n : ℕ) (held : List ℕ) → 1 ≤ n → decimal (word held 4) ++ further (n - 1) held ≡ dewey_text (words n held 4)
+unfolding parted dewey_text
+list_parts zero held le = absurd (omega arith)
+list_parts (suc m) held le = let less : suc m - 1 ≡ m = omega arith in ap (λ k. decimal (word held 4) ++ further k held) less
 
 -- No numbers are no text.
-pub no-numbers : (n : ℕ) (held : List ℕ) → n ≡ 0 → [] ≡ deweyText (words n held 4)
-unfolding parted deweyText
-no-numbers zero held none = refl
-no-numbers (suc n) held none = absurd (omega arith)
+pub no_numbers : (n : ℕ) (held : List ℕ) → n ≡ 0 → [] ≡ dewey_text (words n held 4)
+unfolding parted dewey_text
+no_numbers zero held none = refl
+no_numbers (suc n) held none = absurd (omega arith)

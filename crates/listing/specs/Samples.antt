@@ -1,28 +1,28 @@
 -- Document 01's listing, and lines at the limits, proved by computation. Assumes nothing.
 use Rattle.std.specs.Prelude.{ℕ, ◌+◌, ◌*◌, ◌-◌, ◌^◌, ◌≡◌, refl, List, [], ◌∷◌, ◌++◌, map, length}
 use Rattle.paper.specs.Lists.{padded}
-use Rattle.paper.specs.Format.{Format, base, eight, valueBytes, bytes}
-use Rattle.paper.specs.Tables.{Row, rowBack}
+use Rattle.paper.specs.Format.{Format, base, eight, value_bytes, bytes}
+use Rattle.paper.specs.Tables.{Row, row_back}
 use Rattle.paper.specs.Shapes.{entries}
 use Rattle.paper.specs.Calls.{judge}
-use Rattle.paper.specs.NewTable.{entryUnit}
+use Rattle.paper.specs.NewTable.{entry_unit}
 use Rattle.paper.specs.Opened.{opened}
 use Rattle.paper.specs.samples.Files.{row, table, entry, A, table10, portfolio, lessee, lease, asset}
 use Rattle.paper.specs.samples.Told.{reshaped}
-use Rattle.grammar.specs.Text.{ascii, digitsIn, decimal, signedText, followed, parted}
-use Rattle.grammar.specs.Names.{names, name_of, nameText}
-use Rattle.listing.specs.Listing.{refusedText, verdictText, deweyText, lineText, linesText, edgeText, edgesText, listingText}
+use Rattle.grammar.specs.Text.{ascii, digits_in, decimal, signed_text, followed, parted}
+use Rattle.grammar.specs.Names.{names, name_of, name_text}
+use Rattle.listing.specs.Listing.{refused_text, verdict_text, dewey_text, line_text, lines_text, edge_text, edges_text, listing_text}
 
 -- what is printed of a table and a shape
 printed : List ℕ → List ℕ → List ℕ
 unfolding opened
-printed b sb = listingText base (length (entries base sb)) (judge base b sb) (reshaped b sb)
+printed b sb = listing_text base (length (entries base sb)) (judge base b sb) (reshaped b sb)
 
 -- the line of a row with this Dewey number, label and value, of an entry and a source row
 line_of : Format → List ℕ → ℕ → ℕ → ℕ → ℕ → List ℕ
 line_of f d label value e r =
-    let row : Row = record { level = length d; spare = 0; label = label; components = padded f.levels d; value = bytes valueBytes value } in
-    lineText f (rowBack row) (e * entryUnit + r)
+    let row : Row = record { level = length d; spare = 0; label = label; components = padded f.levels d; value = bytes value_bytes value } in
+    line_text f (row_back row) (e * entry_unit + r)
 
 -- what the definitions say, beside what is to be printed
 pub samples : List (List ℕ × List ℕ)
@@ -50,9 +50,9 @@ samples =
     -- one entry: no edge
     ∷ (printed table10 (entry 1 (2 ∷ [])), ascii "verdict 0\n" ++ ascii "1 0 lessee 0 0\n")
     -- an edge with the largest numbers
-    ∷ (edgeText 15 (0 ∷ 1023 ∷ 1 ∷ 1022 ∷ []), ascii "edge 15 0 1023 1 1022\n")
+    ∷ (edge_text 15 (0 ∷ 1023 ∷ 1 ∷ 1022 ∷ []), ascii "edge 15 0 1023 1 1022\n")
     -- P6: verdict 2, entries 1 and 2
-    ∷ (verdictText (2 ∷ 1 ∷ 2 ∷ []), ascii "verdict 2 1 2\n")
+    ∷ (verdict_text (2 ∷ 1 ∷ 2 ∷ []), ascii "verdict 2 1 2\n")
     -- labels 1, 20, 21 and 99
     ∷ (line_of base (1 ∷ []) 1 0 0 0, ascii "1 0 portfolio 0 0\n")
     ∷ (line_of base (1 ∷ 2 ∷ []) 20 7 1 9, ascii "1.2 1 document 9 7\n")
@@ -76,7 +76,7 @@ samples =
     ∷ []
 
 -- every sample is printed as it should be
-pub samples-hold : map (λ (p : List ℕ × List ℕ). p.0) samples ≡ map (λ (p : List ℕ × List ℕ). p.1) samples
-unfolding opened eight row table entry A table10 portfolio lessee lease asset digitsIn decimal signedText followed parted names name_of nameText refusedText
-    verdictText deweyText lineText linesText edgeText edgesText listingText printed line_of samples
-samples-hold = refl
+pub samples_hold : map (λ (p : List ℕ × List ℕ). p.0) samples ≡ map (λ (p : List ℕ × List ℕ). p.1) samples
+unfolding opened eight row table entry A table10 portfolio lessee lease asset digits_in decimal signed_text followed parted names name_of name_text refused_text
+    verdict_text dewey_text line_text lines_text edge_text edges_text listing_text printed line_of samples
+samples_hold = refl

@@ -1,8 +1,8 @@
 // The first line of the listing: a refusal, or the verdict.
 ghost use Rattle.std.specs.Prelude.{◌∷◌, []};
 ghost use Rattle.io.specs.Counts.{IsPrefixLen};
-ghost use Rattle.judging.specs.Judged.{numbersOf};
-ghost use Rattle.listing.specs.Listing.{refusedText, verdictText};
+ghost use Rattle.judging.specs.Judged.{numbers_of};
+ghost use Rattle.listing.specs.Listing.{refused_text, verdict_text};
 ghost use Rattle.names.specs.Put.{Put};
 
 use judging::verdict::Verdict;
@@ -10,7 +10,7 @@ use names::put::{put_after, put_byte, put_bytes};
 
 // A refusal's number and place, at the front of the buffer.
 pub fn put_refused(out: &mut [u8; 256], number: usize, place: usize) -> usize
-    ensures put { Put out.old 0 (refusedText number place) out.new result }
+    ensures put { Put out.old 0 (refused_text number place) out.new result }
     ensures prefix_len { IsPrefixLen result out.new }
 {
     let word = put_bytes(out, 0, b"refused");
@@ -21,7 +21,7 @@ pub fn put_refused(out: &mut [u8; 256], number: usize, place: usize) -> usize
 
 // A verdict with a pair of values.
 fn put_found(out: &mut [u8; 256], kind: usize, first: usize, second: usize) -> usize
-    ensures put { Put out.old 0 (verdictText (kind ∷ first ∷ second ∷ [])) out.new result }
+    ensures put { Put out.old 0 (verdict_text (kind ∷ first ∷ second ∷ [])) out.new result }
     ensures prefix_len { IsPrefixLen result out.new }
 {
     let word = put_bytes(out, 0, b"verdict");
@@ -33,7 +33,7 @@ fn put_found(out: &mut [u8; 256], kind: usize, first: usize, second: usize) -> u
 
 // Verdict 0, which has no values.
 fn put_kept(out: &mut [u8; 256]) -> usize
-    ensures put { Put out.old 0 (verdictText (0 ∷ [])) out.new result }
+    ensures put { Put out.old 0 (verdict_text (0 ∷ [])) out.new result }
     ensures prefix_len { IsPrefixLen result out.new }
 {
     let word = put_bytes(out, 0, b"verdict");
@@ -43,7 +43,7 @@ fn put_kept(out: &mut [u8; 256]) -> usize
 
 // The verdict with its numbers, at the front of the buffer.
 pub fn put_verdict(out: &mut [u8; 256], v: Verdict) -> usize
-    ensures put { Put out.old 0 (verdictText (numbersOf v)) out.new result }
+    ensures put { Put out.old 0 (verdict_text (numbers_of v)) out.new result }
     ensures prefix_len { IsPrefixLen result out.new }
 {
     match v {

@@ -2,8 +2,8 @@
 ghost use Rattle.std.specs.Prelude.{map, ◌+◌, ◌≤◌, length};
 ghost use Rattle.io.specs.Counts.{IsPrefixLen};
 ghost use Rattle.grammar.specs.Text.{space, decimal, followed};
-ghost use Rattle.listing.specs.Listing.{edgeText};
-ghost use Rattle.listing.specs.Edge.{inOrder};
+ghost use Rattle.listing.specs.Listing.{edge_text};
+ghost use Rattle.listing.specs.Edge.{in_order};
 ghost use Rattle.names.specs.Put.{Put};
 
 use names::put::{put_after, put_byte, put_bytes};
@@ -20,7 +20,7 @@ pub struct Edge {
 // The four numbers, a space before each.
 pub fn put_numbers(out: &mut [u8], at: usize, edge: Edge) -> usize
     requires { at + 84 ≤ length out.old }
-    ensures { Put out.old at (followed space (map decimal (inOrder edge))) out.new result × (result ≤ at + 84) }
+    ensures { Put out.old at (followed space (map decimal (in_order edge))) out.new result × (result ≤ at + 84) }
 {
     let fewest = put_after(out, at, b' ', edge.least_children);
     let most = put_after(out, fewest, b' ', edge.greatest_children);
@@ -30,7 +30,7 @@ pub fn put_numbers(out: &mut [u8], at: usize, edge: Edge) -> usize
 
 // The line of entry e's edge, at the front of the buffer.
 pub fn put_edge(out: &mut [u8; 256], e: usize, edge: Edge) -> usize
-    ensures put { Put out.old 0 (edgeText e (inOrder edge)) out.new result }
+    ensures put { Put out.old 0 (edge_text e (in_order edge)) out.new result }
     ensures prefix_len { IsPrefixLen result out.new }
 {
     let word = put_bytes(out, 0, b"edge");

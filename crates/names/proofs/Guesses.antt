@@ -8,10 +8,10 @@ use lib.Dec.{eqb, leb}
 use lib.ListN.{length, get_or}
 use borrow.Author.Tests.{eqb-true, leb-true}
 use Rattle.paper.specs.Lists.{first_or, place, count, same}
-use Rattle.paper.proofs.Lists.{same-eq, eq-same}
+use Rattle.paper.proofs.Lists.{same_eq, eq_same}
 use Rattle.grammar.specs.Names.{names, named, name_of}
-use Rattle.grammar.proofs.LabelNames.{each-name}
-use Rattle.names.specs.Word.{longestName, Guessed, NamedBy}
+use Rattle.grammar.proofs.LabelNames.{each_name}
+use Rattle.names.specs.Word.{longest_name, Guessed, NamedBy}
 
 -- where a first byte and a length stand in a table
 abbrev pub sum : ℕ → ℕ → ℕ
@@ -28,52 +28,52 @@ found k = get_or guesses (sum (first_or 0 (name_of k)) (length (name_of k))) 0
 
 found_right : (k : ℕ) → k < named → found k ≡ k
 unfolding names name_of guesses found
-found_right k lt = eqb-true (found k) k (each-name (λ k. eqb (found k) k) refl k lt)
+found_right k lt = eqb-true (found k) k (each_name (λ k. eqb (found k) k) refl k lt)
 
 -- no two names stand at one place, so each is found there
-pub guessed-by : (first size r : ℕ) → r ≡ get_or guesses (sum first size) 0 → Guessed first size r
+pub guessed_by : (first size r : ℕ) → r ≡ get_or guesses (sum first size) 0 → Guessed first size r
 unfolding found
-guessed-by first size r is k lt first-is size_is = is ∙ ap₂ (λ a b. get_or guesses (sum a b) 0) (sym first-is) (sym size_is) ∙ found_right k lt
+guessed_by first size r is k lt first-is size_is = is ∙ ap₂ (λ a b. get_or guesses (sum a b) 0) (sym first-is) (sym size_is) ∙ found_right k lt
 
 -- the first of a list
-pub first-of-lem : (l : List ℕ) → get_or l 0 0 ≡ first_or 0 l
-first-of-lem [] = refl
-first-of-lem (x ∷ l) = refl
+pub first_of_lem : (l : List ℕ) → get_or l 0 0 ≡ first_or 0 l
+first_of_lem [] = refl
+first_of_lem (x ∷ l) = refl
 
 -- a name has a byte, and nine at the most
-name-some : (k : ℕ) → k < named → 0 < length (name_of k)
+name_some : (k : ℕ) → k < named → 0 < length (name_of k)
 unfolding names name_of
-name-some k lt = leb-true 1 (length (name_of k)) (each-name (λ k. leb 1 (length (name_of k))) refl k lt)
+name_some k lt = leb-true 1 (length (name_of k)) (each_name (λ k. leb 1 (length (name_of k))) refl k lt)
 
-name-most : (k : ℕ) → k < named → length (name_of k) ≤ longestName
+name_most : (k : ℕ) → k < named → length (name_of k) ≤ longest_name
 unfolding names name_of
-name-most k lt = leb-true (length (name_of k)) longestName (each-name (λ k. leb (length (name_of k)) longestName) refl k lt)
+name_most k lt = leb-true (length (name_of k)) longest_name (each_name (λ k. leb (length (name_of k)) longest_name) refl k lt)
 
 -- ---- a part
 module _ (part : List ℕ) where
   none_named : ((k : ℕ) → k < named → name_of k ≡ part → ⊥) → NamedBy part 0
-  none_named no_name = record { few = omega arith; name-is = λ lt. absurd (let z : ⊥ = omega arith in z); name-none = λ _. no_name }
+  none_named no_name = record { few = omega arith; name_is = λ lt. absurd (let z : ⊥ = omega arith in z); name_none = λ _. no_name }
 
-  pub empty-part : length part ≡ 0 → NamedBy part 0
-  empty-part e = none_named (λ k lt q. let z : ⊥ = omega (arith, name-some k lt, ap length q, e) in z)
+  pub empty_part : length part ≡ 0 → NamedBy part 0
+  empty_part e = none_named (λ k lt q. let z : ⊥ = omega (arith, name_some k lt, ap length q, e) in z)
 
-  pub long-part : 9 < length part → NamedBy part 0
-  long-part lt = none_named (λ k l q. let z : ⊥ = omega (arith, name-most k l, ap length q, lt) in z)
+  pub long_part : 9 < length part → NamedBy part 0
+  long_part lt = none_named (λ k l q. let z : ⊥ = omega (arith, name_most k l, ap length q, lt) in z)
 
   module _ (k : ℕ) (guessed : Guessed (first_or 0 part) (length part) k) where
-    guess-right : (j : ℕ) → j < named → name_of j ≡ part → k ≡ j
-    guess-right j lt q = guessed j lt (ap (first_or 0) q) (ap length q)
+    guess_right : (j : ℕ) → j < named → name_of j ≡ part → k ≡ j
+    guess_right j lt q = guessed j lt (ap (first_or 0) q) (ap length q)
 
-    pub no-guess : named ≤ k → NamedBy part 0
-    no-guess le = none_named (λ j lt q. let z : ⊥ = omega (arith, guess-right j lt q, lt) in z)
+    pub no_guess : named ≤ k → NamedBy part 0
+    no_guess le = none_named (λ j lt q. let z : ⊥ = omega (arith, guess_right j lt q, lt) in z)
 
-    pub other-part : same (name_of k) part ≡ false → NamedBy part 0
-    other-part e =
-        none_named (λ j lt q. true≢false (sym (eq-same (ap name_of (guess-right j lt q) ∙ q)) ∙ e))
+    pub other_part : same (name_of k) part ≡ false → NamedBy part 0
+    other_part e =
+        none_named (λ j lt q. true≢false (sym (eq_same (ap name_of (guess_right j lt q) ∙ q)) ∙ e))
 
-    pub named-part : k < named → same (name_of k) part ≡ true → NamedBy part (k + 1)
-    named-part lt e = record {
+    pub named_part : k < named → same (name_of k) part ≡ true → NamedBy part (k + 1)
+    named_part lt e = record {
       few = omega arith;
-      name-is = λ _. ap name_of (omega arith) ∙ same-eq (name_of k) part e;
-      name-none = λ z. absurd (let n : ⊥ = omega (arith, z) in n);
+      name_is = λ _. ap name_of (omega arith) ∙ same_eq (name_of k) part e;
+      name_none = λ z. absurd (let n : ⊥ = omega (arith, z) in n);
     }

@@ -6,30 +6,30 @@ use mathlib.Core.List.{List}
 use lib.ListN.{length, take}
 use borrow.Author.Tests.{le-leb, lt-leb}
 use Rattle.grammar.specs.Text.{decimal}
-use Rattle.grammar.specs.Names.{named, name_of, nameText}
+use Rattle.grammar.specs.Names.{named, name_of, name_text}
 
 -- Label 0 has none.
-pub no-name-below : (l : ℕ) → l < 1 → decimal l ≡ nameText l
-unfolding nameText
-no-name-below l lt = rw (lt-leb 1 l lt, nameText) refl
+pub no_name_below : (l : ℕ) → l < 1 → decimal l ≡ name_text l
+unfolding name_text
+no_name_below l lt = rw (lt-leb 1 l lt, name_text) refl
 
 -- Label 1 and those after it, up to the last, have one each.
-pub has-name : (l k : ℕ) → l ≡ k + 1 → l ≤ named → name_of k ≡ nameText l
-unfolding nameText
-has-name l k e most =
+pub has_name : (l k : ℕ) → l ≡ k + 1 → l ≤ named → name_of k ≡ name_text l
+unfolding name_text
+has_name l k e most =
     let one : 1 ≤ l = omega arith in
     let before : l - 1 ≡ k = omega arith in
-    rw (le-leb 1 l one, le-leb l named most, nameText, before) refl
+    rw (le-leb 1 l one, le-leb l named most, name_text, before) refl
 
 -- The labels after those have none.
-pub no-name-above : (l : ℕ) → named < l → decimal l ≡ nameText l
-unfolding nameText
-no-name-above l lt = let one : 1 ≤ l = omega arith in rw (le-leb 1 l one, lt-leb l named lt, nameText) refl
+pub no_name_above : (l : ℕ) → named < l → decimal l ≡ name_text l
+unfolding name_text
+no_name_above l lt = let one : 1 ≤ l = omega arith in rw (le-leb 1 l one, lt-leb l named lt, name_text) refl
 
 -- The first n bytes held for a name are the name, and they are as many.
 module _ (k n : ℕ) (held : List ℕ) (long : n ≡ length (name_of k)) (begins : take (length (name_of k)) held ≡ name_of k) where
-  pub name-part : take n held ≡ name_of k
-  name-part = ap (λ m. take m held) long ∙ begins
+  pub name_part : take n held ≡ name_of k
+  name_part = ap (λ m. take m held) long ∙ begins
 
-  pub part-long : length (take n held) ≡ n
-  part-long = ap length name-part ∙ sym long
+  pub part_long : length (take n held) ≡ n
+  part_long = ap length name_part ∙ sym long

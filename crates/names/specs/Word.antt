@@ -6,13 +6,13 @@ use Rattle.paper.specs.Format.{Format}
 use Rattle.grammar.specs.Text.{dot, decimal}
 use Rattle.grammar.specs.Names.{named, name_of}
 use Rattle.grammar.specs.Grammar.{Name}
-use Rattle.grammar.specs.Reader.{parts, nameOfWord}
+use Rattle.grammar.specs.Reader.{parts, name_of_word}
 use Rattle.names.specs.declared.word.Word.{Word}
 
 -- ---- a part
 -- the bytes of the longest name
-abbrev pub longestName : ℕ
-longestName = 9
+abbrev pub longest_name : ℕ
+longest_name = 9
 
 -- It is the one name that has this first byte and this length, wherever there is one.
 abbrev pub Guessed : ℕ → ℕ → ℕ → Type 0
@@ -21,27 +21,27 @@ Guessed first size r = (k : ℕ) → k < named → first_or 0 (name_of k) ≡ fi
 -- It is the label that has the text as its name, 0 for none.
 pub record NamedBy (w : List ℕ) (r : ℕ) : Type 0 where
   pub few : r ≤ named
-  pub name-is : 0 < r → name_of (r - 1) ≡ w
-  pub name-none : r ≡ 0 → (k : ℕ) → k < named → name_of k ≡ w → ⊥
+  pub name_is : 0 < r → name_of (r - 1) ≡ w
+  pub name_none : r ≡ 0 → (k : ℕ) → k < named → name_of k ≡ w → ⊥
 
 -- the digits of the largest label
-abbrev pub mostDigits : ℕ
-mostDigits = 5
+abbrev pub most_digits : ℕ
+most_digits = 5
 
 -- It is the number above 0 of at most five digits that the text spells, 0 for none.
 pub record NumberOf (w : List ℕ) (r : ℕ) : Type 0 where
   pub number_is : 0 < r → decimal r ≡ w
-  pub number-none : r ≡ 0 → (n : ℕ) → 0 < n → length (decimal n) ≤ mostDigits → decimal n ≡ w → ⊥
+  pub number-none : r ≡ 0 → (n : ℕ) → 0 < n → length (decimal n) ≤ most_digits → decimal n ≡ w → ⊥
 
 -- the parts from byte p on, none where that is past the end
-unfoldable pub partsFrom : ℕ → List ℕ → List (List ℕ)
-partsFrom p w = elim (leb p (length w)) [ true ↦ parts (drop p w) | false ↦ [] ]
+unfoldable pub parts_from : ℕ → List ℕ → List (List ℕ)
+parts_from p w = elim (leb p (length w)) [ true ↦ parts (drop p w) | false ↦ [] ]
 
 -- The part that begins at byte p ends before byte q, and the next one begins after it.
 pub record PartEnds (w : List ℕ) (p q : ℕ) : Type 0 where
   pub begins : p ≤ q
   pub within : q ≤ length w
-  pub first : partsFrom p w ≡ take (q - p) (drop p w) ∷ partsFrom (suc q) w
+  pub first : parts_from p w ≡ take (q - p) (drop p w) ∷ parts_from (suc q) w
 
 -- the byte that the first part begins at, behind a leading dot
 unfoldable pub first_at : List ℕ → ℕ
@@ -50,14 +50,14 @@ first_at (b ∷ bs) = elim (eqb b dot) [ true ↦ 1 | false ↦ 0 ]
 
 -- ---- a word
 -- the labels of a name that are kept
-abbrev pub mostKept : ℕ
-mostKept = 8
+abbrev pub most_kept : ℕ
+most_kept = 8
 
 -- It holds the name: of its labels the first eight are kept, and how many there are.
 pub record Holds (r : Word) (n : Name) : Type 0 where
   pub whole_is : r.whole ≡ n.whole
   pub size_is : r.size ≡ length n.labels
-  pub labels-are : take r.size r.labels ≡ take mostKept n.labels
+  pub labels_are : take r.size r.labels ≡ take most_kept n.labels
 
 -- It says that no name is spelled, and holds none.
 pub record SpellsNone (r : Word) : Type 0 where
@@ -67,6 +67,6 @@ pub record SpellsNone (r : Word) : Type 0 where
 -- It holds the name that the word spells, and says so, or says that the word spells none.
 pub record Reads (f : Format) (w : List ℕ) (r : Word) : Type 0 where
   pub name : Name
-  pub spells-none : r.spells ≡ false → nameOfWord f w ≡ none
-  pub spells_one : r.spells ≡ true → nameOfWord f w ≡ some name
+  pub spells_none : r.spells ≡ false → name_of_word f w ≡ none
+  pub spells_one : r.spells ≡ true → name_of_word f w ≡ some name
   pub held : Holds r name

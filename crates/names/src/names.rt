@@ -1,6 +1,6 @@
 // The names of labels 1 to 20: the one table of them, by which they are written and read.
 ghost use Rattle.std.specs.Prelude.{◌≡◌, ◌+◌, ◌≤◌, ◌<◌, length, take};
-ghost use Rattle.grammar.specs.Names.{name_of, nameText};
+ghost use Rattle.grammar.specs.Names.{name_of, name_text};
 ghost use Rattle.names.specs.Put.{Put};
 
 use crate::put::{put_bytes, put_number};
@@ -36,7 +36,7 @@ pub fn name_length(k: usize) -> usize
     requires { k < 20 }
     ensures { (result ≡ length (name_of k)) × (result ≤ 9) }
 {
-    bytes::wide(LENGTHS[k])
+    octets::wide(LENGTHS[k])
 }
 
 // The name of label k + 1, and spaces.
@@ -50,7 +50,7 @@ pub fn name_bytes(k: usize) -> [u8; 9]
 // A label's name: labels 1 to 20 by name, others as numbers.
 pub fn put_name(out: &mut [u8], at: usize, label: usize) -> usize
     requires { at + 20 ≤ length out.old }
-    ensures { Put out.old at (nameText label) out.new result × (result ≤ at + 20) }
+    ensures { Put out.old at (name_text label) out.new result × (result ≤ at + 20) }
 {
     if label < 1 {
         return put_number(out, at, label);

@@ -17,7 +17,7 @@ pub fn put_bytes(out: &mut [u8], at: usize, text: &[u8]) -> usize
     requires { at + length text.now ≤ length out.old }
     ensures { Put out.old at text.now out.new result }
 {
-    bytes::put(out, at, text);
+    octets::put(out, at, text);
     at + text.len()
 }
 

@@ -1,10 +1,10 @@
 // The words of a typed tree: a part is a label's name or its number, and a name is parts with single dots between them.
 ghost use Rattle.std.specs.Prelude.{◌≡◌, ◌≤◌, ◌<◌, length};
 ghost use Rattle.paper.specs.Lists.{same};
-ghost use Rattle.bytes.specs.Served.{Served};
+ghost use Rattle.octets.specs.Served.{Served};
 ghost use Rattle.grammar.specs.Names.{name_of};
 ghost use Rattle.grammar.specs.Reader.{label_of};
-ghost use Rattle.names.specs.Word.{longestName, Guessed, NamedBy, NumberOf, PartEnds, first_at, SpellsNone, Reads};
+ghost use Rattle.names.specs.Word.{longest_name, Guessed, NamedBy, NumberOf, PartEnds, first_at, SpellsNone, Reads};
 
 use crate::names::{name_bytes, name_length};
 use paper::Format;
@@ -47,11 +47,11 @@ const GUESSES: [u8; 64] = [
 
 // The one name, less one, that has this first byte and this length, 20 for none.
 fn guess(first: u8, size: usize) -> usize
-    requires { size ≤ longestName }
+    requires { size ≤ longest_name }
     ensures { Guessed first size result }
 {
-    let sum = bytes::wide(first) + 21 * size;
-    bytes::wide(GUESSES[sum % 64])
+    let sum = octets::wide(first) + 21 * size;
+    octets::wide(GUESSES[sum % 64])
 }
 
 // The label that has the part as its name, 0 for none.
@@ -84,7 +84,7 @@ fn by_number(part: &[u8]) -> usize
     let mut v = 0;
     let mut i = 0;
     while i < part.len() {
-        let b = bytes::wide(part[i]);
+        let b = octets::wide(part[i]);
         if b < 48 {
             return 0;
         }

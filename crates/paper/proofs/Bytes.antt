@@ -7,9 +7,9 @@ use mathlib.Core.Logic.{inl, inr}
 use mathlib.Core.List.{List, [], ◌∷◌, ◌++◌, map, append_assoc}
 use lib.ListN.{length, get_or, take, drop, length-append, length-drop}
 use lib.Seq.{get_or_at, take_all, take_at, drop_at, take-add, length-take-le}
-use Rattle.paper.specs.Lists.{Has, joinMap}
-use Rattle.paper.specs.Format.{Format, headBytes, listBytes, valueBytes, rowBytes, word, words, span, records, whole, bytes}
-use Rattle.paper.specs.Tables.{Row, row_of, rowBack, dewey}
+use Rattle.paper.specs.Lists.{Has, join_map}
+use Rattle.paper.specs.Format.{Format, head_bytes, list_bytes, value_bytes, row_bytes, word, words, span, records, whole, bytes}
+use Rattle.paper.specs.Tables.{Row, row_of, row_back, dewey}
 
 -- a number of 16 bits
 abbrev pub Small : ℕ → Type 0
@@ -25,117 +25,117 @@ word_back pre x i rest e lt =
     omega (arith, lo, hi)
 
 pub words_back : (pre : List ℕ) (xs : List ℕ) (i : ℕ) (rest : List ℕ) → length pre ≡ i → ((x : ℕ) → Has x xs → Small x)
-    → words (length xs) (pre ++ (joinMap (bytes 2) xs ++ rest)) i ≡ xs
+    → words (length xs) (pre ++ (join_map (bytes 2) xs ++ rest)) i ≡ xs
 words_back pre [] i rest e small = refl
 words_back pre (x ∷ xs) i rest e small =
-    let b = joinMap (bytes 2) xs ++ rest in
-    let q : pre ++ (joinMap (bytes 2) (x ∷ xs) ++ rest) ≡ pre ++ (bytes 2 x ++ b) = ap (λ l. pre ++ l) (append_assoc (bytes 2 x) (joinMap (bytes 2) xs) rest) in
+    let b = join_map (bytes 2) xs ++ rest in
+    let q : pre ++ (join_map (bytes 2) (x ∷ xs) ++ rest) ≡ pre ++ (bytes 2 x ++ b) = ap (λ l. pre ++ l) (append_assoc (bytes 2 x) (join_map (bytes 2) xs) rest) in
     let p : pre ++ (bytes 2 x ++ b) ≡ (pre ++ bytes 2 x) ++ b = sym (append_assoc pre (bytes 2 x) b) in
     ap₂ {C = List ℕ} (λ a l. a ∷ l) (ap (λ l. word l i) q ∙ word_back pre x i b e (small x (inl refl)))
     (ap (λ l. words (length xs) l (suc (suc i))) (q ∙ p)
     ∙ words_back (pre ++ bytes 2 x) xs (suc (suc i)) rest (omega (arith, length-append pre (bytes 2 x))) (λ y h. small y (inr h)))
 
-span-back : (pre v : List ℕ) (i : ℕ) → length pre ≡ i → span (length v) (pre ++ v) i ≡ v
-span-back pre [] i e = refl
-span-back pre (x ∷ v) i e =
+span_back : (pre v : List ℕ) (i : ℕ) → length pre ≡ i → span (length v) (pre ++ v) i ≡ v
+span_back pre [] i e = refl
+span_back pre (x ∷ v) i e =
     ap₂ {C = List ℕ} (λ a l. a ∷ l) (get_or_at pre x v 0 i e)
     (ap (λ l. span (length v) l (suc i)) (sym (append_assoc pre (x ∷ []) v))
-    ∙ span-back (pre ++ (x ∷ [])) v (suc i) (omega (arith, length-append pre (x ∷ []))))
+    ∙ span_back (pre ++ (x ∷ [])) v (suc i) (omega (arith, length-append pre (x ∷ []))))
 
-pub length-numbers : (xs : List ℕ) → length (joinMap (bytes 2) xs) ≡ 2 * length xs
-length-numbers [] = refl
-length-numbers (x ∷ xs) = omega (arith, length-numbers xs, length-append (bytes 2 x) (joinMap (bytes 2) xs))
+pub length_numbers : (xs : List ℕ) → length (join_map (bytes 2) xs) ≡ 2 * length xs
+length_numbers [] = refl
+length_numbers (x ∷ xs) = omega (arith, length_numbers xs, length-append (bytes 2 x) (join_map (bytes 2) xs))
 
 -- ---- rows
 -- a row whose fields have the lengths of the format
 abbrev pub Shaped : Format → Row → Type 0
-Shaped f r = (length r.components ≡ f.levels) × (length r.value ≡ valueBytes)
+Shaped f r = (length r.components ≡ f.levels) × (length r.value ≡ value_bytes)
 
 abbrev head : Row → List ℕ
 head r = r.level ∷ r.spare ∷ bytes 2 r.label
 
-row-parts : (r : Row) → rowBack r ≡ head r ++ (joinMap (bytes 2) r.components ++ r.value)
-unfolding rowBack
-row-parts r = append_assoc (head r) (joinMap (bytes 2) r.components) r.value
+row-parts : (r : Row) → row_back r ≡ head r ++ (join_map (bytes 2) r.components ++ r.value)
+unfolding row_back
+row-parts r = append_assoc (head r) (join_map (bytes 2) r.components) r.value
 
-pub length-row : (f : Format) (r : Row) → Shaped f r → length (rowBack r) ≡ rowBytes f
+pub length-row : (f : Format) (r : Row) → Shaped f r → length (row_back r) ≡ row_bytes f
 length-row f r (c, v) =
     ap length (row-parts r)
     ∙ (omega (
       arith,
-      length-append (head r) (joinMap (bytes 2) r.components ++ r.value),
-      length-append (joinMap (bytes 2) r.components) r.value,
-      length-numbers r.components,
+      length-append (head r) (join_map (bytes 2) r.components ++ r.value),
+      length-append (join_map (bytes 2) r.components) r.value,
+      length_numbers r.components,
     ))
 
-components-back : (f : Format) (r : Row) → Shaped f r → ((x : ℕ) → Has x r.components → Small x) → (row_of f (rowBack r)).components ≡ r.components
+components_back : (f : Format) (r : Row) → Shaped f r → ((x : ℕ) → Has x r.components → Small x) → (row_of f (row_back r)).components ≡ r.components
 unfolding row_of
-components-back f r (c, v) small =
-    ap (λ n. words n (rowBack r) headBytes) (sym c) ∙ ap (λ b. words (length r.components) b headBytes) (row-parts r)
-    ∙ words_back (head r) r.components headBytes r.value refl small
+components_back f r (c, v) small =
+    ap (λ n. words n (row_back r) head_bytes) (sym c) ∙ ap (λ b. words (length r.components) b head_bytes) (row-parts r)
+    ∙ words_back (head r) r.components head_bytes r.value refl small
 
-level-back : (f : Format) (r : Row) → (row_of f (rowBack r)).level ≡ r.level
-unfolding row_of rowBack
-level-back f r = refl
+level_back : (f : Format) (r : Row) → (row_of f (row_back r)).level ≡ r.level
+unfolding row_of row_back
+level_back f r = refl
 
 -- a row's Dewey number is read back
-pub dewey-back : (f : Format) (r : Row) → Shaped f r → ((x : ℕ) → Has x r.components → Small x) → dewey (row_of f (rowBack r)) ≡ dewey r
-dewey-back f r sh small = ap₂ (λ n l. take n l) (level-back f r) (components-back f r sh small)
+pub dewey_back : (f : Format) (r : Row) → Shaped f r → ((x : ℕ) → Has x r.components → Small x) → dewey (row_of f (row_back r)) ≡ dewey r
+dewey_back f r sh small = ap₂ (λ n l. take n l) (level_back f r) (components_back f r sh small)
 
-label-back : (f : Format) (r : Row) → Small r.label → (row_of f (rowBack r)).label ≡ r.label
+label_back : (f : Format) (r : Row) → Small r.label → (row_of f (row_back r)).label ≡ r.label
 unfolding row_of
-label-back f r lab =
-    ap (λ b. word b 2) (row-parts r) ∙ word_back (r.level ∷ r.spare ∷ []) r.label 2 (joinMap (bytes 2) r.components ++ r.value) refl lab
+label_back f r lab =
+    ap (λ b. word b 2) (row-parts r) ∙ word_back (r.level ∷ r.spare ∷ []) r.label 2 (join_map (bytes 2) r.components ++ r.value) refl lab
 
-value-back : (f : Format) (r : Row) → Shaped f r → (row_of f (rowBack r)).value ≡ r.value
-unfolding row_of rowBack
-value-back f r (c, v) =
-    let pre = head r ++ joinMap (bytes 2) r.components in
-    ap (λ n. span n (pre ++ r.value) (headBytes + listBytes f)) (sym v)
-    ∙ span-back pre r.value (headBytes + listBytes f)
-    (omega (arith, length-append (head r) (joinMap (bytes 2) r.components), length-numbers r.components))
+value_back : (f : Format) (r : Row) → Shaped f r → (row_of f (row_back r)).value ≡ r.value
+unfolding row_of row_back
+value_back f r (c, v) =
+    let pre = head r ++ join_map (bytes 2) r.components in
+    ap (λ n. span n (pre ++ r.value) (head_bytes + list_bytes f)) (sym v)
+    ∙ span_back pre r.value (head_bytes + list_bytes f)
+    (omega (arith, length-append (head r) (join_map (bytes 2) r.components), length_numbers r.components))
 
 -- a whole row is read back
-pub row-back-lem : (f : Format) (r : Row) → Shaped f r → ((x : ℕ) → Has x r.components → Small x) → Small r.label → row_of f (rowBack r) ≡ r
-unfolding row_of rowBack
-row-back-lem f r sh small lab =
-    λ i. record { level = r.level; spare = r.spare; label = label-back f r lab i; components = components-back f r sh small i; value = value-back f r sh i }
+pub row_back_lem : (f : Format) (r : Row) → Shaped f r → ((x : ℕ) → Has x r.components → Small x) → Small r.label → row_of f (row_back r) ≡ r
+unfolding row_of row_back
+row_back_lem f r sh small lab =
+    λ i. record { level = r.level; spare = r.spare; label = label_back f r lab i; components = components_back f r sh small i; value = value_back f r sh i }
 
 -- ---- tables
 -- whole records one after the other are read back as records
 module _ {A : Type 0} (w : ℕ) (pos : 0 < w) (g : A → List ℕ) where
-  pub whole_back : (xs : List A) → ((x : A) → Has x xs → length (g x) ≡ w) → whole w (joinMap g xs) ≡ length xs
+  pub whole_back : (xs : List A) → ((x : A) → Has x xs → length (g x) ≡ w) → whole w (join_map g xs) ≡ length xs
   whole_back [] e = zero-div w
   whole_back (x ∷ xs) e =
-      ap (λ n. n / w) (length-append (g x) (joinMap g xs) ∙ ap (λ n. n + length (joinMap g xs)) (e x (inl refl)))
-      ∙ add-div_left (length (joinMap g xs)) pos ∙ (omega (arith, whole_back xs (λ y h. e y (inr h))))
+      ap (λ n. n / w) (length-append (g x) (join_map g xs) ∙ ap (λ n. n + length (join_map g xs)) (e x (inl refl)))
+      ∙ add-div_left (length (join_map g xs)) pos ∙ (omega (arith, whole_back xs (λ y h. e y (inr h))))
 
-  pub length_back : (xs : List A) → ((x : A) → Has x xs → length (g x) ≡ w) → length (joinMap g xs) ≡ length xs * w
+  pub length_back : (xs : List A) → ((x : A) → Has x xs → length (g x) ≡ w) → length (join_map g xs) ≡ length xs * w
   length_back [] e = sym (zero-mul w)
   length_back (x ∷ xs) e =
-      length-append (g x) (joinMap g xs) ∙ ap₂ (λ m n. m + n) (e x (inl refl)) (length_back xs (λ y h. e y (inr h)))
+      length-append (g x) (join_map g xs) ∙ ap₂ (λ m n. m + n) (e x (inl refl)) (length_back xs (λ y h. e y (inr h)))
       ∙ (omega (arith, suc-mul (length xs) w))
 
-  pub records-back : (xs : List A) → ((x : A) → Has x xs → length (g x) ≡ w) → records w (length xs) (joinMap g xs) ≡ map g xs
-  records-back [] e = refl
-  records-back (x ∷ xs) e =
-      ap₂ {C = List (List ℕ)} (λ a l. a ∷ l) (take_at (g x) (joinMap g xs) w (e x (inl refl)))
-      (ap (records w (length xs)) (drop_at (g x) (joinMap g xs) w (e x (inl refl))) ∙ records-back xs (λ y h. e y (inr h)))
+  pub records_back : (xs : List A) → ((x : A) → Has x xs → length (g x) ≡ w) → records w (length xs) (join_map g xs) ≡ map g xs
+  records_back [] e = refl
+  records_back (x ∷ xs) e =
+      ap₂ {C = List (List ℕ)} (λ a l. a ∷ l) (take_at (g x) (join_map g xs) w (e x (inl refl)))
+      (ap (records w (length xs)) (drop_at (g x) (join_map g xs) w (e x (inl refl))) ∙ records_back xs (λ y h. e y (inr h)))
 
 -- ---- the records of a file
 module _ (w : ℕ) where
-  pub record-size : (m : ℕ) (b : List ℕ) → m * w ≤ length b → (r : List ℕ) → Has r (records w m b) → length r ≡ w
-  record-size zero b le r h = absurd h
-  record-size (suc m) b le r (inl e) = ap length e ∙ length-take-le w b (omega (arith, suc-mul m w))
-  record-size (suc m) b le r (inr h) = record-size m (drop w b) (omega (arith, suc-mul m w, length-drop w b)) r h
+  pub record_size : (m : ℕ) (b : List ℕ) → m * w ≤ length b → (r : List ℕ) → Has r (records w m b) → length r ≡ w
+  record_size zero b le r h = absurd h
+  record_size (suc m) b le r (inl e) = ap length e ∙ length-take-le w b (omega (arith, suc-mul m w))
+  record_size (suc m) b le r (inr h) = record_size m (drop w b) (omega (arith, suc-mul m w, length-drop w b)) r h
 
-  pub file-record : (b r : List ℕ) → Has r (records w (whole w b) b) → length r ≡ w
-  file-record b = record-size (whole w b) b (div-mul-le_self (length b) w)
+  pub file_record : (b r : List ℕ) → Has r (records w (whole w b) b) → length r ≡ w
+  file_record b = record_size (whole w b) b (div-mul-le_self (length b) w)
 
-  joined-records : (m : ℕ) (b : List ℕ) → joinMap (λ r. r) (records w m b) ≡ take (m * w) b
-  joined-records zero b = ap (λ k. take k b) (sym (zero-mul w))
-  joined-records (suc m) b =
-      ap (λ l. take w b ++ l) (joined-records m (drop w b)) ∙ sym (take-add w (m * w) b)
+  joined_records : (m : ℕ) (b : List ℕ) → join_map (λ r. r) (records w m b) ≡ take (m * w) b
+  joined_records zero b = ap (λ k. take k b) (sym (zero-mul w))
+  joined_records (suc m) b =
+      ap (λ l. take w b ++ l) (joined_records m (drop w b)) ∙ sym (take-add w (m * w) b)
       ∙ ap (λ k. take k b) more
     where
       more : w + m * w ≡ suc m * w
@@ -145,5 +145,5 @@ module _ (w : ℕ) where
   pub whole_length : (b : List ℕ) → length b % w ≡ 0 → whole w b * w ≡ length b
   whole_length b e = omega (arith, div-add-mod' (length b) w, e)
 
-  pub whole-records : (b : List ℕ) → length b % w ≡ 0 → joinMap (λ r. r) (records w (whole w b) b) ≡ b
-  whole-records b e = joined-records (whole w b) b ∙ take_all (whole w b * w) b (omega (arith, whole_length b e))
+  pub whole-records : (b : List ℕ) → length b % w ≡ 0 → join_map (λ r. r) (records w (whole w b) b) ≡ b
+  whole-records b e = joined_records (whole w b) b ∙ take_all (whole w b * w) b (omega (arith, whole_length b e))

@@ -39,32 +39,32 @@ module _ {E R : Type 0} (In : E → R → Type 0) (L : E → E → ℕ) (ag : �
       let u = pt.0 d.0 d.1 in
       (u.0, u.1, (d.0, d.1, u.2, d.2))
 
-  pub down-in : (g : E) (cs : List E) (q r : R) → In g q → Down g cs q r → In (last_or g cs) r
-  down-in g [] q r i d = subst (λ x. In g x) d i
-  down-in g (c ∷ cs) q r i d = down-in c cs d.0 r d.1 d.3
+  pub down_in : (g : E) (cs : List E) (q r : R) → In g q → Down g cs q r → In (last_or g cs) r
+  down_in g [] q r i d = subst (λ x. In g x) d i
+  down_in g (c ∷ cs) q r i d = down_in c cs d.0 r d.1 d.3
 
-  module _ (ag-sym : (k : ℕ) (r s : R) → ag k r s → ag k s r)
-      (ag-trans : (k : ℕ) (r s t : R) → ag k r s → ag k s t → ag k r t)
-      (ag-le : (k l : ℕ) (r s : R) → l ≤ k → ag k r s → ag l r s) where
+  module _ (ag_sym : (k : ℕ) (r s : R) → ag k r s → ag k s r)
+      (ag_trans : (k : ℕ) (r s t : R) → ag k r s → ag k s t → ag k r t)
+      (ag_le : (k l : ℕ) (r s : R) → l ≤ k → ag k r s → ag l r s) where
     -- the ends of a chain agree on the least level
-    pub down-agree : (m : ℕ) (g : E) (cs : List E) (q r : R) → AtLeast m g cs → ag m q q → Down g cs q r → ag m q r
-    down-agree m g [] q r al own d = subst (λ x. ag m q x) d own
-    down-agree m g (c ∷ cs) q r al own d =
+    pub down_agree : (m : ℕ) (g : E) (cs : List E) (q r : R) → AtLeast m g cs → ag m q q → Down g cs q r → ag m q r
+    down_agree m g [] q r al own d = subst (λ x. ag m q x) d own
+    down_agree m g (c ∷ cs) q r al own d =
         let p = d.0 in
-        let qp = ag-le (L g c) m q p al.0 d.2.1 in
-        ag-trans m q p r qp (down-agree m c cs p r al.1 (ag-trans m p q p (ag-sym m q p qp) qp) d.3)
+        let qp = ag_le (L g c) m q p al.0 d.2.1 in
+        ag_trans m q p r qp (down_agree m c cs p r al.1 (ag_trans m p q p (ag_sym m q p qp) qp) d.3)
 
     -- the same, from the chain's end
-    pub up-agree : (m : ℕ) (g : E) (cs : List E) (q r : R) → AtLeast m g cs → ag m r r → Down g cs q r → ag m q r
-    up-agree m g [] q r al own d = subst (λ x. ag m x r) (sym d) own
-    up-agree m g (c ∷ cs) q r al own d =
-        ag-trans m q d.0 r (ag-le (L g c) m q d.0 al.0 d.2.1) (up-agree m c cs d.0 r al.1 own d.3)
+    pub up_agree : (m : ℕ) (g : E) (cs : List E) (q r : R) → AtLeast m g cs → ag m r r → Down g cs q r → ag m q r
+    up_agree m g [] q r al own d = subst (λ x. ag m x r) (sym d) own
+    up_agree m g (c ∷ cs) q r al own d =
+        ag_trans m q d.0 r (ag_le (L g c) m q d.0 al.0 d.2.1) (up_agree m c cs d.0 r al.1 own d.3)
 
     -- nothing is made up: what hangs under one row of the fork is closest
-    pub nothing-made-up : (m : ℕ) (g : E) (es fs : List E) (q r s : R) → ag m q q → 0 < m → L (last_or g es) (last_or g fs) ≡ m
+    pub nothing_made_up : (m : ℕ) (g : E) (es fs : List E) (q r s : R) → ag m q q → 0 < m → L (last_or g es) (last_or g fs) ≡ m
         → AtLeast m g es → AtLeast m g fs → Down g es q r → Down g fs q s → Close (last_or g es) (last_or g fs) r s
-    nothing-made-up m g es fs q r s own pos lev ae af de df =
-        rw lev (pos, ag-trans m r q s (ag-sym m q r (down-agree m g es q r ae own de)) (down-agree m g fs q s af own df))
+    nothing_made_up m g es fs q r s own pos lev ae af de df =
+        rw lev (pos, ag_trans m r q s (ag_sym m q r (down_agree m g es q r ae own de)) (down_agree m g fs q s af own df))
 
     -- from a row of the fork down to a row that it agrees with
     pub reach : (m : ℕ) (g : E) (cs : List E) (q s : R) → 0 < m → Sure m g cs → AtLeast m g cs → Partnered g cs
@@ -72,20 +72,20 @@ module _ {E R : Type 0} (In : E → R → Type 0) (L : E → E → ℕ) (ag : �
     reach m g [] q s pos su al pt i a iq = absurd su
     reach m g (c ∷ cs) q s pos (inl e) al pt i a iq =
         let u = climb c cs s pt.1 i in
-        let own = ag-trans m s q s (ag-sym m q s a) a in
-        let us = up-agree m c cs u.0 s al.1 own u.2 in
-        (u.0, u.1, rw e (pos, ag-trans m q s u.0 a (ag-sym m u.0 s us)), u.2)
+        let own = ag_trans m s q s (ag_sym m q s a) a in
+        let us = up_agree m c cs u.0 s al.1 own u.2 in
+        (u.0, u.1, rw e (pos, ag_trans m q s u.0 a (ag_sym m u.0 s us)), u.2)
     reach m g (c ∷ cs) q s pos (inr (h, su)) al pt i a iq =
         let p = h q iq in
-        let qp = ag-le (L g c) m q p.0 al.0 p.2.1 in
-        (p.0, p.1, p.2, reach m c cs p.0 s pos su al.1 pt.1 i (ag-trans m p.0 q s (ag-sym m q p.0 qp) a) p.1)
+        let qp = ag_le (L g c) m q p.0 al.0 p.2.1 in
+        (p.0, p.1, p.2, reach m c cs p.0 s pos su al.1 pt.1 i (ag_trans m p.0 q s (ag_sym m q p.0 qp) a) p.1)
 
     -- nothing is missing: two closest rows hang under one row of the fork, where the side of the second is sure
-    pub nothing-missing : (m : ℕ) (g : E) (es fs : List E) (r s : R) → 0 < m → Sure m g fs
+    pub nothing_missing : (m : ℕ) (g : E) (es fs : List E) (r s : R) → 0 < m → Sure m g fs
         → AtLeast m g es → AtLeast m g fs → Partnered g es → Partnered g fs
         → In (last_or g es) r → In (last_or g fs) s → ag m r s → (q : R) × In g q × Down g es q r × Down g fs q s
-    nothing-missing m g es fs r s pos su ae af pe pf ir is a =
+    nothing_missing m g es fs r s pos su ae af pe pf ir is a =
         let u = climb g es r pe ir in
-        let own = ag-trans m r s r a (ag-sym m r s a) in
-        let qr = up-agree m g es u.0 r ae own u.2 in
-        (u.0, u.1, u.2, reach m g fs u.0 s pos su af pf is (ag-trans m u.0 r s qr a) u.1)
+        let own = ag_trans m r s r a (ag_sym m r s a) in
+        let qr = up_agree m g es u.0 r ae own u.2 in
+        (u.0, u.1, u.2, reach m g fs u.0 s pos su af pf is (ag_trans m u.0 r s qr a) u.1)

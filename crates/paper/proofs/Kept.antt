@@ -12,8 +12,8 @@ use lib.Dec.{ltb}
 use lib.ListN.{length, get_or, take, replicate, length-map}
 use lib.Seq.{take-append-add}
 use borrow.Author.Tests.{ltb-false, le-ltb}
-use Rattle.paper.specs.Lists.{Has, keep, any, most, place, firstPlace, Range, least, count, padded}
-use Rattle.paper.proofs.Lists.{keep-has, has-map, map-has, most-has, most-reached, least-le, least-reached}
+use Rattle.paper.specs.Lists.{Has, keep, any, most, place, first_place, Range, least, count, padded}
+use Rattle.paper.proofs.Lists.{keep-has, has-map, map-has, most_has, most_reached, least_le, least_reached}
 
 module _ {A : Type 0} where
   -- tests that agree on the list keep the same
@@ -24,8 +24,8 @@ module _ {A : Type 0} where
 
   -- ---- how many are kept
   -- x stands first where it passes
-  abbrev pub putIf : Bool → A → List A → List A
-  putIf b x l = elim b [ true ↦ x ∷ l | false ↦ l ]
+  abbrev pub put_if : Bool → A → List A → List A
+  put_if b x l = elim b [ true ↦ x ∷ l | false ↦ l ]
 
   -- none, where none passes the test
   pub keep-none : (p : A → Bool) (xs : List A) → ((x : A) → Has x xs → p x ≡ true → ⊥) → length (keep p xs) ≡ 0
@@ -36,13 +36,13 @@ module _ {A : Type 0} where
       go (y ∷ ys) e = let (i, q) = keep-has p y xs (subst (λ l. Has y l) (sym e) (inl refl)) in absurd (never y i q)
 
   -- no more than by two tests, where what passes one test passes one of the two
-  pub keep-either : (p q r : A → Bool) (xs : List A) → ((x : A) → Has x xs → p x ≡ true → (q x ≡ true) ⊎ (r x ≡ true))
+  pub keep_either : (p q r : A → Bool) (xs : List A) → ((x : A) → Has x xs → p x ≡ true → (q x ≡ true) ⊎ (r x ≡ true))
       → length (keep p xs) ≤ length (keep q xs) + length (keep r xs)
-  keep-either p q r [] h = zero-le
-  keep-either p q r (x ∷ xs) h = go (p x) (q x) (r x) (h x (inl refl)) (keep-either p q r xs (λ y i. h y (inr i)))
+  keep_either p q r [] h = zero-le
+  keep_either p q r (x ∷ xs) h = go (p x) (q x) (r x) (h x (inl refl)) (keep_either p q r xs (λ y i. h y (inr i)))
     where
       go : (a b c : Bool) → (a ≡ true → (b ≡ true) ⊎ (c ≡ true)) → length (keep p xs) ≤ length (keep q xs) + length (keep r xs)
-          → length (putIf a x (keep p xs)) ≤ length (putIf b x (keep q xs)) + length (putIf c x (keep r xs))
+          → length (put_if a x (keep p xs)) ≤ length (put_if b x (keep q xs)) + length (put_if c x (keep r xs))
       go true true true k le = omega arith
       go true true false k le = omega arith
       go true false true k le = omega arith
@@ -55,7 +55,7 @@ module _ {A : Type 0} where
   -- no more, where what passes one test passes the other
   pub keep-fewer : (p q : A → Bool) (xs : List A) → ((x : A) → Has x xs → p x ≡ true → q x ≡ true) → length (keep p xs) ≤ length (keep q xs)
   keep-fewer p q xs h =
-      omega (arith, keep-either p q (λ _. false) xs (λ x i e. inl (h x i e)), keep-none (λ _. false) xs (λ x i e. false≢true e))
+      omega (arith, keep_either p q (λ _. false) xs (λ x i e. inl (h x i e)), keep-none (λ _. false) xs (λ x i e. false≢true e))
 
 -- ---- through a map
 module _ {A B : Type 0} where
@@ -72,8 +72,8 @@ module _ {A B : Type 0} where
   any_same p q to [] e = refl
   any_same p q to (x ∷ xs) e = ap₂ (λ s t. s || t) (e x (inl refl)) (any_same p q to xs (λ y h. e y (inr h)))
 
-  pub any-map : (p : B → Bool) (f : A → B) (xs : List A) → any p (map f xs) ≡ any (λ x. p (f x)) xs
-  any-map p f xs = any_same p (λ x. p (f x)) f xs (λ x h. refl)
+  pub any_map : (p : B → Bool) (f : A → B) (xs : List A) → any p (map f xs) ≡ any (λ x. p (f x)) xs
+  any_map p f xs = any_same p (λ x. p (f x)) f xs (λ x h. refl)
 
 -- ---- the first that passes a test
 module _ {A : Type 0} (p : A → Bool) where
@@ -88,7 +88,7 @@ module _ {A : Type 0} (p : A → Bool) where
       go false e le (inr h) ih = ih (le_of_suc-le-suc le) x h
 
   -- where none is found, none passes
-  pub first-none : (xs : List A) → firstPlace p xs ≡ none → (x : A) → Has x xs → p x ≡ false
+  pub first-none : (xs : List A) → first_place p xs ≡ none → (x : A) → Has x xs → p x ≡ false
   first-none xs h = go (ltb (place p xs) (length xs)) refl h
     where
       go : (t : Bool) → ltb (place p xs) (length xs) ≡ t → ◌≡◌ {A = Option ℕ} (elim t [ true ↦ some (place p xs) | false ↦ none ]) none
@@ -103,7 +103,7 @@ module _ {A : Type 0} (p : A → Bool) where
       (suc-le-suc (none-place xs (λ y h. e y (inr h))))
 
   -- where none passes, none is found
-  pub none_first : (xs : List A) → ((x : A) → Has x xs → p x ≡ false) → firstPlace p xs ≡ none
+  pub none_first : (xs : List A) → ((x : A) → Has x xs → p x ≡ false) → first_place p xs ≡ none
   none_first xs e =
       ap {B = Option ℕ} (λ t. elim t [ true ↦ some (place p xs) | false ↦ none ]) (le-ltb (place p xs) (length xs) (none-place xs e))
 
@@ -114,7 +114,7 @@ module _ {A B : Type 0} (p : B → Bool) (q : A → Bool) (to : A → B) where
   place_same (x ∷ xs) e =
       ap₂ (λ b k. elim b as (λ _. ℕ) [ true ↦ 0 | false ↦ suc k ]) (e x (inl refl)) (place_same xs (λ y h. e y (inr h)))
 
-  pub first-same : (xs : List A) → ((x : A) → Has x xs → p (to x) ≡ q x) → firstPlace p (map to xs) ≡ firstPlace q xs
+  pub first-same : (xs : List A) → ((x : A) → Has x xs → p (to x) ≡ q x) → first_place p (map to xs) ≡ first_place q xs
   first-same xs e = ap₂ {C = Option ℕ} (λ i k. elim (ltb i k) as (λ _. Option ℕ) [ true ↦ some i | false ↦ none ]) (place_same xs e) (length-map xs to)
 
 -- what stands at a place of a mapped list
@@ -142,10 +142,10 @@ range figure (z ∷ zs) x h =
     let xs = z ∷ zs in
     let ns = map figure xs in
     record {
-      between = λ y i. let there = has-map figure y xs i in (least-le (figure y) ns there, most-has (λ n. n) (figure y) ns there);
-      low = let (y, i, e) = map-has figure (least ns) xs (least-reached (figure z) (map figure zs)) in (y, i, sym e);
+      between = λ y i. let there = has-map figure y xs i in (least_le (figure y) ns there, most_has (λ n. n) (figure y) ns there);
+      low = let (y, i, e) = map-has figure (least ns) xs (least_reached (figure z) (map figure zs)) in (y, i, sym e);
       high =
-          let (n, hn, q) = most-reached (λ n. n) (figure z) (map figure zs) in
+          let (n, hn, q) = most_reached (λ n. n) (figure z) (map figure zs) in
           let (y, i, e) = map-has figure n xs hn in
           (y, i, sym e ∙ q);
     }
@@ -156,8 +156,8 @@ take-zeros zero m le = refl
 take-zeros (suc k) zero le = absurd (not-suc-le-zero le)
 take-zeros (suc k) (suc m) le = ap {B = List ℕ} (λ l. 0 ∷ l) (take-zeros k m (le_of_suc-le-suc le))
 
-pub padded-longer : (a m : ℕ) (x : List ℕ) → length x ≡ a → padded (a + m) x ≡ x ++ replicate m 0
-padded-longer a m x e =
+pub padded_longer : (a m : ℕ) (x : List ℕ) → length x ≡ a → padded (a + m) x ≡ x ++ replicate m 0
+padded_longer a m x e =
     ap (λ k. take (k + m) (x ++ replicate (a + m) 0)) (sym e) ∙ take-append-add x (replicate (a + m) 0) m
     ∙ ap (λ l. x ++ l) (take-zeros m (a + m) (omega arith))
 

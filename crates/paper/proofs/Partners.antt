@@ -11,74 +11,74 @@ use mathlib.Core.Option.{none}
 use lib.Dec.{eqb}
 use lib.ListN.{length, drop, length-map}
 use borrow.Author.Tests.{eqb-true, eq-eqb, ne_eqb, not-false}
-use Rattle.paper.specs.Lists.{Has, Range, keep, all, any, is_empty, first_or, last_or, joinMap, least, count, same, up}
+use Rattle.paper.specs.Lists.{Has, Range, keep, all, any, is_empty, first_or, last_or, join_map, least, count, same, up}
 use Rattle.paper.specs.Format.{Format}
-use Rattle.paper.specs.Tables.{Row, rows, types, typeNumber}
-use Rattle.paper.specs.Closeness.{Node, nodes, ofKind, closestNumber}
-use Rattle.paper.specs.Shapes.{Entry, Shape, entries, named, shapeOver, numbers, kind, parent}
-use Rattle.paper.specs.Partners.{childNumbers, parentNumbers, greatest}
-use Rattle.paper.specs.Verdict.{Verdict, kept, missing, overPairs, alone, full, lone, pairFault, verdict}
+use Rattle.paper.specs.Tables.{Row, rows, types, type_number}
+use Rattle.paper.specs.Closeness.{Node, nodes, of_kind, closest_number}
+use Rattle.paper.specs.Shapes.{Entry, Shape, entries, named, shape_over, numbers, kind, parent}
+use Rattle.paper.specs.Partners.{child_numbers, parent_numbers, greatest}
+use Rattle.paper.specs.Verdict.{Verdict, kept, missing, over_pairs, alone, full, lone, pair_fault, verdict}
 use Rattle.paper.specs.Edges.{FirstNone}
-use Rattle.paper.specs.Calls.{given, refuseAt, Work, typeMissing, tests1-4, tests5-6, tests5-7, tests1-7}
-use Rattle.paper.proofs.Lists.{same-eq, any-has, map-has, in_some, getD-has}
-use Rattle.paper.proofs.Kept.{putIf, first-none, range}
-use Rattle.paper.proofs.Closeness.{of-kind-lem}
-use Rattle.paper.proofs.Tables.{rows-laid, listed-type}
-use Rattle.paper.proofs.Nearest.{parent-nearest}
-use Rattle.paper.proofs.Verdict.{way-zero, missing-alone}
-use Rattle.paper.proofs.Calls.{bind-given, refuseAt-given, passed1-3, passed1-4, passed5-6, passed1-7}
-use Rattle.paper.proofs.Promises.{kept-entries, ways, entries-size}
+use Rattle.paper.specs.Calls.{given, refuse_at, Work, type_missing, tests1_4, tests5_6, tests5_7, tests1_7}
+use Rattle.paper.proofs.Lists.{same_eq, any_has, map-has, in_some, get_d_has}
+use Rattle.paper.proofs.Kept.{put_if, first-none, range}
+use Rattle.paper.proofs.Closeness.{of_kind_lem}
+use Rattle.paper.proofs.Tables.{rows_laid, listed_type}
+use Rattle.paper.proofs.Nearest.{parent_nearest}
+use Rattle.paper.proofs.Verdict.{way_zero, missing_alone}
+use Rattle.paper.proofs.Calls.{bind_given, refuse_at-given, passed1_3, passed1_4, passed5_6, passed1_7}
+use Rattle.paper.proofs.Promises.{kept_entries, ways, entries-size}
 
 -- ---- each entry's type has a row
 -- 7 refuses types without rows
-passed7 : (f : Format) (b sb : List ℕ) (w : Work) → tests1-7 f b sb ≡ given w → typeMissing (rows f b) (entries f sb) ≡ none
-unfolding tests5-7
+passed7 : (f : Format) (b sb : List ℕ) (w : Work) → tests1_7 f b sb ≡ given w → type_missing (rows f b) (entries f sb) ≡ none
+unfolding tests5_7
 passed7 f b sb w h =
-    let (rs, h₁, k₁) = bind-given (tests1-4 f b) _ w h in
-    let (es, h₂, k₂) = bind-given (tests5-6 f sb) _ w k₁ in
-    let (u, h₃, k₃) = bind-given (refuseAt 7 (typeMissing rs es)) _ w k₂ in
-    subst₂ (λ rs es. typeMissing rs es ≡ none) (sym (passed1-3 f b rs (passed1-4 f b rs h₁)).0) (sym (passed5-6 f sb es h₂).0)
-    (refuseAt-given 7 (typeMissing rs es) u h₃)
+    let (rs, h₁, k₁) = bind_given (tests1_4 f b) _ w h in
+    let (es, h₂, k₂) = bind_given (tests5_6 f sb) _ w k₁ in
+    let (u, h₃, k₃) = bind_given (refuse_at 7 (type_missing rs es)) _ w k₂ in
+    subst₂ (λ rs es. type_missing rs es ≡ none) (sym (passed1_3 f b rs (passed1_4 f b rs h₁)).0) (sym (passed5_6 f sb es h₂).0)
+    (refuse_at-given 7 (type_missing rs es) u h₃)
 
 -- the type that an entry names is listed
-pub type-named : (rs : List Row) (es : List Entry) → typeMissing rs es ≡ none → (e : Entry) → Has e es → Has (named e) (types rs)
-unfolding typeMissing
-type-named rs es none-missing e h =
-    let found = not-false (any (same (named e)) (types rs)) (first-none (λ e. not (any (same (named e)) (types rs))) es none-missing e h) in
-    let (k, i, q) = any-has (same (named e)) (types rs) found in
-    subst (λ z. Has z (types rs)) (sym (same-eq (named e) k q)) i
+pub type_named : (rs : List Row) (es : List Entry) → type_missing rs es ≡ none → (e : Entry) → Has e es → Has (named e) (types rs)
+unfolding type_missing
+type_named rs es none_missing e h =
+    let found = not-false (any (same (named e)) (types rs)) (first-none (λ e. not (any (same (named e)) (types rs))) es none_missing e h) in
+    let (k, i, q) = any_has (same (named e)) (types rs) found in
+    subst (λ z. Has z (types rs)) (sym (same_eq (named e) k q)) i
 
-module _ (f : Format) (b sb : List ℕ) (w : Work) (passed : tests1-7 f b sb ≡ given w) where
+module _ (f : Format) (b sb : List ℕ) (w : Work) (passed : tests1_7 f b sb ≡ given w) where
   abbrev t : List Node
   t = nodes (rows f b)
 
   abbrev s : Shape
-  s = shapeOver (types (rows f b)) (entries f sb)
+  s = shape_over (types (rows f b)) (entries f sb)
 
   -- Each entry's type has a row.
-  pub type-has-row : (e : ℕ) → e < length s.ways → (r : Node) × Has r (ofKind t (kind s e))
-  unfolding shapeOver
-  type-has-row e le =
+  pub type_has_row : (e : ℕ) → e < length s.ways → (r : Node) × Has r (of_kind t (kind s e))
+  unfolding shape_over
+  type_has_row e le =
       let rs = rows f b in
       let es = entries f sb in
-      let number : Entry → ℕ = λ e. typeNumber (types rs) (named e) in
-      let (x, hx, q) = map-has number (kind s e) es (getD-has 0 (map number es) e (omega (arith, entries-size f b sb w passed, length-map es number))) in
-      let sound = (passed1-3 f b rs (passed1-7 f b sb w passed).0).1 in
-      let (r, hr, _, k) = listed-type f rs (rows-laid f b) sound (named x) (type-named rs es (passed7 f b sb w passed) x hx) in
-      (r, of-kind-lem t (kind s e) r (hr, k ∙ sym q))
+      let number : Entry → ℕ = λ e. type_number (types rs) (named e) in
+      let (x, hx, q) = map-has number (kind s e) es (get_d_has 0 (map number es) e (omega (arith, entries-size f b sb w passed, length-map es number))) in
+      let sound = (passed1_3 f b rs (passed1_7 f b sb w passed).0).1 in
+      let (r, hr, _, k) = listed_type f rs (rows_laid f b) sound (named x) (type_named rs es (passed7 f b sb w passed) x hx) in
+      (r, of_kind_lem t (kind s e) r (hr, k ∙ sym q))
 
   -- So has that of its parent.
   parent_in : (e : ℕ) → e < length s.ways → parent s e < length s.ways
-  parent_in zero le = omega (arith, ap (λ v. last_or 0 (up v)) (way-zero s (ways f b sb w passed) le))
+  parent_in zero le = omega (arith, ap (λ v. last_or 0 (up v)) (way_zero s (ways f b sb w passed) le))
   parent_in (suc e) le =
       omega (
         arith,
-        (parent-nearest f (types (rows f b)) (entries f sb) (kept-entries f b sb w passed) (suc e) (omega arith)
+        (parent_nearest f (types (rows f b)) (entries f sb) (kept_entries f b sb w passed) (suc e) (omega arith)
             (omega (arith, entries-size f b sb w passed))).0,
       )
 
-  pub parent-type-has-row : (e : ℕ) → e < length s.ways → (r : Node) × Has r (ofKind t (kind s (parent s e)))
-  parent-type-has-row e le = type-has-row (parent s e) (parent_in e le)
+  pub parent_type_has_row : (e : ℕ) → e < length s.ways → (r : Node) × Has r (of_kind t (kind s (parent s e)))
+  parent_type_has_row e le = type_has_row (parent s e) (parent_in e le)
 
 -- ---- what least numbers tell
 some-eqb : (n : ℕ) → eqb (suc n) 0 ≡ false
@@ -104,40 +104,40 @@ module _ {A : Type 0} (figure : A → ℕ) where
   some-least x (y ∷ ys) h = all-least y ys
 
 -- none is kept exactly where all fail the test
-pub kept-none : {A : Type 0} (p : A → Bool) (xs : List A) → is_empty (keep p xs) ≡ all (λ x. not (p x)) xs
-kept-none p [] = refl
-kept-none p (x ∷ xs) = go (p x) (kept-none p xs)
+pub kept_none : {A : Type 0} (p : A → Bool) (xs : List A) → is_empty (keep p xs) ≡ all (λ x. not (p x)) xs
+kept_none p [] = refl
+kept_none p (x ∷ xs) = go (p x) (kept_none p xs)
   where
-    go : (b : Bool) → is_empty (keep p xs) ≡ all (λ x. not (p x)) xs → is_empty (putIf b x (keep p xs)) ≡ not b && all (λ x. not (p x)) xs
+    go : (b : Bool) → is_empty (keep p xs) ≡ all (λ x. not (p x)) xs → is_empty (put_if b x (keep p xs)) ≡ not b && all (λ x. not (p x)) xs
     go true ih = refl
     go false ih = ih
 
 module _ (t : List Node) (s : Shape) (e : ℕ) where
   -- An edge is full exactly when its least number of children is not 0.
-  pub full-least : (r : Node) → Has r (ofKind t (kind s (parent s e))) → full t s e ≡ not (eqb (least (childNumbers t s e)) 0)
-  unfolding full childNumbers
-  full-least r h = some-least (closestNumber t (kind s e)) r (ofKind t (kind s (parent s e))) h
+  pub full_least : (r : Node) → Has r (of_kind t (kind s (parent s e))) → full t s e ≡ not (eqb (least (child_numbers t s e)) 0)
+  unfolding full child_numbers
+  full_least r h = some-least (closest_number t (kind s e)) r (of_kind t (kind s (parent s e))) h
 
   -- No row of an entry's type lacks a partner exactly when its least number of parents is not 0.
-  pub alone-least : (r : Node) → Has r (ofKind t (kind s e)) → is_empty (alone t s e) ≡ not (eqb (least (parentNumbers t s e)) 0)
-  unfolding alone parentNumbers
+  pub alone-least : (r : Node) → Has r (of_kind t (kind s e)) → is_empty (alone t s e) ≡ not (eqb (least (parent_numbers t s e)) 0)
+  unfolding alone parent_numbers
   alone-least r h =
-      kept-none (λ r. eqb (closestNumber t (kind s (parent s e)) r) 0) (ofKind t (kind s e))
-      ∙ some-least (closestNumber t (kind s (parent s e))) r (ofKind t (kind s e)) h
+      kept_none (λ r. eqb (closest_number t (kind s (parent s e)) r) 0) (of_kind t (kind s e))
+      ∙ some-least (closest_number t (kind s (parent s e))) r (of_kind t (kind s e)) h
 
 -- ---- the numbers of an edge
 module _ (t : List Node) (s : Shape) (e : ℕ) where
   -- Every parent row's number of children lies between the least and the greatest, and both are reached.
-  pub children-range : (r : Node) → Has r (ofKind t (kind s (parent s e)))
-      → Range (closestNumber t (kind s e)) (ofKind t (kind s (parent s e))) (least (childNumbers t s e)) (greatest (childNumbers t s e))
-  unfolding childNumbers
-  children-range = range (closestNumber t (kind s e)) (ofKind t (kind s (parent s e)))
+  pub children_range : (r : Node) → Has r (of_kind t (kind s (parent s e)))
+      → Range (closest_number t (kind s e)) (of_kind t (kind s (parent s e))) (least (child_numbers t s e)) (greatest (child_numbers t s e))
+  unfolding child_numbers
+  children_range = range (closest_number t (kind s e)) (of_kind t (kind s (parent s e)))
 
   -- So does every child row's number of parents.
-  pub parents-range : (r : Node) → Has r (ofKind t (kind s e))
-      → Range (closestNumber t (kind s (parent s e))) (ofKind t (kind s e)) (least (parentNumbers t s e)) (greatest (parentNumbers t s e))
-  unfolding parentNumbers
-  parents-range = range (closestNumber t (kind s (parent s e))) (ofKind t (kind s e))
+  pub parents_range : (r : Node) → Has r (of_kind t (kind s e))
+      → Range (closest_number t (kind s (parent s e))) (of_kind t (kind s e)) (least (parent_numbers t s e)) (greatest (parent_numbers t s e))
+  unfolding parent_numbers
+  parents_range = range (closest_number t (kind s (parent s e))) (of_kind t (kind s e))
 
 -- ---- verdict 1
 -- The first entry whose figure is 0 is the same by figures that are equal for each entry
@@ -154,14 +154,14 @@ module _ (t : List Node) (s : Shape) where
   told e rs = map (λ (r : Node). missing e r.place) rs
 
   -- Of the entries from i on, the first with a row that has no partner is named.
-  lone-from-lem : (others : List Verdict) (i n e : ℕ) → i ≤ e → e < i + n → is_empty (alone t s e) ≡ false
+  lone_from_lem : (others : List Verdict) (i n e : ℕ) → i ≤ e → e < i + n → is_empty (alone t s e) ≡ false
       → (g p : ℕ) × (i ≤ g) × (g ≤ e) × (is_empty (alone t s g) ≡ false)
-      × (first_or kept (joinMap (λ e. told e (alone t s e)) (count i n) ++ others) ≡ missing g p)
-  lone-from-lem others i zero e le lt some = let z : ⊥ = omega arith in absurd z
-  lone-from-lem others i (suc n) e le lt some = go (alone t s i) refl (λ l. lone-from-lem others (suc i) n e l (omega arith) some)
+      × (first_or kept (join_map (λ e. told e (alone t s e)) (count i n) ++ others) ≡ missing g p)
+  lone_from_lem others i zero e le lt some = let z : ⊥ = omega arith in absurd z
+  lone_from_lem others i (suc n) e le lt some = go (alone t s i) refl (λ l. lone_from_lem others (suc i) n e l (omega arith) some)
     where
       found : List Node → Verdict
-      found rs = first_or kept ((told i rs ++ joinMap (λ e. told e (alone t s e)) (count (suc i) n)) ++ others)
+      found rs = first_or kept ((told i rs ++ join_map (λ e. told e (alone t s e)) (count (suc i) n)) ++ others)
 
       Named : ℕ → Verdict → Type 0
       Named i v = (g p : ℕ) × (i ≤ g) × (g ≤ e) × (is_empty (alone t s g) ≡ false) × (v ≡ missing g p)
@@ -173,36 +173,36 @@ module _ (t : List Node) (s : Shape) where
           (g, p, omega (arith, ig), ge, sg, ap found q ∙ v)
       go (r ∷ rs) q ih = (i, r.place, omega arith, le, ap is_empty q, ap found q)
 
-  module _ (rowed : (e : ℕ) → e < length s.ways → (r : Node) × Has r (ofKind t (kind s e))) where
-    abbrev leastParent : ℕ → ℕ
-    leastParent e = least (parentNumbers t s e)
+  module _ (rowed : (e : ℕ) → e < length s.ways → (r : Node) × Has r (of_kind t (kind s e))) where
+    abbrev least_parent : ℕ → ℕ
+    least_parent e = least (parent_numbers t s e)
 
     -- some row has no partner exactly where the least number of parents is 0
-    alone-some : (e : ℕ) → e < length s.ways → leastParent e ≡ 0 → is_empty (alone t s e) ≡ false
-    alone-some e le z = let (r, h) = rowed e le in alone-least t s e r h ∙ ap not (eq-eqb (leastParent e) 0 z)
+    alone-some : (e : ℕ) → e < length s.ways → least_parent e ≡ 0 → is_empty (alone t s e) ≡ false
+    alone-some e le z = let (r, h) = rowed e le in alone-least t s e r h ∙ ap not (eq-eqb (least_parent e) 0 z)
 
-    some_alone : (e : ℕ) → e < length s.ways → is_empty (alone t s e) ≡ false → leastParent e ≡ 0
+    some_alone : (e : ℕ) → e < length s.ways → is_empty (alone t s e) ≡ false → least_parent e ≡ 0
     some_alone e le some =
         let (r, h) = rowed e le in
-        eqb-true (leastParent e) 0 (not-false (eqb (leastParent e) 0) (sym (alone-least t s e r h) ∙ some))
+        eqb-true (least_parent e) 0 (not-false (eqb (least_parent e) 0) (sym (alone-least t s e r h) ∙ some))
 
     -- where some entry has the least number 0, the first such entry is named
-    named_by : (e : ℕ) → 1 ≤ e → e < length s.ways → leastParent e ≡ 0
-        → (g p : ℕ) × (1 ≤ g) × (g ≤ e) × (leastParent g ≡ 0) × (verdict t s ≡ missing g p)
+    named_by : (e : ℕ) → 1 ≤ e → e < length s.ways → least_parent e ≡ 0
+        → (g p : ℕ) × (1 ≤ g) × (g ≤ e) × (least_parent g ≡ 0) × (verdict t s ≡ missing g p)
     unfolding verdict lone
     named_by e later inside z = go (length s.ways) refl
       where
-        go : (n : ℕ) → length s.ways ≡ n → (g p : ℕ) × (1 ≤ g) × (g ≤ e) × (leastParent g ≡ 0) × (verdict t s ≡ missing g p)
+        go : (n : ℕ) → length s.ways ≡ n → (g p : ℕ) × (1 ≤ g) × (g ≤ e) × (least_parent g ≡ 0) × (verdict t s ≡ missing g p)
         go zero q = let z : ⊥ = omega arith in absurd z
         go (suc n) q =
-            let others = overPairs (pairFault t s) (numbers s) in
-            let (g, p, lo, hi, some, v) = lone-from-lem others 1 n e later (omega arith) (alone-some e inside z) in
-            (g, p, lo, hi, some_alone g (omega arith) some, ap (λ n. first_or kept (joinMap (λ e. told e (alone t s e)) (drop 1 (count 0 n)) ++ others)) q ∙ v)
+            let others = over_pairs (pair_fault t s) (numbers s) in
+            let (g, p, lo, hi, some, v) = lone_from_lem others 1 n e later (omega arith) (alone-some e inside z) in
+            (g, p, lo, hi, some_alone g (omega arith) some, ap (λ n. first_or kept (join_map (λ e. told e (alone t s e)) (drop 1 (count 0 n)) ++ others)) q ∙ v)
 
     -- Verdict 1 names the first entry whose least number of parents is 0.
-    pub missing-first : (e p : ℕ) → verdict t s ≡ missing e p → FirstNone leastParent (length s.ways) e
-    missing-first e p v =
-        let (later, inside, r, hr, _) = missing-alone s t e p v in
+    pub missing_first : (e p : ℕ) → verdict t s ≡ missing e p → FirstNone least_parent (length s.ways) e
+    missing_first e p v =
+        let (later, inside, r, hr, _) = missing_alone s t e p v in
         record {
           later = later;
           inside = inside;
@@ -215,8 +215,8 @@ module _ (t : List Node) (s : Shape) where
         }
 
     -- Where there is such an entry, the verdict is 1 and names it.
-    pub first-missing : (e : ℕ) → FirstNone leastParent (length s.ways) e → (p : ℕ) × (verdict t s ≡ missing e p)
-    first-missing e first =
+    pub first_missing : (e : ℕ) → FirstNone least_parent (length s.ways) e → (p : ℕ) × (verdict t s ≡ missing e p)
+    first_missing e first =
         let (g, p, lo, le, z, v) = named_by e first.later first.inside first.none in
         let same : g ≡ e = ⊎_elim (λ q. q) (λ lt. absurd (first.before g lo lt z)) (eq-or-lt_of_le le) in
         (p, subst (λ c. verdict t s ≡ missing c p) same v)

@@ -10,15 +10,15 @@ use lib.Dec.{eqb, leb}
 use lib.ListN.{length, take, drop, length-append}
 use lib.Seq.{take-append-add}
 use borrow.Author.Tests.{eqb-true, leb-true, not-true}
-use Rattle.paper.specs.Lists.{Has, all, any, is_empty, first_or, last_or, joinMap, same, up, count}
-use Rattle.paper.specs.Closeness.{Node, ofKind, kindsMeet, closestOf, closestNumber}
+use Rattle.paper.specs.Lists.{Has, all, any, is_empty, first_or, last_or, join_map, same, up, count}
+use Rattle.paper.specs.Closeness.{Node, of_kind, kinds_meet, closest_of, closest_number}
 use Rattle.paper.specs.Shapes.{Shape, numbers, kind, way, parent, children}
-use Rattle.paper.specs.Verdict.{Verdict, kept, missing, apart, unsure, isApart, overPairs}
-use Rattle.paper.specs.Verdict.{meeting, alone, full, edgeLevel, sureDown, meetsLeast, sure, lone, pairFault, verdict, noneApart}
-use Rattle.paper.proofs.Lists.{both, either, same-eq, eq-same, keep-has, has-keep, all-has, has-any, has_left, has_right, has-append, has-map, map-has}
-use Rattle.paper.proofs.Lists.{has_join, join-has, some_in, last_snoc, up-snoc, snoc-inj, has-count, count-has}
+use Rattle.paper.specs.Verdict.{Verdict, kept, missing, apart, unsure, is_apart, over_pairs}
+use Rattle.paper.specs.Verdict.{meeting, alone, full, edge_level, sure_down, meets_least, sure, lone, pair_fault, verdict, none_apart}
+use Rattle.paper.proofs.Lists.{both, either, same_eq, eq_same, keep-has, has-keep, all-has, has_any, has_left, has_right, has_append, has-map, map-has}
+use Rattle.paper.proofs.Lists.{has_join, join-has, some_in, last_snoc, up_snoc, snoc_inj, has-count, count-has}
 use Rattle.paper.proofs.Agree.{Agree}
-use Rattle.paper.proofs.Closeness.{Of, Near, near-sym, kind-of, of-kind-lem, closestOf-near, closest-none}
+use Rattle.paper.proofs.Closeness.{Of, Near, near_sym, kind_of, of_kind_lem, closest_of_near, closest-none}
 use Rattle.paper.proofs.Chains.{AtLeast, Partnered, Full, Sure}
 use Rattle.paper.proofs.Shapes.{Ways}
 
@@ -39,47 +39,47 @@ module _ (s : Shape) (w : Ways s) where
           let (d, ld, ed) = w.cut f lf k (omega arith) (omega (arith, ap length e, length-append (way s g) (c ∷ cs))) in
           let q : way s d ≡ way s g ++ (c ∷ []) = ed ∙ ap (take k) e ∙ take-append-add (way s g) (c ∷ cs) 1 in
           let (u, eu) = w.own d ld in
-          let dc : d ≡ c = (snoc-inj u (way s g) d c (sym eu ∙ q)).1 in
+          let dc : d ≡ c = (snoc_inj u (way s g) d c (sym eu ∙ q)).1 in
           (subst (λ z. z < length s.ways) dc ld, subst (λ z. way s z ≡ way s g ++ (c ∷ [])) dc q)
 
-  pub last-way : (e : ℕ) → e < length s.ways → last_or 0 (way s e) ≡ e
-  last-way e le = let (u, q) = w.own e le in ap (last_or 0) q ∙ last_snoc 0 u e
+  pub last_way : (e : ℕ) → e < length s.ways → last_or 0 (way s e) ≡ e
+  last_way e le = let (u, q) = w.own e le in ap (last_or 0) q ∙ last_snoc 0 u e
 
-  pub way-one : (e f : ℕ) → e < length s.ways → f < length s.ways → way s e ≡ way s f → e ≡ f
-  way-one e f le lf q = sym (last-way e le) ∙ ap (last_or 0) q ∙ last-way f lf
+  pub way_one : (e f : ℕ) → e < length s.ways → f < length s.ways → way s e ≡ way s f → e ≡ f
+  way_one e f le lf q = sym (last_way e le) ∙ ap (last_or 0) q ∙ last_way f lf
 
-  pub way-pos : (e : ℕ) → e < length s.ways → 0 < length (way s e)
-  way-pos e le = let (u, q) = w.own e le in omega (arith, ap length q, length-append u (e ∷ []))
+  pub way_pos : (e : ℕ) → e < length s.ways → 0 < length (way s e)
+  way_pos e le = let (u, q) = w.own e le in omega (arith, ap length q, length-append u (e ∷ []))
 
   -- entry 0 stands alone on its way
-  pub way-zero : 0 < length s.ways → way s 0 ≡ 0 ∷ []
-  way-zero pos =
+  pub way_zero : 0 < length s.ways → way s 0 ≡ 0 ∷ []
+  way_zero pos =
       let (v, e) = w.root 0 pos in
-      let (g, lg, q) = w.cut 0 pos 1 (omega arith) (way-pos 0 pos) in
+      let (g, lg, q) = w.cut 0 pos 1 (omega arith) (way_pos 0 pos) in
       let r : way s g ≡ 0 ∷ [] = q ∙ ap (take 1) e in
-      let z : 0 ≡ g = sym (ap (last_or 0) r) ∙ last-way g lg in
+      let z : 0 ≡ g = sym (ap (last_or 0) r) ∙ last_way g lg in
       subst (λ x. way s x ≡ 0 ∷ []) (sym z) r
 
   -- children
-  pub child-parent : (g c : ℕ) → g < length s.ways → way s c ≡ way s g ++ (c ∷ []) → parent s c ≡ g
-  child-parent g c lg e = ap (last_or 0) (ap up e ∙ up-snoc (way s g) c) ∙ last-way g lg
+  pub child_parent : (g c : ℕ) → g < length s.ways → way s c ≡ way s g ++ (c ∷ []) → parent s c ≡ g
+  child_parent g c lg e = ap (last_or 0) (ap up e ∙ up_snoc (way s g) c) ∙ last_way g lg
 
-  pub child-listed : (g c : ℕ) → c < length s.ways → way s c ≡ way s g ++ (c ∷ []) → Has c (children s g)
-  child-listed g c lc e =
+  pub child_listed : (g c : ℕ) → c < length s.ways → way s c ≡ way s g ++ (c ∷ []) → Has c (children s g)
+  child_listed g c lc e =
       has-keep (λ c. same (up (way s c)) (way s g)) c (numbers s) (has-count 0 (length s.ways) c (omega arith) (omega arith))
-      (eq-same (ap up e ∙ up-snoc (way s g) c))
+      (eq_same (ap up e ∙ up_snoc (way s g) c))
 
-  pub listed-child : (g c : ℕ) → Has c (children s g) → (c < length s.ways) × (way s c ≡ way s g ++ (c ∷ []))
-  listed-child g c h =
+  pub listed_child : (g c : ℕ) → Has c (children s g) → (c < length s.ways) × (way s c ≡ way s g ++ (c ∷ []))
+  listed_child g c h =
       let (i, t) = keep-has (λ c. same (up (way s c)) (way s g)) c (numbers s) h in
       let lc : c < length s.ways = omega (arith, (count-has 0 (length s.ways) c i).1) in
       let (u, q) = w.own c lc in
-      (lc, q ∙ ap (λ z. z ++ (c ∷ [])) (sym (up-snoc u c) ∙ sym (ap up q) ∙ same-eq (up (way s c)) (way s g) t))
+      (lc, q ∙ ap (λ z. z ++ (c ∷ [])) (sym (up_snoc u c) ∙ sym (ap up q) ∙ same_eq (up (way s c)) (way s g) t))
 
-  pub child-pos : (g c : ℕ) → g < length s.ways → c < length s.ways → way s c ≡ way s g ++ (c ∷ []) → 0 < c
-  child-pos g zero lg lc e =
-      let z : ⊥ = omega (arith, ap length (way-zero lc), ap length e, length-append (way s g) (0 ∷ []), way-pos g lg) in absurd z
-  child-pos g (suc c) lg lc e = omega arith
+  pub child_pos : (g c : ℕ) → g < length s.ways → c < length s.ways → way s c ≡ way s g ++ (c ∷ []) → 0 < c
+  child_pos g zero lg lc e =
+      let z : ⊥ = omega (arith, ap length (way_zero lc), ap length e, length-append (way s g) (0 ∷ []), way_pos g lg) in absurd z
+  child_pos g (suc c) lg lc e = omega arith
 
   module _ (t : List Node) where
     -- ---- the notions that the chains are over
@@ -87,39 +87,39 @@ module _ (s : Shape) (w : Ways s) where
     In e r = Of t (kind s e) r
 
     abbrev pub L : ℕ → ℕ → ℕ
-    L e f = kindsMeet t (kind s e) (kind s f)
+    L e f = kinds_meet t (kind s e) (kind s f)
 
     abbrev pub ag : ℕ → Node → Node → Type 0
     ag k r x = Agree k r.dewey x.dewey
 
     -- ---- the tests
-    pub edge-level-lem : (g c : ℕ) → g < length s.ways → way s c ≡ way s g ++ (c ∷ []) → edgeLevel t s c ≡ L g c
-    unfolding edgeLevel meeting
-    edge-level-lem g c lg e = ap (λ p. L p c) (child-parent g c lg e)
+    pub edge_level_lem : (g c : ℕ) → g < length s.ways → way s c ≡ way s g ++ (c ∷ []) → edge_level t s c ≡ L g c
+    unfolding edge_level meeting
+    edge_level_lem g c lg e = ap (λ p. L p c) (child_parent g c lg e)
 
-    pub at_least : (m g : ℕ) (cs : List ℕ) → g < length s.ways → Inside g cs → all (leb m) (map (edgeLevel t s) cs) ≡ true → AtLeast In L ag m g cs
+    pub at_least : (m g : ℕ) (cs : List ℕ) → g < length s.ways → Inside g cs → all (leb m) (map (edge_level t s) cs) ≡ true → AtLeast In L ag m g cs
     at_least m g [] lg io a = tt
     at_least m g (c ∷ cs) lg io a =
-        let h = both (leb m (edgeLevel t s c)) (all (leb m) (map (edgeLevel t s) cs)) a in
-        (omega (arith, leb-true m (edgeLevel t s c) h.0, edge-level-lem g c lg io.1), at_least m c cs io.0 io.2 h.1)
+        let h = both (leb m (edge_level t s c)) (all (leb m) (map (edge_level t s) cs)) a in
+        (omega (arith, leb-true m (edge_level t s c) h.0, edge_level_lem g c lg io.1), at_least m c cs io.0 io.2 h.1)
 
     -- from the test: every row of g's type has a closest one of c's
-    full-edge : (g c : ℕ) → g < length s.ways → way s c ≡ way s g ++ (c ∷ []) → full t s c ≡ true → Full In L ag g c
+    full_edge : (g c : ℕ) → g < length s.ways → way s c ≡ way s g ++ (c ∷ []) → full t s c ≡ true → Full In L ag g c
     unfolding full
-    full-edge g c lg e h r o =
-        let p : parent s c ≡ g = child-parent g c lg e in
-        let a = all-has (λ r. not (eqb (closestNumber t (kind s c) r) 0)) r (ofKind t (kind s (parent s c))) h
-        (of-kind-lem t (kind s (parent s c)) r (subst (λ z. Of t (kind s z) r) (sym p) o)) in
-        let (x, hx) = some_in (closestOf t r (kind s c)) (sym (closest-none t (kind s c) r) ∙ not-true (eqb (closestNumber t (kind s c) r) 0) a) in
-        let (ox, n) = closestOf-near t (kind s g) (kind s c) r x o.1 hx in
+    full_edge g c lg e h r o =
+        let p : parent s c ≡ g = child_parent g c lg e in
+        let a = all-has (λ r. not (eqb (closest_number t (kind s c) r) 0)) r (of_kind t (kind s (parent s c))) h
+        (of_kind_lem t (kind s (parent s c)) r (subst (λ z. Of t (kind s z) r) (sym p) o)) in
+        let (x, hx) = some_in (closest_of t r (kind s c)) (sym (closest-none t (kind s c) r) ∙ not-true (eqb (closest_number t (kind s c) r) 0) a) in
+        let (ox, n) = closest_of_near t (kind s g) (kind s c) r x o.1 hx in
         (x, ox, n)
 
-    pub sure-down-lem : (m g : ℕ) (cs : List ℕ) → g < length s.ways → Inside g cs → sureDown t s m cs ≡ true → Sure In L ag m g cs
-    sure-down-lem m g [] lg io h = false≢true h
-    sure-down-lem m g (c ∷ cs) lg io h =
-        ⊎_elim (λ a. inl (sym (edge-level-lem g c lg io.1) ∙ eqb-true (edgeLevel t s c) m a))
-        (λ b. let d = both (full t s c) (sureDown t s m cs) b in inr (full-edge g c lg io.1 d.0, sure-down-lem m c cs io.0 io.2 d.1))
-        (either (eqb (edgeLevel t s c) m) (full t s c && sureDown t s m cs) h)
+    pub sure_down_lem : (m g : ℕ) (cs : List ℕ) → g < length s.ways → Inside g cs → sure_down t s m cs ≡ true → Sure In L ag m g cs
+    sure_down_lem m g [] lg io h = false≢true h
+    sure_down_lem m g (c ∷ cs) lg io h =
+        ⊎_elim (λ a. inl (sym (edge_level_lem g c lg io.1) ∙ eqb-true (edge_level t s c) m a))
+        (λ b. let d = both (full t s c) (sure_down t s m cs) b in inr (full_edge g c lg io.1 d.0, sure_down_lem m c cs io.0 io.2 d.1))
+        (either (eqb (edge_level t s c) m) (full t s c && sure_down t s m cs) h)
 
     -- no row of an entry's type lacks a partner
     abbrev pub NoneAlone : Type 0
@@ -128,19 +128,19 @@ module _ (s : Shape) (w : Ways s) where
     partner : NoneAlone → (g c : ℕ) → g < length s.ways → c < length s.ways → way s c ≡ way s g ++ (c ∷ [])
         → (r : Node) → In c r → (q : Node) × In g q × Near t (kind s g) (kind s c) q r
     unfolding alone
-    partner no-alone g c lg lc e r o = go (eqb (closestNumber t (kind s (parent s c)) r) 0) refl
+    partner no-alone g c lg lc e r o = go (eqb (closest_number t (kind s (parent s c)) r) 0) refl
       where
         p : parent s c ≡ g
-        p = child-parent g c lg e
+        p = child_parent g c lg e
 
-        go : (b : Bool) → eqb (closestNumber t (kind s (parent s c)) r) 0 ≡ b → (q : Node) × In g q × Near t (kind s g) (kind s c) q r
+        go : (b : Bool) → eqb (closest_number t (kind s (parent s c)) r) 0 ≡ b → (q : Node) × In g q × Near t (kind s g) (kind s c) q r
         go true z =
-            absurd (no-alone c (child-pos g c lg lc e) lc r
-            (has-keep (λ r. eqb (closestNumber t (kind s (parent s c)) r) 0) r (ofKind t (kind s c)) (of-kind-lem t (kind s c) r o) z))
+            absurd (no-alone c (child_pos g c lg lc e) lc r
+            (has-keep (λ r. eqb (closest_number t (kind s (parent s c)) r) 0) r (of_kind t (kind s c)) (of_kind_lem t (kind s c) r o) z))
         go false z =
-            let (q, hq) = some_in (closestOf t r (kind s (parent s c))) (sym (closest-none t (kind s (parent s c)) r) ∙ z) in
-            let (oq, n) = closestOf-near t (kind s c) (kind s (parent s c)) r q o.1 hq in
-            (q, subst (λ x. In x q) p oq, near-sym t (kind s c) (kind s g) r q (subst (λ x. Near t (kind s c) (kind s x) r q) p n))
+            let (q, hq) = some_in (closest_of t r (kind s (parent s c))) (sym (closest-none t (kind s (parent s c)) r) ∙ z) in
+            let (oq, n) = closest_of_near t (kind s c) (kind s (parent s c)) r q o.1 hq in
+            (q, subst (λ x. In x q) p oq, near_sym t (kind s c) (kind s g) r q (subst (λ x. Near t (kind s c) (kind s x) r q) p n))
 
     pub partnered : NoneAlone → (g : ℕ) (cs : List ℕ) → g < length s.ways → Inside g cs → Partnered In L ag g cs
     partnered no-alone g [] lg io = tt
@@ -156,38 +156,38 @@ first-none : (xs : List Verdict) → ((x : Verdict) → Has x xs → x ≡ kept 
 first-none [] no-kept e x h = h
 first-none (y ∷ xs) no-kept e x h = no-kept y (inl refl) e
 
-not-missing : (e r : ℕ) → missing e r ≡ kept → ⊥
-not-missing e r h = let z : ◌≡◌ {A = ℕ} 0 1 = cc in omega arith
+not_missing : (e r : ℕ) → missing e r ≡ kept → ⊥
+not_missing e r h = let z : ◌≡◌ {A = ℕ} 0 1 = cc in omega arith
 
-not-apart : (e f : ℕ) → apart e f ≡ kept → ⊥
-not-apart e f h = let z : ◌≡◌ {A = ℕ} 0 1 = cc in omega arith
+not_apart : (e f : ℕ) → apart e f ≡ kept → ⊥
+not_apart e f h = let z : ◌≡◌ {A = ℕ} 0 1 = cc in omega arith
 
-not-unsure : (e f : ℕ) → unsure e f ≡ kept → ⊥
-not-unsure e f h = let z : ◌≡◌ {A = ℕ} 0 1 = cc in omega arith
+not_unsure : (e f : ℕ) → unsure e f ≡ kept → ⊥
+not_unsure e f h = let z : ◌≡◌ {A = ℕ} 0 1 = cc in omega arith
 
-overPairs-has : (g : ℕ → ℕ → List Verdict) (x : Verdict) (es : List ℕ) → Has x (overPairs g es) → (e f : ℕ) × Has x (g e f)
-overPairs-has g x [] h = absurd h
-overPairs-has g x (e ∷ es) h =
-    ⊎_elim (λ i. let r = join-has (g e) x es i in (e, r.0, r.2)) (overPairs-has g x es) (has-append x (joinMap (g e) es) (overPairs g es) h)
+over_pairs-has : (g : ℕ → ℕ → List Verdict) (x : Verdict) (es : List ℕ) → Has x (over_pairs g es) → (e f : ℕ) × Has x (g e f)
+over_pairs-has g x [] h = absurd h
+over_pairs-has g x (e ∷ es) h =
+    ⊎_elim (λ i. let r = join-has (g e) x es i in (e, r.0, r.2)) (over_pairs-has g x es) (has_append x (join_map (g e) es) (over_pairs g es) h)
 
-has-overPairs : (g : ℕ → ℕ → List Verdict) (x : Verdict) (i n e f : ℕ) → i ≤ e → e < f → f < i + n → Has x (g e f) → Has x (overPairs g (count i n))
-has-overPairs g x i zero e f ie ef fn h = let z : ⊥ = omega arith in absurd z
-has-overPairs g x i (suc n) e f ie ef fn h = go (leb e i) refl (λ l. has-overPairs g x (suc i) n e f l ef (omega arith) h)
+has-over_pairs : (g : ℕ → ℕ → List Verdict) (x : Verdict) (i n e f : ℕ) → i ≤ e → e < f → f < i + n → Has x (g e f) → Has x (over_pairs g (count i n))
+has-over_pairs g x i zero e f ie ef fn h = let z : ⊥ = omega arith in absurd z
+has-over_pairs g x i (suc n) e f ie ef fn h = go (leb e i) refl (λ l. has-over_pairs g x (suc i) n e f l ef (omega arith) h)
   where
-    go : (b : Bool) → leb e i ≡ b → (suc i ≤ e → Has x (overPairs g (count (suc i) n))) → Has x (overPairs g (count i (suc n)))
+    go : (b : Bool) → leb e i ≡ b → (suc i ≤ e → Has x (over_pairs g (count (suc i) n))) → Has x (over_pairs g (count i (suc n)))
     go true q ih =
         let ei : e ≡ i = omega (arith, leb-true e i q) in
-        has_left x (joinMap (g i) (count (suc i) n)) (overPairs g (count (suc i) n))
+        has_left x (join_map (g i) (count (suc i) n)) (over_pairs g (count (suc i) n))
         (has_join (g i) f x (count (suc i) n) (has-count (suc i) n f (omega arith) (omega arith)) (subst (λ z. Has x (g z f)) ei h))
-    go false q ih = has_right x (joinMap (g i) (count (suc i) n)) (overPairs g (count (suc i) n)) (ih (borrow.Author.Tests.leb-false e i q))
+    go false q ih = has_right x (join_map (g i) (count (suc i) n)) (over_pairs g (count (suc i) n)) (ih (borrow.Author.Tests.leb-false e i q))
 
 module _ (s : Shape) (t : List Node) where
   -- a row without a partner is one of the entry's type, and no row of the parent entry's type is closest to it
-  pub alone-of-lem : (e : ℕ) (r : Node) → Has r (alone t s e) → Of t (kind s e) r × (is_empty (closestOf t r (kind s (parent s e))) ≡ true)
+  pub alone_of_lem : (e : ℕ) (r : Node) → Has r (alone t s e) → Of t (kind s e) r × (is_empty (closest_of t r (kind s (parent s e))) ≡ true)
   unfolding alone
-  alone-of-lem e r h =
-      let (hr, empty) = keep-has (λ r. eqb (closestNumber t (kind s (parent s e)) r) 0) r (ofKind t (kind s e)) h in
-      (kind-of t (kind s e) r hr, sym (closest-none t (kind s (parent s e)) r) ∙ empty)
+  alone_of_lem e r h =
+      let (hr, empty) = keep-has (λ r. eqb (closest_number t (kind s (parent s e)) r) 0) r (of_kind t (kind s e)) h in
+      (kind_of t (kind s e) r hr, sym (closest-none t (kind s (parent s e)) r) ∙ empty)
 
   -- what earns a 1, and what earns a 2 or a 3
   lone-has : (x : Verdict) → Has x (lone t s) → (e : ℕ) × (0 < e) × (e < length s.ways) × (r : Node) × Has r (alone t s e) × (x ≡ missing e r.place)
@@ -212,9 +212,9 @@ module _ (s : Shape) (t : List Node) where
       later zero l = absurd (not-suc-le-zero l)
       later (suc n) l = has-count 1 n e pos (omega arith)
 
-  fault-has : (x : Verdict) (e f : ℕ) → Has x (pairFault t s e f) → (x ≡ apart e f) ⊎ (x ≡ unsure e f)
-  unfolding pairFault
-  fault-has x e f h = go (meetsLeast t s e f) (sure t s e f) h
+  fault-has : (x : Verdict) (e f : ℕ) → Has x (pair_fault t s e f) → (x ≡ apart e f) ⊎ (x ≡ unsure e f)
+  unfolding pair_fault
+  fault-has x e f h = go (meets_least t s e f) (sure t s e f) h
     where
       go : (a b : Bool) → Has x (elim a [ false ↦ apart e f ∷ [] | true ↦ elim b [ true ↦ [] | false ↦ unsure e f ∷ [] ] ])
           → (x ≡ apart e f) ⊎ (x ≡ unsure e f)
@@ -224,9 +224,9 @@ module _ (s : Shape) (t : List Node) where
       go false b (inl q) = inl q
       go false b (inr h) = absurd h
 
-  pair-fault-lem : (e f : ℕ) → ((x : Verdict) → Has x (pairFault t s e f) → ⊥) → (meetsLeast t s e f ≡ true) × (sure t s e f ≡ true)
-  unfolding pairFault
-  pair-fault-lem e f none = go (meetsLeast t s e f) (sure t s e f) none
+  pair_fault_lem : (e f : ℕ) → ((x : Verdict) → Has x (pair_fault t s e f) → ⊥) → (meets_least t s e f ≡ true) × (sure t s e f ≡ true)
+  unfolding pair_fault
+  pair_fault_lem e f none = go (meets_least t s e f) (sure t s e f) none
     where
       go : (a b : Bool) → ((x : Verdict) → Has x (elim a [ false ↦ apart e f ∷ [] | true ↦ elim b [ true ↦ [] | false ↦ unsure e f ∷ [] ] ]) → ⊥)
           → (a ≡ true) × (b ≡ true)
@@ -235,13 +235,13 @@ module _ (s : Shape) (t : List Node) where
       go false b none = absurd (none (apart e f) (inl refl))
 
   -- what a pair earns is one of what the pairs earn
-  pairs-has : (x : Verdict) (e f : ℕ) → e < f → f < length s.ways → Has x (pairFault t s e f) → Has x (overPairs (pairFault t s) (numbers s))
-  pairs-has x e f ef lf = has-overPairs (pairFault t s) x 0 (length s.ways) e f (omega arith) ef (omega arith)
+  pairs-has : (x : Verdict) (e f : ℕ) → e < f → f < length s.ways → Has x (pair_fault t s e f) → Has x (over_pairs (pair_fault t s) (numbers s))
+  pairs-has x e f ef lf = has-over_pairs (pair_fault t s) x 0 (length s.ways) e f (omega arith) ef (omega arith)
 
   -- a pair that earns no 2 meets at the least level on its path
-  pair-least : (e f : ℕ) → (Has (apart e f) (pairFault t s e f) → ⊥) → meetsLeast t s e f ≡ true
-  unfolding pairFault
-  pair-least e f none = go (meetsLeast t s e f) none
+  pair_least : (e f : ℕ) → (Has (apart e f) (pair_fault t s e f) → ⊥) → meets_least t s e f ≡ true
+  unfolding pair_fault
+  pair_least e f none = go (meets_least t s e f) none
     where
       go : (a : Bool) → (Has (apart e f) (elim a [ false ↦ apart e f ∷ [] | true ↦ elim (sure t s e f) [ true ↦ [] | false ↦ unsure e f ∷ [] ] ]) → ⊥)
           → a ≡ true
@@ -249,43 +249,43 @@ module _ (s : Shape) (t : List Node) where
       go false none = absurd (none (inl refl))
 
   -- The second answer is yes: each pair meets so.
-  pub none-apart-lem : noneApart t s ≡ true → (e f : ℕ) → e < f → f < length s.ways → meetsLeast t s e f ≡ true
-  unfolding noneApart
-  none-apart-lem ok e f ef lf =
-      let pairs = overPairs (pairFault t s) (numbers s) in
-      pair-least e f (λ h. false≢true (sym (not-true (any isApart pairs) ok) ∙ has-any isApart (apart e f) pairs (pairs-has (apart e f) e f ef lf h) refl))
+  pub none_apart_lem : none_apart t s ≡ true → (e f : ℕ) → e < f → f < length s.ways → meets_least t s e f ≡ true
+  unfolding none_apart
+  none_apart_lem ok e f ef lf =
+      let pairs = over_pairs (pair_fault t s) (numbers s) in
+      pair_least e f (λ h. false≢true (sym (not-true (any is_apart pairs) ok) ∙ has_any is_apart (apart e f) pairs (pairs-has (apart e f) e f ef lf h) refl))
 
-  none_kept : (x : Verdict) → Has x (lone t s ++ overPairs (pairFault t s) (numbers s)) → x ≡ kept → ⊥
+  none_kept : (x : Verdict) → Has x (lone t s ++ over_pairs (pair_fault t s) (numbers s)) → x ≡ kept → ⊥
   none_kept x h e =
-      ⊎_elim (λ i. let (c, lo, hi, r, hr, q) = lone-has x i in not-missing c r.place (sym q ∙ e))
-      (λ i. let (a, b, j) = overPairs-has (pairFault t s) x (numbers s) i in
-      ⊎_elim (λ q. not-apart a b (sym q ∙ e)) (λ q. not-unsure a b (sym q ∙ e)) (fault-has x a b j))
-      (has-append x (lone t s) (overPairs (pairFault t s) (numbers s)) h)
+      ⊎_elim (λ i. let (c, lo, hi, r, hr, q) = lone-has x i in not_missing c r.place (sym q ∙ e))
+      (λ i. let (a, b, j) = over_pairs-has (pair_fault t s) x (numbers s) i in
+      ⊎_elim (λ q. not_apart a b (sym q ∙ e)) (λ q. not_unsure a b (sym q ∙ e)) (fault-has x a b j))
+      (has_append x (lone t s) (over_pairs (pair_fault t s) (numbers s)) h)
 
   module _ (ok : verdict t s ≡ kept) where
-    none : (x : Verdict) → Has x (lone t s ++ overPairs (pairFault t s) (numbers s)) → ⊥
+    none : (x : Verdict) → Has x (lone t s ++ over_pairs (pair_fault t s) (numbers s)) → ⊥
     unfolding verdict
-    none = first-none (lone t s ++ overPairs (pairFault t s) (numbers s)) none_kept ok
+    none = first-none (lone t s ++ over_pairs (pair_fault t s) (numbers s)) none_kept ok
 
     -- Verdict 0: no row lacks a partner, and no pair earns a 2 or a 3.
-    pub kept-alone : (c : ℕ) → 0 < c → c < length s.ways → (r : Node) → Has r (alone t s c) → ⊥
-    kept-alone c pos lt r h =
-        none (missing c r.place) (has_left (missing c r.place) (lone t s) (overPairs (pairFault t s) (numbers s)) (has-lone c r pos lt h))
+    pub kept_alone : (c : ℕ) → 0 < c → c < length s.ways → (r : Node) → Has r (alone t s c) → ⊥
+    kept_alone c pos lt r h =
+        none (missing c r.place) (has_left (missing c r.place) (lone t s) (over_pairs (pair_fault t s) (numbers s)) (has-lone c r pos lt h))
 
-    pub kept-pairs : (e f : ℕ) → e < f → f < length s.ways → (meetsLeast t s e f ≡ true) × (sure t s e f ≡ true)
-    kept-pairs e f ef lf =
-        pair-fault-lem e f (λ x h. none x (has_right x (lone t s) (overPairs (pairFault t s) (numbers s)) (pairs-has x e f ef lf h)))
+    pub kept_pairs : (e f : ℕ) → e < f → f < length s.ways → (meets_least t s e f ≡ true) × (sure t s e f ≡ true)
+    kept_pairs e f ef lf =
+        pair_fault_lem e f (λ x h. none x (has_right x (lone t s) (over_pairs (pair_fault t s) (numbers s)) (pairs-has x e f ef lf h)))
 
   -- Verdict 1 names an entry but the first, and a row of its type that has no partner.
-  pub missing-alone : (e p : ℕ) → verdict t s ≡ missing e p → (0 < e) × (e < length s.ways) × (r : Node) × Has r (alone t s e) × (r.place ≡ p)
+  pub missing_alone : (e p : ℕ) → verdict t s ≡ missing e p → (0 < e) × (e < length s.ways) × (r : Node) × Has r (alone t s e) × (r.place ≡ p)
   unfolding verdict
-  missing-alone e p v =
+  missing_alone e p v =
       ⊎_elim (λ i. let (c, lo, hi, r, hr, q) = lone-has (missing e p) i in named c lo hi r hr q)
-      (λ i. let (a, b, j) = overPairs-has (pairFault t s) (missing e p) (numbers s) i in
+      (λ i. let (a, b, j) = over_pairs-has (pair_fault t s) (missing e p) (numbers s) i in
       ⊎_elim (λ q. let z : ◌≡◌ {A = ℕ} 0 1 = cc in let y : ⊥ = omega arith in absurd y)
       (λ q. let z : ◌≡◌ {A = ℕ} 0 1 = cc in let y : ⊥ = omega arith in absurd y) (fault-has (missing e p) a b j))
-      (has-append (missing e p) (lone t s) (overPairs (pairFault t s) (numbers s))
-      (first-has (missing e p) (lone t s ++ overPairs (pairFault t s) (numbers s)) v (not-missing e p)))
+      (has_append (missing e p) (lone t s) (over_pairs (pair_fault t s) (numbers s))
+      (first-has (missing e p) (lone t s ++ over_pairs (pair_fault t s) (numbers s)) v (not_missing e p)))
     where
       named : (c : ℕ) → 0 < c → c < length s.ways → (r : Node) → Has r (alone t s c) → missing e p ≡ missing c r.place
           → (0 < e) × (e < length s.ways) × (r : Node) × Has r (alone t s e) × (r.place ≡ p)

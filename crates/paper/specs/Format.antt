@@ -18,37 +18,37 @@ unfoldable pub eight : Format
 eight = format 8 99
 
 -- ---- limits
-abbrev pub mostRows : ℕ
-mostRows = 1024
+abbrev pub most_rows : ℕ
+most_rows = 1024
 
-abbrev pub mostTypes : ℕ
-mostTypes = 64
+abbrev pub most_types : ℕ
+most_types = 64
 
-abbrev pub mostEntries : ℕ
-mostEntries = 16
+abbrev pub most_entries : ℕ
+most_entries = 16
 
-abbrev pub mostLines : ℕ
-mostLines = 4096
+abbrev pub most_lines : ℕ
+most_lines = 4096
 
 -- ---- lengths in bytes
 -- what stands before the components of a row, or the labels of an entry
-abbrev pub headBytes : ℕ
-headBytes = 4
+abbrev pub head_bytes : ℕ
+head_bytes = 4
 
 -- a 16-bit number for each level (12 bytes on six levels, 16 on eight)
-abbrev pub listBytes : Format → ℕ
-listBytes f = 2 * f.levels
+abbrev pub list_bytes : Format → ℕ
+list_bytes f = 2 * f.levels
 
-abbrev pub valueBytes : ℕ
-valueBytes = 8
+abbrev pub value_bytes : ℕ
+value_bytes = 8
 
 -- a record of a table (24 bytes on six levels, 28 on eight)
-abbrev pub rowBytes : Format → ℕ
-rowBytes f = headBytes + listBytes f + valueBytes
+abbrev pub row_bytes : Format → ℕ
+row_bytes f = head_bytes + list_bytes f + value_bytes
 
 -- a record of a shape (16 bytes on six levels, 20 on eight)
-abbrev pub entryBytes : Format → ℕ
-entryBytes f = headBytes + listBytes f
+abbrev pub entry_bytes : Format → ℕ
+entry_bytes f = head_bytes + list_bytes f
 
 -- ---- reading; numbers are little-endian
 -- the values of a byte

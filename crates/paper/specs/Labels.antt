@@ -2,19 +2,19 @@
 -- labels to that of a format. Assumes nothing.
 use Rattle.std.specs.Prelude.{ℕ, suc, ◌+◌, ◌*◌, Bool, true, false, not, ◌&&◌, ◌||◌, List, [], ◌∷◌, ◌++◌, map, eqb, ltb, length, take, drop}
 use Rattle.std.proofs.Math.Option.{Option, none, some}
-use Rattle.paper.specs.Lists.{any, joinMap, firstPlace, between}
-use Rattle.paper.specs.Format.{Format, format, headBytes, rowBytes, entryBytes, words, records, whole, bytes}
+use Rattle.paper.specs.Lists.{any, join_map, first_place, between}
+use Rattle.paper.specs.Format.{Format, format, head_bytes, row_bytes, entry_bytes, words, records, whole, bytes}
 use Rattle.paper.specs.Tables.{Row}
 use Rattle.paper.specs.Shapes.{Entry, named}
-use Rattle.paper.specs.Calls.{Answer, given, ◌>>=◌, refuse, refuseAt, Reply, reply, after, tests1-3, tests5-6}
+use Rattle.paper.specs.Calls.{Answer, given, ◌>>=◌, refuse, refuse_at, Reply, reply, after, tests1_3, tests5_6}
 
 -- The old range is 1 to 999.
-abbrev pub mostOld : ℕ
-mostOld = 999
+abbrev pub most_old : ℕ
+most_old = 999
 
 -- the format with the old range
-abbrev pub oldRange : Format → Format
-oldRange f = format f.levels mostOld
+abbrev pub old_range : Format → Format
+old_range f = format f.levels most_old
 
 -- ---- the list of pairs
 pub record Pair : Type 0 where
@@ -37,23 +37,23 @@ taken ps x = any (λ (p : Pair). eqb p.new x) ps
 
 -- the labels that occur in the table and in the shape
 unfoldable pub occurring : List Row → List Entry → List ℕ
-occurring rs es = map (λ (r : Row). r.label) rs ++ joinMap named es
+occurring rs es = map (λ (r : Row). r.label) rs ++ join_map named es
 
 -- A pair keeps the rules after the pairs before it: its old label lies in 100 to 999 and the new one in 1 to 99, the new one does not already
 -- occur in the table or the shape, no old one stands twice, and no two share a new one.
-unfoldable pub pairKept : Format → List ℕ → List Pair → Pair → Bool
-pairKept f labels before p =
-    between (suc f.labels) p.old mostOld && between 1 p.new f.labels && not (any (eqb p.new) labels)
+unfoldable pub pair_kept : Format → List ℕ → List Pair → Pair → Bool
+pair_kept f labels before p =
+    between (suc f.labels) p.old most_old && between 1 p.new f.labels && not (any (eqb p.new) labels)
     && not (listed before p.old) && not (taken before p.new)
 
 -- the first pair to break a rule, counted from i, after the pairs before it
-abbrev pub badPairFrom : Format → List ℕ → ℕ → List Pair → List Pair → Option ℕ
-badPairFrom f labels i before [] = none
-badPairFrom f labels i before (p ∷ ps) =
-    elim (pairKept f labels before p) [ true ↦ badPairFrom f labels (suc i) (before ++ (p ∷ [])) ps | false ↦ some i ]
+abbrev pub bad_pair_from : Format → List ℕ → ℕ → List Pair → List Pair → Option ℕ
+bad_pair_from f labels i before [] = none
+bad_pair_from f labels i before (p ∷ ps) =
+    elim (pair_kept f labels before p) [ true ↦ bad_pair_from f labels (suc i) (before ++ (p ∷ [])) ps | false ↦ some i ]
 
-unfoldable pub badPair : Format → List ℕ → List Pair → Option ℕ
-badPair f labels ps = badPairFrom f labels 0 [] ps
+unfoldable pub bad_pair : Format → List ℕ → List Pair → Option ℕ
+bad_pair f labels ps = bad_pair_from f labels 0 [] ps
 
 -- a label above 99 that is not in the list
 unfoldable pub unlisted : Format → List Pair → ℕ → Bool
@@ -66,51 +66,51 @@ converted [] x = x
 converted (p ∷ ps) x = elim (eqb p.old x) [ true ↦ p.new | false ↦ converted ps x ]
 
 -- a record with its n labels from byte i on converted; every other byte stays
-unfoldable pub recordWith : List Pair → ℕ → ℕ → List ℕ → List ℕ
-recordWith ps i n r = take i r ++ joinMap (λ x. bytes 2 (converted ps x)) (words n r i) ++ drop (i + 2 * n) r
+unfoldable pub record_with : List Pair → ℕ → ℕ → List ℕ → List ℕ
+record_with ps i n r = take i r ++ join_map (λ x. bytes 2 (converted ps x)) (words n r i) ++ drop (i + 2 * n) r
 
 -- records of w bytes, one after the other
-unfoldable pub recordsWith : List Pair → ℕ → ℕ → ℕ → List ℕ → List ℕ
-recordsWith ps i n w b = joinMap (recordWith ps i n) (records w (whole w b) b)
+unfoldable pub records_with : List Pair → ℕ → ℕ → ℕ → List ℕ → List ℕ
+records_with ps i n w b = join_map (record_with ps i n) (records w (whole w b) b)
 
 -- A row has one label, at byte 2.
 abbrev pub label_at : ℕ
 label_at = 2
 
-abbrev pub tableWith : Format → List Pair → List ℕ → List ℕ
-tableWith f ps b = recordsWith ps label_at 1 (rowBytes f) b
+abbrev pub table_with : Format → List Pair → List ℕ → List ℕ
+table_with f ps b = records_with ps label_at 1 (row_bytes f) b
 
 -- An entry has one for each level of the format.
-abbrev pub shapeWith : Format → List Pair → List ℕ → List ℕ
-shapeWith f ps s = recordsWith ps headBytes f.levels (entryBytes f) s
+abbrev pub shape_with : Format → List Pair → List ℕ → List ℕ
+shape_with f ps s = records_with ps head_bytes f.levels (entry_bytes f) s
 
 -- a row and an entry with their labels converted
-abbrev pub rowWith : List Pair → Row → Row
-rowWith ps r =
+abbrev pub row_with : List Pair → Row → Row
+row_with ps r =
     record { level = r.level; spare = r.spare; label = converted ps r.label; components = r.components; value = r.value }
 
-abbrev pub entryWith : List Pair → Entry → Entry
-entryWith ps e = record { level = e.level; size = e.size; spare = e.spare; labels = map (converted ps) e.labels }
+abbrev pub entry_with : List Pair → Entry → Entry
+entry_with ps e = record { level = e.level; size = e.size; spare = e.spare; labels = map (converted ps) e.labels }
 
 -- ---- the call
 pub record Converted : Type 0 where
   pub rows : ℕ  -- the count of rows
   pub entries : ℕ  -- the count of entries
 
-abbrev pub noneConverted : Converted
-noneConverted = record { rows = 0; entries = 0 }
+abbrev pub none_converted : Converted
+none_converted = record { rows = 0; entries = 0 }
 
 -- After 1 to 3, 5 and 6 on the old range: 25 with the first pair to break a rule; 26, a label above 99 not in the list, with the row, else the
 -- entry; 29 where fewer bytes are lent for the table or the shape than are written. Else the counts, and what is written.
 unfoldable pub converting : Format → List ℕ → List ℕ → List Pair → ℕ → ℕ → Answer (Converted × List ℕ × List ℕ)
 converting f b s ps room-table room-shape = do
-  rs ← tests1-3 (oldRange f) b
-  es ← tests5-6 (oldRange f) s
-  _ ← refuseAt 25 (badPair f (occurring rs es) ps)
-  _ ← refuseAt 26 (firstPlace (λ (r : Row). unlisted f ps r.label) rs)
-  _ ← refuseAt 26 (firstPlace (λ (e : Entry). any (unlisted f ps) (named e)) es)
-  let new-table = tableWith f ps b
-  let new-shape = shapeWith f ps s
+  rs ← tests1_3 (old_range f) b
+  es ← tests5_6 (old_range f) s
+  _ ← refuse_at 25 (bad_pair f (occurring rs es) ps)
+  _ ← refuse_at 26 (first_place (λ (r : Row). unlisted f ps r.label) rs)
+  _ ← refuse_at 26 (first_place (λ (e : Entry). any (unlisted f ps) (named e)) es)
+  let new-table = table_with f ps b
+  let new-shape = shape_with f ps s
   _ ← refuse 29 (ltb room-table (length new-table) || ltb room-shape (length new-shape))
   given (record { rows = length rs; entries = length es }, new-table, new-shape)
 
@@ -124,7 +124,7 @@ unfoldable pub convert : Format → List ℕ → List ℕ → List ℕ → List 
 convert f b s numbers lent-table lent-shape =
     let a = converting f b s (pairs numbers) (length lent-table) (length lent-shape) in
     record {
-      reply = reply noneConverted (do x ← a; given x.0);
+      reply = reply none_converted (do x ← a; given x.0);
       table = after lent-table (do x ← a; given x.1);
       shape = after lent-shape (do x ← a; given x.2);
     }

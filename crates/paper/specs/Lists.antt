@@ -46,8 +46,8 @@ module _ {A : Type 0} where
   place p (x ∷ xs) = elim (p x) [ true ↦ 0 | false ↦ suc (place p xs) ]
 
   -- that place, none where none does
-  abbrev pub firstPlace : (A → Bool) → List A → Option ℕ
-  firstPlace p xs = let i = place p xs in elim (ltb i (length xs)) [ true ↦ some i | false ↦ none ]
+  abbrev pub first_place : (A → Bool) → List A → Option ℕ
+  first_place p xs = let i = place p xs in elim (ltb i (length xs)) [ true ↦ some i | false ↦ none ]
 
   -- the lists one after the other
   abbrev pub joined : List (List A) → List A
@@ -62,14 +62,14 @@ pub record Range {A : Type 0} (figure : A → ℕ) (xs : List A) (lo hi : ℕ) :
 
 module _ {A B : Type 0} where
   -- what the elements give, one after the other
-  abbrev pub joinMap : (A → List B) → List A → List B
-  joinMap f [] = []
-  joinMap f (x ∷ xs) = f x ++ joinMap f xs
+  abbrev pub join_map : (A → List B) → List A → List B
+  join_map f [] = []
+  join_map f (x ∷ xs) = f x ++ join_map f xs
 
   -- the first element, counted from i, that breaks the rule with what the element before it leaves (b for the first)
-  abbrev pub firstBreak : (B → A → Bool) → (A → B) → ℕ → B → List A → Option ℕ
-  firstBreak rule leaves i b [] = none
-  firstBreak rule leaves i b (x ∷ xs) = elim (rule b x) [ true ↦ firstBreak rule leaves (suc i) (leaves x) xs | false ↦ some i ]
+  abbrev pub first_break : (B → A → Bool) → (A → B) → ℕ → B → List A → Option ℕ
+  first_break rule leaves i b [] = none
+  first_break rule leaves i b (x ∷ xs) = elim (rule b x) [ true ↦ first_break rule leaves (suc i) (leaves x) xs | false ↦ some i ]
 
 abbrev pub between : ℕ → ℕ → ℕ → Bool
 between a x b = leb a x && leb x b

@@ -1,9 +1,9 @@
 -- Shapes: entries, the entry rules, parents and paths. Assumes nothing.
 use Rattle.std.specs.Prelude.{ℕ, zero, suc, Bool, ◌&&◌, List, [], ◌∷◌, ◌++◌, map, eqb, length, get_or, take, drop}
 use Rattle.std.proofs.Math.Option.{Option}
-use Rattle.paper.specs.Lists.{keep, all, last_or, count, firstBreak, between, same, up, ways}
-use Rattle.paper.specs.Format.{Format, headBytes, entryBytes, byte, word, words, records, whole}
-use Rattle.paper.specs.Tables.{typeNumber}
+use Rattle.paper.specs.Lists.{keep, all, last_or, count, first_break, between, same, up, ways}
+use Rattle.paper.specs.Format.{Format, head_bytes, entry_bytes, byte, word, words, records, whole}
+use Rattle.paper.specs.Tables.{type_number}
 use Rattle.paper.specs.Closeness.{shared}
 
 -- A record of a shape, field by field.
@@ -14,11 +14,11 @@ pub record Entry : Type 0 where
   pub labels : List ℕ  -- bytes 4–15 on six levels, 4–19 on eight: one label for each level of the format
 
 unfoldable pub entry_of : Format → List ℕ → Entry
-entry_of f b = record { level = byte b 0; size = byte b 1; spare = word b 2; labels = words f.levels b headBytes }
+entry_of f b = record { level = byte b 0; size = byte b 1; spare = word b 2; labels = words f.levels b head_bytes }
 
 -- the entries of a shape
 unfoldable pub entries : Format → List ℕ → List Entry
-entries f b = map (entry_of f) (records (entryBytes f) (whole (entryBytes f) b) b)
+entries f b = map (entry_of f) (records (entry_bytes f) (whole (entry_bytes f) b) b)
 
 -- the type that an entry names
 abbrev pub named : Entry → List ℕ
@@ -26,20 +26,20 @@ named e = take e.size e.labels
 
 -- ---- the entry rules
 -- Entry 0 has level 1; every later entry has level at least 2 and at most one more than the entry before it (level 0: none).
-abbrev pub levelKept : ℕ → ℕ → Bool
-levelKept zero l = eqb l 1
-levelKept (suc before) l = between 2 l (suc (suc before))
+abbrev pub level_kept : ℕ → ℕ → Bool
+level_kept zero l = eqb l 1
+level_kept (suc before) l = between 2 l (suc (suc before))
 
 -- level and length 1 to the number of levels (6 or 8), bytes 2–3 zero, labels 1 to the largest (99) within the length and zero past it
-unfoldable pub entryKept : Format → ℕ → Entry → Bool
-entryKept f before e =
+unfoldable pub entry_kept : Format → ℕ → Entry → Bool
+entry_kept f before e =
     between 1 e.level f.levels && between 1 e.size f.levels && eqb e.spare 0
     && all (λ x. between 1 x f.labels) (named e) && all (eqb 0) (drop e.size e.labels)
-    && levelKept before e.level
+    && level_kept before e.level
 
 -- the first entry that breaks a rule
-unfoldable pub badEntry : Format → List Entry → Option ℕ
-badEntry f es = firstBreak (entryKept f) (λ (e : Entry). e.level) 0 0 es
+unfoldable pub bad_entry : Format → List Entry → Option ℕ
+bad_entry f es = first_break (entry_kept f) (λ (e : Entry). e.level) 0 0 es
 
 -- ---- a shape beside a table
 pub record Shape : Type 0 where
@@ -54,11 +54,11 @@ steps i [] = []
 steps i (e ∷ es) = (e.level, i) ∷ steps (suc i) es
 
 -- the shape of the entries, over the types of a table
-unfoldable pub shapeOver : List (List ℕ) → List Entry → Shape
-shapeOver ts es = record {
+unfoldable pub shape_over : List (List ℕ) → List Entry → Shape
+shape_over ts es = record {
   levels = map (λ (e : Entry). e.level) es;
   labels = map (λ (e : Entry). last_or 0 (named e)) es;
-  kinds = map (λ (e : Entry). typeNumber ts (named e)) es;
+  kinds = map (λ (e : Entry). type_number ts (named e)) es;
   ways = ways [] (steps 0 es);
 }
 

@@ -12,41 +12,41 @@ use lib.Seq.{get_or-set_same, get_or-set_other}
 use borrow.Author.Count.{below_more}
 use borrow.Author.Tests.{eqb-true, eqb-false, eq-eqb, ne_eqb, le-leb, lt-leb, leb-true, leb-false, ltb-true, ltb-false}
 use Rattle.paper.proofs.Lists.{both}
-use Rattle.paper.specs.Format.{mostEntries}
+use Rattle.paper.specs.Format.{most_entries}
 use Rattle.shapes.specs.Shape.{type_of, parent_of, edge_of}
 use Rattle.shapes.specs.declared.shape.Shape.{Shape}
 use Rattle.partners.specs.Closest.{Bound}
-use Rattle.partners.specs.Eight.{places, noNumber}
-use Rattle.partners.specs.Edges.{ofEntry, or_zero, Spread, EachFrom, NoEdge, Walking}
+use Rattle.partners.specs.Eight.{places, no_number}
+use Rattle.partners.specs.Edges.{of_entry, or_zero, Spread, EachFrom, NoEdge, Walking}
 
 -- ---- the place of an entry
 module _ (low high : List ℕ) (c : ℕ) where
-  pub of-high : 8 ≤ c → ofEntry low high c ≡ get_or high (c - 8) 0
-  unfolding ofEntry
-  of-high le = rw (le-leb 8 c le, ofEntry)
+  pub of_high : 8 ≤ c → of_entry low high c ≡ get_or high (c - 8) 0
+  unfolding of_entry
+  of_high le = rw (le-leb 8 c le, of_entry)
 
-  pub of_low : c < 8 → ofEntry low high c ≡ get_or low c 0
-  unfolding ofEntry
-  of_low lt = rw (lt-leb 8 c lt, ofEntry)
+  pub of_low : c < 8 → of_entry low high c ≡ get_or low c 0
+  unfolding of_entry
+  of_low lt = rw (lt-leb 8 c lt, of_entry)
 
 -- a place is told as 0 where it holds no number
 module _ (x : ℕ) where
-  pub zero_of : x ≡ noNumber → or_zero x ≡ 0
-  zero_of e = rw (eq-eqb x noNumber e, or_zero)
+  pub zero_of : x ≡ no_number → or_zero x ≡ 0
+  zero_of e = rw (eq-eqb x no_number e, or_zero)
 
-  pub one_of : (x ≡ noNumber → ⊥) → or_zero x ≡ x
-  one_of ne = rw (ne_eqb x noNumber ne, or_zero)
+  pub one_of : (x ≡ no_number → ⊥) → or_zero x ≡ x
+  one_of ne = rw (ne_eqb x no_number ne, or_zero)
 
 -- what is so of each entry of the two groups is so of each of 16 entries
 pub each-entry : (Is : ℕ → ℕ → Type 0) (low high : List ℕ) → EachFrom 0 Is low → EachFrom places Is high
-    → (c : ℕ) → c < mostEntries → Is c (ofEntry low high c)
+    → (c : ℕ) → c < most_entries → Is c (of_entry low high c)
 each-entry Is low high below above c lt = go (leb 8 c) refl
   where
-    go : (b : Bool) → leb 8 c ≡ b → Is c (ofEntry low high c)
+    go : (b : Bool) → leb 8 c ≡ b → Is c (of_entry low high c)
     go true e =
         let le = leb-true 8 c e in
         let back : 8 + (c - 8) ≡ c = omega arith in
-        rw (of-high low high c le) (subst (λ n. Is n (get_or high (c - 8) 0)) back (above (c - 8) (omega arith)))
+        rw (of_high low high c le) (subst (λ n. Is n (get_or high (c - 8) 0)) back (above (c - 8) (omega arith)))
     go false e =
         let less = leb-false 8 c e in
         let same : 0 + c ≡ c = omega arith in
@@ -55,8 +55,8 @@ each-entry Is low high below above c lt = go (leb 8 c) refl
 -- ---- the edge of an entry
 module _ (s : Shape) (c : ℕ) where
   -- the entry has an edge, or it has none
-  pub has-edge : (ltb 0 c && ltb c s.entries) ≡ true → (0 < c) × (c < s.entries)
-  has-edge e = let (x, y) = both (ltb 0 c) (ltb c s.entries) e in (ltb-true 0 c x, ltb-true c s.entries y)
+  pub has_edge : (ltb 0 c && ltb c s.entries) ≡ true → (0 < c) × (c < s.entries)
+  has_edge e = let (x, y) = both (ltb 0 c) (ltb c s.entries) e in (ltb-true 0 c x, ltb-true c s.entries y)
 
   pub no_edge : (ltb 0 c && ltb c s.entries) ≡ false → NoEdge s c
   no_edge e = go (ltb 0 c) refl e
@@ -70,17 +70,17 @@ module _ (s : Shape) (c : ℕ) where
   apart gone pos lt = ⊎_elim (λ e. omega (arith, pos, e)) (λ le. omega (arith, lt, le)) gone
 
   module _ {bound : ℕ} where
-    pub walking-edge : {a b : ℕ} → Bound (edge_of s c) bound → 0 < c → c < s.entries → a ≡ type_of s (parent_of s c) → b ≡ type_of s c
+    pub walking_edge : {a b : ℕ} → Bound (edge_of s c) bound → 0 < c → c < s.entries → a ≡ type_of s (parent_of s c) → b ≡ type_of s c
         → Walking s c bound a b
-    walking-edge at pos lt p q = record {
+    walking_edge at pos lt p q = record {
       begins-at = λ x y. at;
       over-is = λ x y. p;
       own_is = λ x y. q;
       none = λ gone. absurd (apart gone pos lt);
     }
 
-    pub walking-none : NoEdge s c → Walking s c bound noNumber noNumber
-    walking-none gone = record {
+    pub walking_none : NoEdge s c → Walking s c bound no_number no_number
+    walking_none gone = record {
       begins-at = λ pos lt. absurd (apart gone pos lt);
       over-is = λ pos lt. absurd (apart gone pos lt);
       own_is = λ pos lt. absurd (apart gone pos lt);
@@ -90,21 +90,21 @@ module _ (s : Shape) (c : ℕ) where
 -- ---- a group as it is filled
 -- the first i places hold the edges of the entries from entry `first` on
 pub record Filling (s : Shape) (first i : ℕ) (bounds over own : List ℕ) : Type 0 where
-  pub bounds-long : length bounds ≡ places
-  pub over-long : length over ≡ places
-  pub own-long : length own ≡ places
+  pub bounds_long : length bounds ≡ places
+  pub over_long : length over ≡ places
+  pub own_long : length own ≡ places
   pub each : (e : ℕ) → e < i → Walking s (first + e) (get_or bounds e 0) (get_or over e 0) (get_or own e 0)
 
 module _ (s : Shape) (first : ℕ) where
-  pub filling-none : (bounds over own : List ℕ) → length bounds ≡ places → length over ≡ places → length own ≡ places → Filling s first 0 bounds over own
-  filling-none bounds over own p q r = record { bounds-long = p; over-long = q; own-long = r; each = λ e lt. absurd (not-suc-le-zero lt) }
+  pub filling_none : (bounds over own : List ℕ) → length bounds ≡ places → length over ≡ places → length own ≡ places → Filling s first 0 bounds over own
+  filling_none bounds over own p q r = record { bounds_long = p; over_long = q; own_long = r; each = λ e lt. absurd (not-suc-le-zero lt) }
 
-  pub filling-more : {i : ℕ} {bounds over own : List ℕ} → i < places → Filling s first i bounds over own
+  pub filling_more : {i : ℕ} {bounds over own : List ℕ} → i < places → Filling s first i bounds over own
       → (bound a b : ℕ) → Walking s (first + i) bound a b → Filling s first (i + 1) (set bounds i bound) (set over i a) (set own i b)
-  filling-more {i} {bounds} {over} {own} lt f bound a b w = record {
-    bounds-long = length-set bounds i bound ∙ f.bounds-long;
-    over-long = length-set over i a ∙ f.over-long;
-    own-long = length-set own i b ∙ f.own-long;
+  filling_more {i} {bounds} {over} {own} lt f bound a b w = record {
+    bounds_long = length-set bounds i bound ∙ f.bounds_long;
+    over_long = length-set over i a ∙ f.over_long;
+    own_long = length-set own i b ∙ f.own_long;
     each = below_more (λ e. Walking s (first + e) (get_or (set bounds i bound) e 0) (get_or (set over i a) e 0) (get_or (set own i b) e 0)) i
         (λ e le. rw (
           get_or-set_other bounds i e bound 0 (λ z. omega arith),
@@ -112,15 +112,15 @@ module _ (s : Shape) (first : ℕ) where
           get_or-set_other own i e b 0 (λ z. omega arith),
         ) (f.each e le))
         (rw (
-          get_or-set_same bounds i bound 0 (omega (arith, f.bounds-long)),
-          get_or-set_same over i a 0 (omega (arith, f.over-long)),
-          get_or-set_same own i b 0 (omega (arith, f.own-long)),
+          get_or-set_same bounds i bound 0 (omega (arith, f.bounds_long)),
+          get_or-set_same over i a 0 (omega (arith, f.over_long)),
+          get_or-set_same own i b 0 (omega (arith, f.own_long)),
         ) w);
   }
 
 -- a group of no edges: its entries are past the last, or there is one entry
-pub none-there : (s : Shape) (first : ℕ) → (leb s.entries first || ltb s.entries 2) ≡ true → (e : ℕ) → NoEdge s (first + e)
-none-there s first h e = go (leb s.entries first) refl h (eqb (first + e) 0) refl
+pub none_there : (s : Shape) (first : ℕ) → (leb s.entries first || ltb s.entries 2) ≡ true → (e : ℕ) → NoEdge s (first + e)
+none_there s first h e = go (leb s.entries first) refl h (eqb (first + e) 0) refl
   where
     go : (b : Bool) → leb s.entries first ≡ b → (b || ltb s.entries 2) ≡ true → (z : Bool) → eqb (first + e) 0 ≡ z → NoEdge s (first + e)
     go true p h z q = inr (omega (arith, leb-true s.entries first p))
@@ -130,17 +130,17 @@ none-there s first h e = go (leb s.entries first) refl h (eqb (first + e) 0) ref
 -- ---- the two groups as they are told
 -- the first i places of each half
 pub record Halves (low high : List ℕ) (i : ℕ) (all : List ℕ) : Type 0 where
-  pub long : length all ≡ mostEntries
+  pub long : length all ≡ most_entries
   pub below : (e : ℕ) → e < i → get_or all e 0 ≡ or_zero (get_or low e 0)
   pub above : (e : ℕ) → e < i → get_or all (e + 8) 0 ≡ or_zero (get_or high e 0)
 
 module _ (low high : List ℕ) where
-  pub halves-none : (all : List ℕ) → length all ≡ mostEntries → Halves low high 0 all
-  halves-none all long = record { long = long; below = λ e lt. absurd (not-suc-le-zero lt); above = λ e lt. absurd (not-suc-le-zero lt) }
+  pub halves_none : (all : List ℕ) → length all ≡ most_entries → Halves low high 0 all
+  halves_none all long = record { long = long; below = λ e lt. absurd (not-suc-le-zero lt); above = λ e lt. absurd (not-suc-le-zero lt) }
 
-  pub halves-more : {i : ℕ} {all : List ℕ} → i < places → Halves low high i all → {x y : ℕ} → x ≡ or_zero (get_or low i 0) → y ≡ or_zero (get_or high i 0)
+  pub halves_more : {i : ℕ} {all : List ℕ} → i < places → Halves low high i all → {x y : ℕ} → x ≡ or_zero (get_or low i 0) → y ≡ or_zero (get_or high i 0)
       → Halves low high (i + 1) (set (set all i x) (i + 8) y)
-  halves-more {i} {all} lt h {x} {y} p q = record {
+  halves_more {i} {all} lt h {x} {y} p q = record {
     long = length-set first (i + 8) y ∙ held;
     below = below_more (λ e. get_or (set first (i + 8) y) e 0 ≡ or_zero (get_or low e 0)) i
         (λ e le. get_or-set_other first (i + 8) e y 0 (λ z. omega arith) ∙ get_or-set_other all i e x 0 (λ z. omega arith) ∙ h.below e le)
@@ -153,15 +153,15 @@ module _ (low high : List ℕ) where
       first : List ℕ
       first = set all i x
 
-      held : length first ≡ mostEntries
+      held : length first ≡ most_entries
       held = length-set all i x ∙ h.long
 
-  pub halves-spread : {all : List ℕ} → Halves low high places all → Spread low high all
-  halves-spread {all} h c lt = go (leb 8 c) refl
+  pub halves_spread : {all : List ℕ} → Halves low high places all → Spread low high all
+  halves_spread {all} h c lt = go (leb 8 c) refl
     where
-      go : (b : Bool) → leb 8 c ≡ b → get_or all c 0 ≡ or_zero (ofEntry low high c)
+      go : (b : Bool) → leb 8 c ≡ b → get_or all c 0 ≡ or_zero (of_entry low high c)
       go true e =
           let le = leb-true 8 c e in
           let back : c - 8 + 8 ≡ c = omega (arith, le) in
-          subst (λ n. get_or all n 0 ≡ or_zero (get_or high (c - 8) 0)) back (h.above (c - 8) (omega arith)) ∙ ap or_zero (sym (of-high low high c le))
+          subst (λ n. get_or all n 0 ≡ or_zero (get_or high (c - 8) 0)) back (h.above (c - 8) (omega arith)) ∙ ap or_zero (sym (of_high low high c le))
       go false e = let less = leb-false 8 c e in h.below c less ∙ ap or_zero (sym (of_low low high c less))

@@ -1,13 +1,13 @@
 -- What is found of the edges of a shape. Assumes nothing.
 use Rattle.std.specs.Prelude.{ℕ, ◌+◌, ◌-◌, ◌≤◌, ◌<◌, ◌≡◌, ◌⊎◌, true, false, List, eqb, leb, get_or}
 use Rattle.paper.specs.Lists.{is_empty, least}
-use Rattle.paper.specs.Format.{mostEntries}
+use Rattle.paper.specs.Format.{most_entries}
 use Rattle.paper.specs.Partners.{greatest}
 use Rattle.closest.specs.Runs.{begins, start_of}
 use Rattle.shapes.specs.Shape.{type_of, parent_of, edge_of}
 use Rattle.shapes.specs.declared.shape.Shape.{Shape}
-use Rattle.partners.specs.Closest.{is_lone, aloneRows, childrenIn, parentsIn, leastOr, Bound}
-use Rattle.partners.specs.Eight.{places, noNumber}
+use Rattle.partners.specs.Closest.{is_lone, alone_rows, children_in, parents_in, least_or, Bound}
+use Rattle.partners.specs.Eight.{places, no_number}
 use Rattle.partners.specs.declared.eight.Eight.{Eight}
 use Rattle.partners.specs.declared.edges.Edges.{Edges}
 use Rattle.partners.specs.declared.edges.Group.{Group}
@@ -16,7 +16,7 @@ use Rattle.partners.specs.declared.edges.Group.{Group}
 -- no row of type b before row `from`, where a run of level l begins, is without a row of type a in its run
 pub record Before (levels types : List ℕ) (rows l a b from : ℕ) : Type 0 where
   pub inside : from ≤ rows
-  pub new-run : 0 < from → begins levels l from ≡ true
+  pub new_run : 0 < from → begins levels l from ≡ true
   pub none : (i : ℕ) → i < from → is_lone levels types rows l b a i ≡ false
 
 module _ (levels types : List ℕ) (rows : ℕ) (s : Shape) where
@@ -28,23 +28,23 @@ module _ (levels types : List ℕ) (rows : ℕ) (s : Shape) where
   pub record AllMet (n from : ℕ) : Type 0 where
     pub some : 1 ≤ n
     pub few : n ≤ s.entries
-    pub each : (c : ℕ) → c < n → is_empty (aloneRows levels types rows s c) ≡ true
+    pub each : (c : ℕ) → c < n → is_empty (alone_rows levels types rows s c) ≡ true
     pub before : n < s.entries → MetBefore n from
 
   -- a figure of each entry but the first; entry 0 and unused entries hold zeros
   pub record OfEdges (figure : ℕ → ℕ) (xs : List ℕ) : Type 0 where
     pub root : get_or xs 0 0 ≡ 0
     pub each : (c : ℕ) → 1 ≤ c → c < s.entries → get_or xs c 0 ≡ figure c
-    pub unused : (c : ℕ) → s.entries ≤ c → c < mostEntries → get_or xs c 0 ≡ 0
+    pub unused : (c : ℕ) → s.entries ≤ c → c < most_entries → get_or xs c 0 ≡ 0
 
   -- Least and greatest numbers of closest rows both ways, for each edge, and where the first row without a partner is to be looked for.
   pub record Edged (edges : Edges) : Type 0 where
-    pub least-children-lem : OfEdges (λ c. least (childrenIn levels types rows s c)) edges.least_children
-    pub greatest-children-lem : OfEdges (λ c. greatest (childrenIn levels types rows s c)) edges.greatest_children
-    pub least-parents-lem : OfEdges (λ c. least (parentsIn levels types rows s c)) edges.least_parents
-    pub greatest-parents-lem : OfEdges (λ c. greatest (parentsIn levels types rows s c)) edges.greatest_parents
-    pub all-met : AllMet edges.met edges.from
-    pub alone : edges.met < s.entries → is_empty (aloneRows levels types rows s edges.met) ≡ false
+    pub least_children_lem : OfEdges (λ c. least (children_in levels types rows s c)) edges.least_children
+    pub greatest_children_lem : OfEdges (λ c. greatest (children_in levels types rows s c)) edges.greatest_children
+    pub least_parents_lem : OfEdges (λ c. least (parents_in levels types rows s c)) edges.least_parents
+    pub greatest_parents_lem : OfEdges (λ c. greatest (parents_in levels types rows s c)) edges.greatest_parents
+    pub all_met : AllMet edges.met edges.from
+    pub alone : edges.met < s.entries → is_empty (alone_rows levels types rows s edges.met) ≡ false
 
 -- ---- eight edges of the shape
 -- each of the eight places from entry `first` on holds what is so of its entry
@@ -60,7 +60,7 @@ pub record Walking (s : Shape) (c bound over own : ℕ) : Type 0 where
   pub begins-at : 1 ≤ c → c < s.entries → Bound (edge_of s c) bound
   pub over-is : 1 ≤ c → c < s.entries → over ≡ type_of s (parent_of s c)
   pub own_is : 1 ≤ c → c < s.entries → own ≡ type_of s c
-  pub none : NoEdge s c → (over ≡ noNumber) × (own ≡ noNumber)
+  pub none : NoEdge s c → (over ≡ no_number) × (own ≡ no_number)
 
 -- the edges of the eight entries from entry `first` on
 abbrev pub Grouped : Shape → ℕ → Group → Type 0
@@ -74,42 +74,42 @@ pub record Figure (s : Shape) (c number none x : ℕ) : Type 0 where
 module _ (levels types : List ℕ) (rows : ℕ) (s : Shape) where
   -- the first run that has a row of entry c's type without a partner ends before row x; no such row, no number
   pub record LoneEnd (c x : ℕ) : Type 0 where
-    pub none : x ≡ noNumber → is_empty (aloneRows levels types rows s c) ≡ true
-    pub inside : x < noNumber → (1 ≤ x) × (x ≤ rows)
-    pub alone : x < noNumber → is_empty (aloneRows levels types rows s c) ≡ false
-    pub before : x < noNumber → MetBefore levels types rows s c (start_of levels (edge_of s c) (x - 1))
+    pub none : x ≡ no_number → is_empty (alone_rows levels types rows s c) ≡ true
+    pub inside : x < no_number → (1 ≤ x) × (x ≤ rows)
+    pub alone : x < no_number → is_empty (alone_rows levels types rows s c) ≡ false
+    pub before : x < no_number → MetBefore levels types rows s c (start_of levels (edge_of s c) (x - 1))
 
   -- what is found of the edges of the eight entries from entry `first` on
   pub record Found (first : ℕ) (found : Eight) : Type 0 where
-    pub least-children-lem : EachFrom first (λ c. Figure s c (leastOr (childrenIn levels types rows s c)) noNumber) found.least_children
-    pub greatest-children-lem : EachFrom first (λ c. Figure s c (greatest (childrenIn levels types rows s c)) 0) found.greatest_children
-    pub least-parents-lem : EachFrom first (λ c. Figure s c (leastOr (parentsIn levels types rows s c)) noNumber) found.least_parents
-    pub greatest-parents-lem : EachFrom first (λ c. Figure s c (greatest (parentsIn levels types rows s c)) 0) found.greatest_parents
-    pub lone-ends : EachFrom first (λ c x. 1 ≤ c → c < s.entries → LoneEnd c x) found.lone
+    pub least_children_lem : EachFrom first (λ c. Figure s c (least_or (children_in levels types rows s c)) no_number) found.least_children
+    pub greatest_children_lem : EachFrom first (λ c. Figure s c (greatest (children_in levels types rows s c)) 0) found.greatest_children
+    pub least_parents_lem : EachFrom first (λ c. Figure s c (least_or (parents_in levels types rows s c)) no_number) found.least_parents
+    pub greatest_parents_lem : EachFrom first (λ c. Figure s c (greatest (parents_in levels types rows s c)) 0) found.greatest_parents
+    pub lone_ends : EachFrom first (λ c x. 1 ≤ c → c < s.entries → LoneEnd c x) found.lone
 
 -- ---- two groups
 -- the place of entry c in the two groups
-unfoldable pub ofEntry : (low high : List ℕ) → ℕ → ℕ
-ofEntry low high c = elim (leb places c) [ true ↦ get_or high (c - places) 0 | false ↦ get_or low c 0 ]
+unfoldable pub of_entry : (low high : List ℕ) → ℕ → ℕ
+of_entry low high c = elim (leb places c) [ true ↦ get_or high (c - places) 0 | false ↦ get_or low c 0 ]
 
 -- the least of no numbers is told as 0
 abbrev pub or_zero : ℕ → ℕ
-or_zero x = elim (eqb x noNumber) [ true ↦ 0 | false ↦ x ]
+or_zero x = elim (eqb x no_number) [ true ↦ 0 | false ↦ x ]
 
 -- each entry's place of the two groups, 0 for no number
 abbrev pub Spread : (low high : List ℕ) → List ℕ → Type 0
-Spread low high xs = (c : ℕ) → c < mostEntries → get_or xs c 0 ≡ or_zero (ofEntry low high c)
+Spread low high xs = (c : ℕ) → c < most_entries → get_or xs c 0 ≡ or_zero (of_entry low high c)
 
 -- n is the first entry from 1 on where a run without parents ends, the number of entries where there is none
 pub record FirstAlone (low high : List ℕ) (entries n : ℕ) : Type 0 where
   pub some : 1 ≤ n
   pub few : n ≤ entries
-  pub passed : (c : ℕ) → c < n → 1 ≤ c → ofEntry low high c ≡ noNumber
-  pub here : n < entries → ofEntry low high n < noNumber
+  pub passed : (c : ℕ) → c < n → 1 ≤ c → of_entry low high c ≡ no_number
+  pub here : n < entries → of_entry low high n < no_number
 
 -- entry c's place is the end of a run of its edge, among so many rows, and row r is the first of that run
 abbrev pub EndWithin : (rows : ℕ) → Shape → (low high : List ℕ) → ℕ → Type 0
-EndWithin rows s low high c = c < s.entries → (1 ≤ ofEntry low high c) × (ofEntry low high c ≤ rows)
+EndWithin rows s low high c = c < s.entries → (1 ≤ of_entry low high c) × (of_entry low high c ≤ rows)
 
 abbrev pub RunStart : (levels : List ℕ) → Shape → (low high : List ℕ) → ℕ → ℕ → Type 0
-RunStart levels s low high c r = c < s.entries → r ≡ start_of levels (edge_of s c) (ofEntry low high c - 1)
+RunStart levels s low high c r = c < s.entries → r ≡ start_of levels (edge_of s c) (of_entry low high c - 1)

@@ -3,8 +3,8 @@ ghost use Rattle.std.specs.Prelude.{◌≡◌, ◌+◌, ◌≤◌, ◌<◌, leng
 ghost use Rattle.closest.specs.Runs.{Rows, start_of};
 ghost use Rattle.shapes.specs.Shape.{Sized};
 ghost use Rattle.partners.specs.Closest.{Bound};
-ghost use Rattle.partners.specs.Eight.{noNumber};
-ghost use Rattle.partners.specs.Edges.{Grouped, Found, ofEntry, or_zero, Spread, FirstAlone, EndWithin, RunStart, Edged};
+ghost use Rattle.partners.specs.Eight.{no_number};
+ghost use Rattle.partners.specs.Edges.{Grouped, Found, of_entry, or_zero, Spread, FirstAlone, EndWithin, RunStart, Edged};
 
 use crate::eight::{Eight, nothing, walk_eight};
 use shapes::shape::Shape;
@@ -58,7 +58,7 @@ fn group_from(shape: Shape, first: usize) -> Group
         let c = first + e;
         if (0 < c) & (c < shape.entries) {
             bounds[e] = run_bound(shape.edges[c]) as u16;
-            over[e] = shape.types[bytes::wide(shape.parents[c])] as u16;
+            over[e] = shape.types[octets::wide(shape.parents[c])] as u16;
             own[e] = shape.types[c] as u16;
             e += 1;
         } else {
@@ -93,12 +93,12 @@ fn walk_group(levels: &[u8], types: &[u8], rows: usize, shape: Shape, first: usi
 // The place of entry c in the two groups of eight.
 fn of_entry(low: [u16; 8], high: [u16; 8], c: usize) -> usize
     requires { c < 16 }
-    ensures { (result ≡ ofEntry low high c) × (result ≤ noNumber) }
+    ensures { (result ≡ of_entry low high c) × (result ≤ no_number) }
 {
     if 8 <= c {
-        return bytes::wide16(high[c - 8]);
+        return octets::wide16(high[c - 8]);
     }
-    bytes::wide16(low[c])
+    octets::wide16(low[c])
 }
 
 // A number as it is told: 0 for the least of no numbers.
@@ -108,7 +108,7 @@ fn told(x: u16) -> usize
     if x == 65535 {
         return 0;
     }
-    bytes::wide16(x)
+    octets::wide16(x)
 }
 
 // Each entry's place of the two groups, as it is told.

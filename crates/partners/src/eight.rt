@@ -1,7 +1,7 @@
 // Eight edges walked at once: each has a place of its own in every array of eight, so that what is done for one is done for all.
 ghost use Rattle.std.specs.Prelude.{◌≡◌, ℕ, ◌+◌, ◌≤◌, ◌<◌, length, get_or};
 ghost use Rattle.closest.specs.Runs.{Rows};
-ghost use Rattle.partners.specs.Eight.{places, Eights, nothing, ended, fewer, more, firstEnd, onward, single};
+ghost use Rattle.partners.specs.Eight.{places, Eights, nothing, ended, fewer, more, first_end, onward, single};
 ghost use Rattle.partners.specs.Eight.{Closes, Within, Few, CountsDeep, LevelAt, WalkedAll};
 
 // What is found of eight edges. 65,535 stands for the least of no numbers, and for no end.
@@ -70,7 +70,7 @@ fn greatest(most: [u16; 8], numbers: [u16; 8], counts: [u16; 8]) -> [u16; 8]
 
 // The first end of a run that has children and no parents, of which row i is one where the run that it ends is such.
 fn first_end(lone: [u16; 8], parents: [u16; 8], children: [u16; 8], i: u16) -> [u16; 8]
-    ensures { Eights (λ e. firstEnd (get_or lone e 0) (get_or parents e 0) (get_or children e 0) i) result }
+    ensures { Eights (λ e. first_end (get_or lone e 0) (get_or parents e 0) (get_or children e 0) i) result }
 {
     let mut first = lone;
     let mut e = 0;

@@ -9,52 +9,52 @@ use mathlib.Core.Option.{Option, none, some}
 use lib.Dec.{eqb, ltb}
 use lib.ListN.{length}
 use borrow.Author.Tests.{ltb-false}
-use Rattle.paper.specs.Lists.{firstPlace}
-use Rattle.paper.specs.Format.{Format, mostEntries}
+use Rattle.paper.specs.Lists.{first_place}
+use Rattle.paper.specs.Format.{Format, most_entries}
 use Rattle.paper.specs.Tables.{Row, types}
-use Rattle.paper.specs.Calls.{Answer, refused, given, ◌>>=◌, refuse, refuseAt, reply, tests1-4}
-use Rattle.grammar.specs.Typed.{Wanted, matched, shapeBack, shaping, reading, Reading, readAs, ReadTree}
+use Rattle.paper.specs.Calls.{Answer, refused, given, ◌>>=◌, refuse, refuse_at, reply, tests1_4}
+use Rattle.grammar.specs.Typed.{Wanted, matched, shape_back, shaping, reading, Reading, read_as, ReadTree}
 
 -- no more than sixteen entries are given
 abbrev Few : Answer (ℕ × List ℕ) → Type 0
 Few (refused k p) = Unit
-Few (given x) = x.0 ≤ mostEntries
+Few (given x) = x.0 ≤ most_entries
 
-few-shaped : (f : Format) (ts : List (List ℕ)) (es : List Wanted) (room : ℕ) → Few (shaping f ts es room)
+few_shaped : (f : Format) (ts : List (List ℕ)) (es : List Wanted) (room : ℕ) → Few (shaping f ts es room)
 unfolding shaping
-few-shaped f ts es room =
-    go (ltb mostEntries (length es)) refl (firstPlace (λ (e : Wanted). ltb f.levels e.level) es)
-    (firstPlace (λ (e : Wanted). not (eqb (length (matched ts e)) 1)) es) (ltb room (length (shapeBack f ts es)))
+few_shaped f ts es room =
+    go (ltb most_entries (length es)) refl (first_place (λ (e : Wanted). ltb f.levels e.level) es)
+    (first_place (λ (e : Wanted). not (eqb (length (matched ts e)) 1)) es) (ltb room (length (shape_back f ts es)))
   where
-    go : (many : Bool) → ltb mostEntries (length es) ≡ many → (deep unmatched : Option ℕ) (short : Bool)
-        → Few (refuse 5 many >>= (λ _. refuseAt 6 deep >>= (λ _. refuseAt 13 unmatched >>= (λ _. refuse 29 short >>= (λ _.
-        given (length es, shapeBack f ts es))))))
+    go : (many : Bool) → ltb most_entries (length es) ≡ many → (deep unmatched : Option ℕ) (short : Bool)
+        → Few (refuse 5 many >>= (λ _. refuse_at 6 deep >>= (λ _. refuse_at 13 unmatched >>= (λ _. refuse 29 short >>= (λ _.
+        given (length es, shape_back f ts es))))))
     go true e deep unmatched short = tt
     go false e (some p) unmatched short = tt
     go false e none (some p) short = tt
     go false e none none true = tt
-    go false e none none false = ltb-false mostEntries (length es) e
+    go false e none none false = ltb-false most_entries (length es) e
 
-few-read : (f : Format) (b : List ℕ) (said : Answer (List Wanted)) (room : ℕ) → Few (reading f b said room)
+few_read : (f : Format) (b : List ℕ) (said : Answer (List Wanted)) (room : ℕ) → Few (reading f b said room)
 unfolding reading
-few-read f b said room = go (tests1-4 f b) said
+few_read f b said room = go (tests1_4 f b) said
   where
     go : (a : Answer (List Row)) (s : Answer (List Wanted)) → Few (a >>= (λ rs. s >>= (λ es. shaping f (types rs) es room)))
     go (refused k p) s = tt
     go (given rs) (refused k p) = tt
-    go (given rs) (given es) = few-shaped f (types rs) es room
+    go (given rs) (given es) = few_shaped f (types rs) es room
 
 -- The entries of a typed tree that is read, or refused.
-pub few-entries : (f : Format) (b text lent : List ℕ) (r : Reading) → ReadTree f b text lent r → r.reply.rest ≤ mostEntries
-unfolding readAs
-few-entries f b text lent r t = omega (arith, ap (λ (x : Reading). x.reply.rest) t.answer, counted (reading f b t.said (length lent)) (few-read f b t.said (length lent)))
+pub few_entries : (f : Format) (b text lent : List ℕ) (r : Reading) → ReadTree f b text lent r → r.reply.rest ≤ most_entries
+unfolding read_as
+few_entries f b text lent r t = omega (arith, ap (λ (x : Reading). x.reply.rest) t.answer, counted (reading f b t.said (length lent)) (few_read f b t.said (length lent)))
   where
-    counted : (a : Answer (ℕ × List ℕ)) → Few a → (reply 0 (a >>= (λ x. given x.0))).rest ≤ mostEntries
+    counted : (a : Answer (ℕ × List ℕ)) → Few a → (reply 0 (a >>= (λ x. given x.0))).rest ≤ most_entries
     counted (refused k p) few = omega arith
     counted (given x) few = few
 
 -- No more than sixteen, of no more than twenty bytes each, have room.
-pub in-shape : (n w : ℕ) → n ≤ mostEntries → w ≤ 20 → n * w ≤ 320
-in-shape n w few short =
+pub in_shape : (n w : ℕ) → n ≤ most_entries → w ≤ 20 → n * w ≤ 320
+in_shape n w few short =
     let most : n * w ≤ 16 * w = mul-le-mul_right w few in
     omega (arith, most, short)

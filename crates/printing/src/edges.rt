@@ -1,6 +1,6 @@
 // The edges of a shape: a line of the listing for each entry but the first, and the same with names in the report.
 ghost use Rattle.std.specs.Prelude.{◌<◌};
-ghost use Rattle.bytes.specs.Served.{Served};
+ghost use Rattle.octets.specs.Served.{Served};
 
 use crate::out::{NOWHERE, print, report};
 use crate::width::{entry_at, last_label, served};
@@ -35,7 +35,7 @@ fn level_at(shape: &[u8], f: Format, e: usize) -> usize
     if entry.len() == 0 {
         return 0;
     }
-    bytes::wide(entry[0])
+    octets::wide(entry[0])
 }
 
 // The parent of an entry of a shape that keeps the rules: the nearest earlier entry of a lower level.

@@ -1,7 +1,7 @@
 // The figures of a summary, a line for each entry.
 ghost use Rattle.std.specs.Prelude.{◌≡◌, length};
-ghost use Rattle.paper.specs.Format.{entryBytes};
-ghost use Rattle.bytes.specs.Served.{Served};
+ghost use Rattle.paper.specs.Format.{entry_bytes};
+ghost use Rattle.octets.specs.Served.{Served};
 
 use crate::new_table::print_refused;
 use crate::out::print;
@@ -12,9 +12,9 @@ use tables::row::smaller;
 
 fn print_entry(entry: &[u8], f: Format, e: usize, figures: Figures) -> bool
     requires served { Served f }
-    requires len { length entry.now ≡ entryBytes f }
+    requires len { length entry.now ≡ entry_bytes f }
 {
-    let level = smaller(bytes::wide(entry[0]), f.levels);
+    let level = smaller(octets::wide(entry[0]), f.levels);
     let mut text = [0u8; 256];
     let n = put_figures(&mut text, level, e, last_label(entry, f), figures);
     print(&text[..n])
@@ -30,7 +30,7 @@ fn print_entries(
 ) -> bool
     requires { Served f }
 {
-    let w = bytes::entry_bytes(f);
+    let w = octets::entry_bytes(f);
     let mut e = 0;
     while e < 16 {
         let entry = entry_at(shape, f, e);

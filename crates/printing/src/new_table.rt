@@ -1,8 +1,8 @@
 // The listing: a refusal, or the verdict, a line for each line of the new table, and one for each edge of the shape.
 ghost use Rattle.std.specs.Prelude.{◌≡◌, true, ◌≤◌, length};
-ghost use Rattle.paper.specs.Format.{rowBytes};
+ghost use Rattle.paper.specs.Format.{row_bytes};
 ghost use Rattle.paper.specs.Widths.{format_of};
-ghost use Rattle.bytes.specs.Served.{Served};
+ghost use Rattle.octets.specs.Served.{Served};
 
 use crate::edges::print_edges;
 use crate::out::print;
@@ -29,7 +29,7 @@ fn print_verdict(v: Verdict) -> bool {
 
 fn print_line(row: &[u8], f: Format, source: u32) -> bool
     requires served { Served f }
-    requires row_len { length row.now ≡ rowBytes f }
+    requires row_len { length row.now ≡ row_bytes f }
 {
     let mut text = [0u8; 256];
     let n = put_line(&mut text, row, f, source);
@@ -38,10 +38,10 @@ fn print_line(row: &[u8], f: Format, source: u32) -> bool
 
 // A whole row's line, with its source; false where the row is not whole or has no source.
 fn print_row(row: &[u8], width: Width, sources: &[u32], at: usize) -> bool
-    ensures { result ≡ true → length row.now ≡ rowBytes (format_of width) }
+    ensures { result ≡ true → length row.now ≡ row_bytes (format_of width) }
 {
     let f = paper::format_of(width);
-    if row.len() != bytes::row_bytes(f) {
+    if row.len() != octets::row_bytes(f) {
         return false;
     }
     if sources.len() <= at {
@@ -72,7 +72,7 @@ fn reshape_into(
 ) -> Reshaped
     requires { 28672 ≤ length table.old }
 {
-    let room = 1024 * bytes::row_bytes(served(width));
+    let room = 1024 * octets::row_bytes(served(width));
     silmezga::reshape(width, source, shape, &mut table[..room], sources)
 }
 

@@ -15,7 +15,7 @@ fn add_row(held: &mut [u8; 20], row: &[u8]) {
     if row.len() < 4 {
         return;
     }
-    let level = bytes::wide(row[0]);
+    let level = octets::wide(row[0]);
     if level < 1 {
         return;
     }
@@ -43,7 +43,7 @@ fn type_held(width: Width, table: &[u8], r: usize) -> [u8; 20] {
 fn report_row(channel: i32, width: Width, table: &[u8], r: usize) -> bool {
     let f = served(width);
     let row = handed(width, table, r);
-    if row.len() != bytes::row_bytes(f) {
+    if row.len() != octets::row_bytes(f) {
         return false;
     }
     let held = type_held(width, table, r);
@@ -61,7 +61,7 @@ fn report_broken_row(channel: i32, width: Width, table: &[u8], r: usize) -> bool
     }
     let f = served(width);
     let row = handed(width, table, r);
-    if row.len() != bytes::row_bytes(f) {
+    if row.len() != octets::row_bytes(f) {
         return false;
     }
     let mut text = [0u8; 512];
@@ -73,7 +73,7 @@ fn report_broken_row(channel: i32, width: Width, table: &[u8], r: usize) -> bool
 fn report_entry(channel: i32, width: Width, shape: &[u8], e: usize) -> bool {
     let f = served(width);
     let entry = entry_at(shape, f, e);
-    if entry.len() != bytes::entry_bytes(f) {
+    if entry.len() != octets::entry_bytes(f) {
         return false;
     }
     let mut text = [0u8; 512];
@@ -85,7 +85,7 @@ fn report_entry(channel: i32, width: Width, shape: &[u8], e: usize) -> bool {
 fn report_broken_entry(channel: i32, width: Width, shape: &[u8], e: usize) -> bool {
     let f = served(width);
     let entry = entry_at(shape, f, e);
-    if entry.len() != bytes::entry_bytes(f) {
+    if entry.len() != octets::entry_bytes(f) {
         return false;
     }
     let mut text = [0u8; 512];

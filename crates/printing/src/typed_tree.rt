@@ -59,7 +59,7 @@ pub fn read_typed(width: Width, table: &[u8], text: &[u8], shape: &mut [u8]) -> 
     TypedRead {
         number: number,
         place: place,
-        bytes: entries * bytes::entry_bytes(served(width)),
+        bytes: entries * octets::entry_bytes(served(width)),
     }
 }
 

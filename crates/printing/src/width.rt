@@ -1,5 +1,5 @@
 // What a width says of the files: their format, where the entries of a shape stand, and the last label of an entry.
-ghost use Rattle.bytes.specs.Served.{Served};
+ghost use Rattle.octets.specs.Served.{Served};
 
 use paper::{Format, Width};
 use tables::row::smaller;
@@ -16,9 +16,9 @@ pub fn entry_at(shape: &[u8], f: Format, e: usize) -> &[u8]
     requires { Served f }
 {
     let none = 0;
-    let w = bytes::entry_bytes(f);
+    let w = octets::entry_bytes(f);
     if e < shape.len() / w {
-        return bytes::record(shape, w, e);
+        return octets::record(shape, w, e);
     }
     &shape[none..none]
 }
@@ -27,9 +27,9 @@ pub fn entry_at(shape: &[u8], f: Format, e: usize) -> &[u8]
 pub fn last_label(entry: &[u8], f: Format) -> usize
     requires { Served f }
 {
-    if entry.len() != bytes::entry_bytes(f) {
+    if entry.len() != octets::entry_bytes(f) {
         return 0;
     }
-    let size = smaller(bytes::wide(entry[1]), f.levels);
-    bytes::word(entry, 2 + 2 * size)
+    let size = smaller(octets::wide(entry[1]), f.levels);
+    octets::word(entry, 2 + 2 * size)
 }

@@ -38,7 +38,7 @@ use denote.Struct.Rest.{all_own, field_own, rest, own_open, own_out}
 use denote.Struct.Values.{Values}
 use denote.Triple.Clauses.{ensured, lasts}
 use Rattle.paper.specs.Widths.{format_of}
-use Rattle.paper.specs.Calls.{readerNext}
+use Rattle.paper.specs.Calls.{reader_next}
 use Rattle.paper.specs.declared.Width.{Width}
 use Rattle.paper.specs.declared.Width.TheVariants.{Six, Eight}
 use Rattle.paper.specs.contracts.Width as E
@@ -92,8 +92,8 @@ abbrev pub Arg-reader : Lft → Reader → Val → Fml
 Arg-reader κ d u = owns (T.the_row (named_lft 1 0 tt (κ, tt)) ∷ []) (d, tt) (u ∷ [], tt)
 
 module _ {M : Type 1} {𝓤 : Ura M} (𝓛 : Logic 𝓤) where
-  pub width-typed : (w : Width) → Holds (has_ty E'.mir (tag w)) × WT (tag w)
-  width-typed w = ((EL.lawful E.the_type E'.the_laws 𝓛 tt).typed w (tag w ∷ []) (width_is w)).0
+  pub width_typed : (w : Width) → Holds (has_ty E'.mir (tag w)) × WT (tag w)
+  width_typed w = ((EL.lawful E.the_type E'.the_laws 𝓛 tt).typed w (tag w ∷ []) (width_is w)).0
 
 module _ {M : Type 1} {𝓤 : Ura M} (𝓛 : Logic 𝓤) (κ : Lft) (q : Share) where
   -- the lifetime's token beside what is passed
@@ -139,14 +139,14 @@ abbrev pub reader : Width → Bor (List ℕ) → ℕ → Reader
 reader w s n = record { table = s; at = n; width = w }
 
 abbrev pub onward : Reader → Reader
-onward r = reader r.width r.table (readerNext (format_of r.width) r.table.now r.at)
+onward r = reader r.width r.table (reader_next (format_of r.width) r.table.now r.at)
 
 -- what `make` says of its result
 abbrev pub Made : Width → Bor (List ℕ) → ℕ → Reader → Type 0
 Made w s n r = (r.table ≡ s) × (r.at ≡ n) × (r.width ≡ w)
 
-pub made-is : (w : Width) (s : Bor (List ℕ)) (n : ℕ) (r : Reader) → Made w s n r → r ≡ reader w s n
-made-is w s n r e = λ i. record { table = e.0 i; at = e.1 i; width = e.2 i }
+pub made_is : (w : Width) (s : Bor (List ℕ)) (n : ℕ) (r : Reader) → Made w s n r → r ≡ reader w s n
+made_is w s n r e = λ i. record { table = e.0 i; at = e.1 i; width = e.2 i }
 
 -- what `next` says of its result: the reader one row on
 abbrev pub On : Reader → Reader → Type 0
@@ -158,11 +158,11 @@ Found r = Handed (format_of r.width) r.table r.at
 
 module _ {M : Type 1} {𝓤 : Ura M} (𝓛 : Logic 𝓤) (mem : Memory → SProp 𝓤) (run : Routine → Fun 𝓤) (κ : Lft) where
   -- a callee has no `&mut`, so what is said of last values is dropped
-  pub make-said : (w : Width) (s : Bor (List ℕ)) (n : ℕ) (r : Reader) → ent 𝓤 (ensured 𝓛 make.ended (make.clauses 𝓛 mem run) (κ, tt) (w, (s, (n, tt))) tt r) (fact 𝓤 (Made w s n r))
-  make-said w s n r = ex_e 𝓤 _ (λ ws. snd∗ 𝓤 (sem 𝓛 (lasts make.ended (κ, tt) (w, (s, (n, tt))) ws)) (fact 𝓤 (Made w s n r)))
+  pub make_said : (w : Width) (s : Bor (List ℕ)) (n : ℕ) (r : Reader) → ent 𝓤 (ensured 𝓛 make.ended (make.clauses 𝓛 mem run) (κ, tt) (w, (s, (n, tt))) tt r) (fact 𝓤 (Made w s n r))
+  make_said w s n r = ex_e 𝓤 _ (λ ws. snd∗ 𝓤 (sem 𝓛 (lasts make.ended (κ, tt) (w, (s, (n, tt))) ws)) (fact 𝓤 (Made w s n r)))
 
-  pub next-said : (r p : Reader) → ent 𝓤 (ensured 𝓛 next.ended (next.clauses 𝓛 mem run) (κ, tt) (r, tt) tt p) (fact 𝓤 (On r p))
-  next-said r p = ex_e 𝓤 _ (λ ws. snd∗ 𝓤 (sem 𝓛 (lasts next.ended (κ, tt) (r, tt) ws)) (fact 𝓤 (On r p)))
+  pub next_said : (r p : Reader) → ent 𝓤 (ensured 𝓛 next.ended (next.clauses 𝓛 mem run) (κ, tt) (r, tt) tt p) (fact 𝓤 (On r p))
+  next_said r p = ex_e 𝓤 _ (λ ws. snd∗ 𝓤 (sem 𝓛 (lasts next.ended (κ, tt) (r, tt) ws)) (fact 𝓤 (On r p)))
 
   pub row-said : (r : Reader) (t : Bor (List ℕ)) → ent 𝓤 (ensured 𝓛 row.ended (row.clauses 𝓛 mem run) (κ, tt) (r, tt) tt t) (fact 𝓤 (Found r t))
   row-said r t = ex_e 𝓤 _ (λ ws. snd∗ 𝓤 (sem 𝓛 (lasts row.ended (κ, tt) (r, tt) ws)) (fact 𝓤 (Found r t)))

@@ -2,7 +2,7 @@
 // hands out an empty part and stays there. The work is in `row_at` and `place_after`, which take a plain table; the rest is thin.
 ghost use Rattle.std.specs.Prelude.{◌≡◌};
 ghost use Rattle.paper.specs.Widths.{format_of};
-ghost use Rattle.paper.specs.Calls.{readerNext};
+ghost use Rattle.paper.specs.Calls.{reader_next};
 ghost use Rattle.reading.specs.Handed.{Handed};
 
 use paper::Width;
@@ -12,19 +12,19 @@ pub fn row_at(width: Width, table: &[u8], at: usize) -> &[u8]
     ensures { Handed (format_of width) table.entry at result }
 {
     let none = 0;
-    let w = bytes::row_bytes(paper::format_of(width));
+    let w = octets::row_bytes(paper::format_of(width));
     let rows = table.len() / w;
     if at < rows {
-        return bytes::record(table, w, at);
+        return octets::record(table, w, at);
     }
     &table[none..none]
 }
 
 // The place after a row; past the last whole row, the same place.
 pub fn place_after(width: Width, table: &[u8], at: usize) -> usize
-    ensures { result ≡ readerNext (format_of width) table.now at }
+    ensures { result ≡ reader_next (format_of width) table.now at }
 {
-    let w = bytes::row_bytes(paper::format_of(width));
+    let w = octets::row_bytes(paper::format_of(width));
     if at < table.len() / w {
         return at + 1;
     }
@@ -55,7 +55,7 @@ pub fn row<'a>(r: Reader<'a>) -> &'a [u8]
 
 // The reader one row on, over the same table.
 pub fn next<'a>(r: Reader<'a>) -> Reader<'a>
-    ensures { (result.table ≡ r.entry.table) × (result.at ≡ readerNext (format_of r.entry.width) r.entry.table.now r.entry.at) × (result.width ≡ r.entry.width) }
+    ensures { (result.table ≡ r.entry.table) × (result.at ≡ reader_next (format_of r.entry.width) r.entry.table.now r.entry.at) × (result.width ≡ r.entry.width) }
 {
     let at = place_after(r.width, r.table, r.at);
     Reader {
@@ -74,7 +74,7 @@ pub fn handed<'a>(width: Width, table: &'a [u8], at: usize) -> &'a [u8]
 
 // The row that it hands out next.
 pub fn handed_next<'a>(width: Width, table: &'a [u8], at: usize) -> &'a [u8]
-    ensures { Handed (format_of width) table.entry (readerNext (format_of width) table.now at) result }
+    ensures { Handed (format_of width) table.entry (reader_next (format_of width) table.now at) result }
 {
     row(next(make(width, table, at)))
 }

@@ -4,21 +4,21 @@ use mathlib.Core.Path.{◌≡◌, ◌∙◌, ap}
 use mathlib.Core.List.{List, ◌++◌}
 use lib.ListN.{length, drop, length-map}
 use borrow.Author.Tests.{lt-ltb, le-ltb}
-use Rattle.paper.specs.Format.{Format, mostLines}
+use Rattle.paper.specs.Format.{Format, most_lines}
 use Rattle.paper.specs.Tables.{rows}
 use Rattle.paper.specs.Closeness.{Node, nodes}
 use Rattle.paper.specs.Shapes.{Shape}
-use Rattle.paper.specs.NewTable.{Line, lines, newTable, sourceList, entryUnit}
-use Rattle.paper.specs.Figures.{Figures, figures, noFigures}
-use Rattle.paper.specs.Calls.{Answer, Work, refused, given, ◌>>=◌, refuse, reply, after, tests1-7, test8, roomIn, reshaping, Reshaping, reshapeRows, reshape, summariseRows, summarise}
-use Rattle.shapes.specs.Tests.{shapeIn}
+use Rattle.paper.specs.NewTable.{Line, lines, new_table, source_list, entry_unit}
+use Rattle.paper.specs.Figures.{Figures, figures, no_figures}
+use Rattle.paper.specs.Calls.{Answer, Work, refused, given, ◌>>=◌, refuse, reply, after, tests1_7, test8, room_in, reshaping, Reshaping, reshape_rows, reshape, summarise_rows, summarise}
+use Rattle.shapes.specs.Tests.{shape_in}
 use Rattle.shapes.specs.Work.{Ready}
 use Rattle.shapes.specs.Work
 
 -- ---- what the calls make of what the tests give
 -- the figures, after the test after 7
 abbrev counted : Format → Work → Answer Figures
-counted f x = test8 f x mostLines >>= (λ l. given (figures x.nodes x.shape l))
+counted f x = test8 f x most_lines >>= (λ l. given (figures x.nodes x.shape l))
 
 module _ (f : Format) (table sources : List ℕ) where
   -- what a reshape leaves, once it is known what it gives
@@ -32,19 +32,19 @@ module _ (f : Format) (table sources : List ℕ) where
   -- the new table and its source list, after the test after 7
   abbrev rest : Work → Answer (List ℕ × List ℕ)
   rest x =
-      test8 f x (roomIn f table sources)
-      >>= (λ (l : List Line). given (newTable f x.shape x.rows l, sourceList l))
+      test8 f x (room_in f table sources)
+      >>= (λ (l : List Line). given (new_table f x.shape x.rows l, source_list l))
 
 -- ---- 1 to 7
-module _ (f : Format) (t s : List ℕ) (k p : ℕ) (e : tests1-7 f t s ≡ refused k p) where
+module _ (f : Format) (t s : List ℕ) (k p : ℕ) (e : tests1_7 f t s ≡ refused k p) where
   pub reshape-refused : (table sources : List ℕ)
       → reshape f t s table sources ≡ record { reply = record { number = k; place = p; rest = 0 }; table = table; sources = sources }
-  unfolding reshape reshapeRows reshaping
+  unfolding reshape reshape_rows reshaping
   reshape-refused table sources = ap (λ a. from f table sources (a >>= rest f table sources)) e
 
-  pub summary-refused : summarise f t s ≡ record { number = k; place = p; rest = noFigures }
-  unfolding summarise summariseRows
-  summary-refused = ap (λ a. reply noFigures (a >>= counted f)) e
+  pub summary_refused : summarise f t s ≡ record { number = k; place = p; rest = no_figures }
+  unfolding summarise summarise_rows
+  summary_refused = ap (λ a. reply no_figures (a >>= counted f)) e
 
 -- ---- 8, and what is given
 module _ {f : Format} {t s : List ℕ} {w : Work.Work} (y : Ready f t s w) where
@@ -52,7 +52,7 @@ module _ {f : Format} {t s : List ℕ} {w : Work.Work} (y : Ready f t s w) where
   ns = nodes (rows f t)
 
   abbrev sh : Shape
-  sh = shapeIn f t s
+  sh = shape_in f t s
 
   abbrev ls : List Line
   ls = lines ns sh f.levels
@@ -63,45 +63,45 @@ module _ {f : Format} {t s : List ℕ} {w : Work.Work} (y : Ready f t s w) where
   module _ (table sources : List ℕ) where
     -- what is written of the lines
     abbrev written : List Line → Answer (List ℕ × List ℕ)
-    written l = given (newTable f sh (rows f t) l, sourceList l)
+    written l = given (new_table f sh (rows f t) l, source_list l)
 
     same : reshape f t s table sources ≡ from f table sources (rest f table sources work)
-    unfolding reshape reshapeRows reshaping
+    unfolding reshape reshape_rows reshaping
     same = ap (λ a. from f table sources (a >>= rest f table sources)) y.given_is
 
     -- 8: more lines than there is room for
-    pub reshape-full : roomIn f table sources < length (lines (nodes (rows f t)) (shapeIn f t s) f.levels)
+    pub reshape_full : room_in f table sources < length (lines (nodes (rows f t)) (shape_in f t s) f.levels)
         → reshape f t s table sources ≡ record { reply = record { number = 8; place = 0; rest = 0 }; table = table; sources = sources }
     unfolding test8
-    reshape-full lt =
-        same ∙ ap (λ b. from f table sources (refuse 8 b >>= (λ _. given ls) >>= written)) (lt-ltb (roomIn f table sources) (length ls) lt)
+    reshape_full lt =
+        same ∙ ap (λ b. from f table sources (refuse 8 b >>= (λ _. given ls) >>= written)) (lt-ltb (room_in f table sources) (length ls) lt)
 
-    pub reshape-given : length (lines (nodes (rows f t)) (shapeIn f t s) f.levels) ≤ roomIn f table sources
-        → let new = newTable f (shapeIn f t s) (rows f t) (lines (nodes (rows f t)) (shapeIn f t s) f.levels) in
-        let list = sourceList (lines (nodes (rows f t)) (shapeIn f t s) f.levels) in
+    pub reshape-given : length (lines (nodes (rows f t)) (shape_in f t s) f.levels) ≤ room_in f table sources
+        → let new = new_table f (shape_in f t s) (rows f t) (lines (nodes (rows f t)) (shape_in f t s) f.levels) in
+        let list = source_list (lines (nodes (rows f t)) (shape_in f t s) f.levels) in
         reshape f t s table sources ≡ record {
-          reply = record { number = 0; place = 0; rest = length (lines (nodes (rows f t)) (shapeIn f t s) f.levels) };
+          reply = record { number = 0; place = 0; rest = length (lines (nodes (rows f t)) (shape_in f t s) f.levels) };
           table = new ++ drop (length new) table;
           sources = list ++ drop (length list) sources;
         }
-    unfolding test8 sourceList
+    unfolding test8 source_list
     reshape-given le =
-        same ∙ ap (λ b. from f table sources (refuse 8 b >>= (λ _. given ls) >>= written)) (le-ltb (roomIn f table sources) (length ls) le)
-        ∙ ap {B = Reshaping} (λ n. record { reply = record { number = 0; place = 0; rest = n }; table = newTable f sh (rows f t) ls ++ drop (length (newTable f sh (rows f t) ls)) table; sources = sourceList ls ++ drop (length (sourceList ls)) sources }) (length-map ls (λ (l : Line). l.entry * entryUnit + l.source.place))
+        same ∙ ap (λ b. from f table sources (refuse 8 b >>= (λ _. given ls) >>= written)) (le-ltb (room_in f table sources) (length ls) le)
+        ∙ ap {B = Reshaping} (λ n. record { reply = record { number = 0; place = 0; rest = n }; table = new_table f sh (rows f t) ls ++ drop (length (new_table f sh (rows f t) ls)) table; sources = source_list ls ++ drop (length (source_list ls)) sources }) (length-map ls (λ (l : Line). l.entry * entry_unit + l.source.place))
 
-  pub summary-full : mostLines < length (lines (nodes (rows f t)) (shapeIn f t s) f.levels) → summarise f t s ≡ record { number = 8; place = 0; rest = noFigures }
-  unfolding summarise summariseRows test8
-  summary-full lt =
-      ap (λ a. reply noFigures (a >>= counted f)) y.given_is
-      ∙ ap (λ b. reply noFigures (refuse 8 b >>= (λ _. given ls) >>= (λ l. given (figures ns sh l)))) (lt-ltb mostLines (length ls) lt)
+  pub summary_full : most_lines < length (lines (nodes (rows f t)) (shape_in f t s) f.levels) → summarise f t s ≡ record { number = 8; place = 0; rest = no_figures }
+  unfolding summarise summarise_rows test8
+  summary_full lt =
+      ap (λ a. reply no_figures (a >>= counted f)) y.given_is
+      ∙ ap (λ b. reply no_figures (refuse 8 b >>= (λ _. given ls) >>= (λ l. given (figures ns sh l)))) (lt-ltb most_lines (length ls) lt)
 
-  pub summary-given : length (lines (nodes (rows f t)) (shapeIn f t s) f.levels) ≤ mostLines
+  pub summary_given : length (lines (nodes (rows f t)) (shape_in f t s) f.levels) ≤ most_lines
       → summarise f t s ≡ record {
         number = 0;
         place = 0;
-        rest = figures (nodes (rows f t)) (shapeIn f t s) (lines (nodes (rows f t)) (shapeIn f t s) f.levels);
+        rest = figures (nodes (rows f t)) (shape_in f t s) (lines (nodes (rows f t)) (shape_in f t s) f.levels);
       }
-  unfolding summarise summariseRows test8
-  summary-given le =
-      ap (λ a. reply noFigures (a >>= counted f)) y.given_is
-      ∙ ap (λ b. reply noFigures (refuse 8 b >>= (λ _. given ls) >>= (λ l. given (figures ns sh l)))) (le-ltb mostLines (length ls) le)
+  unfolding summarise summarise_rows test8
+  summary_given le =
+      ap (λ a. reply no_figures (a >>= counted f)) y.given_is
+      ∙ ap (λ b. reply no_figures (refuse 8 b >>= (λ _. given ls) >>= (λ l. given (figures ns sh l)))) (le-ltb most_lines (length ls) le)

@@ -4,7 +4,7 @@ use mathlib.Core.Path.{◌≡◌, sym, ◌∙◌, ap, subst}
 use mathlib.Core.Bool.{true}
 use mathlib.Core.List.{List}
 use lib.ListN.{take}
-use Rattle.paper.specs.Format.{Format, mostRows, rowBytes}
+use Rattle.paper.specs.Format.{Format, most_rows, row_bytes}
 use Rattle.paper.specs.Tables.{Row}
 use Rattle.paper.specs.Verdict.{kept, missing}
 use Rattle.paper.specs.Links.{LinksKept}
@@ -14,8 +14,8 @@ use Rattle.paper.specs.Edges.{ChildrenShown, ChildrenBetween}
 use Rattle.paper.specs.Figures.{Figures}
 use Rattle.paper.specs.Shown.{FiguresAgree}
 use Rattle.paper.specs.Calls.{Reply, given, judge, summarise}
-use Rattle.paper.specs.Index.{testsIndex, summariseWith}
-use Rattle.paper.proofs.Figures.{summary-agrees, summary-shows-all}
+use Rattle.paper.specs.Index.{tests_index, summarise_with}
+use Rattle.paper.proofs.Figures.{summary_agrees, summary_shows_all}
 use Rattle.paper.proofs.Index.{index_reads}
 use Rattle.paper.proofs.WithIndex.{summarise-plain}
 use Rattle.reshaping.specs.Reshaped.{reshaped, summarised, Reshapes, ReshapesWith}
@@ -23,51 +23,51 @@ use Rattle.reshaping.specs.declared.reshape.Reshaped.{Reshaped}
 use Rattle.reshaping.specs.declared.summarise.Summary.{Summary}
 
 -- two answers that are one reply are one
-answer-same : (a b : Reshaped) → reshaped a ≡ reshaped b → a ≡ b
-answer-same a b = ap {B = Reshaped} (λ (r : Reply ℕ). record { number = r.number; place = r.place; lines = r.rest })
+answer_same : (a b : Reshaped) → reshaped a ≡ reshaped b → a ≡ b
+answer_same a b = ap {B = Reshaped} (λ (r : Reply ℕ). record { number = r.number; place = r.place; lines = r.rest })
 
 module _ {f : Format} {t s new sources new₁ sources₁ : List ℕ} {a : Reshaped} (p : Reshapes f t s new sources a new₁ sources₁) where
   -- Two reshapes that keep the promise give one answer, and leave the same in every lent byte and place.
-  pub reshape-unique : {new₂ sources₂ : List ℕ} {b : Reshaped} → Reshapes f t s new sources b new₂ sources₂ → (a ≡ b) × (new₁ ≡ new₂) × (sources₁ ≡ sources₂)
-  reshape-unique {b = b} q = (
-    answer-same a b (p.answer ∙ sym q.answer),
+  pub reshape_unique : {new₂ sources₂ : List ℕ} {b : Reshaped} → Reshapes f t s new sources b new₂ sources₂ → (a ≡ b) × (new₁ ≡ new₂) × (sources₁ ≡ sources₂)
+  reshape_unique {b = b} q = (
+    answer_same a b (p.answer ∙ sym q.answer),
     p.bytes ∙ sym q.bytes,
     p.places ∙ sym q.places,
   )
 
   -- Demand 3 is a part of the promise.
-  pub links-promised : a.number ≡ 0 → (judge f t s).rest.verdict ≡ kept
-      → LinksKept f t s (take (a.lines * rowBytes f) new₁) (take a.lines sources₁)
-  links-promised = p.links
+  pub links_promised : a.number ≡ 0 → (judge f t s).rest.verdict ≡ kept
+      → LinksKept f t s (take (a.lines * row_bytes f) new₁) (take a.lines sources₁)
+  links_promised = p.links
 
   -- So is it that where the second answer is yes nothing is made up.
-  pub none-made-up-promised : a.number ≡ 0 → (judge f t s).rest.noneApart ≡ true
-      → NothingMadeUp f t s (take (a.lines * rowBytes f) new₁) (take a.lines sources₁)
-  none-made-up-promised = p.none-made-up-lem
+  pub none_made_up_promised : a.number ≡ 0 → (judge f t s).rest.none_apart ≡ true
+      → NothingMadeUp f t s (take (a.lines * row_bytes f) new₁) (take a.lines sources₁)
+  none_made_up_promised = p.none_made_up_lem
 
   -- So is it that the row that verdict 1 names is in no line of the entry that it names.
-  pub named-unshown-promised : a.number ≡ 0 → (e i : ℕ) → (judge f t s).rest.verdict ≡ missing e i → unshown e i (take a.lines sources₁) ≡ true
-  named-unshown-promised = p.named-unshown-lem
+  pub named_unshown_promised : a.number ≡ 0 → (e i : ℕ) → (judge f t s).rest.verdict ≡ missing e i → unshown e i (take a.lines sources₁) ≡ true
+  named_unshown_promised = p.named_unshown_lem
 
   -- So is it how many lines stand directly beneath a line, and that judging's numbers bound it.
-  pub children-promised : a.number ≡ 0 → ChildrenShown f t s (take (a.lines * rowBytes f) new₁) (take a.lines sources₁)
-  children-promised = p.children
+  pub children_promised : a.number ≡ 0 → ChildrenShown f t s (take (a.lines * row_bytes f) new₁) (take a.lines sources₁)
+  children_promised = p.children
 
-  pub between-promised : a.number ≡ 0 → ChildrenBetween f t s (take (a.lines * rowBytes f) new₁) (take a.lines sources₁)
-  between-promised = p.between
+  pub between_promised : a.number ≡ 0 → ChildrenBetween f t s (take (a.lines * row_bytes f) new₁) (take a.lines sources₁)
+  between_promised = p.between
 
   -- So is it that a new table keeps the row rules, whatever its length.
-  pub rules-promised : a.number ≡ 0 → KeepsRules f (take (a.lines * rowBytes f) new₁) a.lines
-  rules-promised = p.rules
+  pub rules_promised : a.number ≡ 0 → KeepsRules f (take (a.lines * row_bytes f) new₁) a.lines
+  rules_promised = p.rules
 
   -- So is it that a new table of at most 1,024 lines is a sound source.
-  pub sound-promised : a.number ≡ 0 → a.lines ≤ mostRows → SoundSource f s (take (a.lines * rowBytes f) new₁) a.lines
-  sound-promised = p.sound
+  pub sound_promised : a.number ≡ 0 → a.lines ≤ most_rows → SoundSource f s (take (a.lines * row_bytes f) new₁) a.lines
+  sound_promised = p.sound
 
 -- ---- summarising
 -- two summaries that are one reply are one
-summary-same : (a b : Summary) → summarised a ≡ summarised b → a ≡ b
-summary-same a b e =
+summary_same : (a b : Summary) → summarised a ≡ summarised b → a ≡ b
+summary_same a b e =
     let from : Reply Figures → Summary = λ r. record {
       number = r.number;
       place = r.place;
@@ -78,33 +78,33 @@ summary-same a b e =
     } in
     ap from e
 
-pub summarise-unique : (f : Format) (t s : List ℕ) (a b : Summary) → summarised a ≡ summarise f t s → summarised b ≡ summarise f t s → a ≡ b
-summarise-unique f t s a b ea eb = summary-same a b (ea ∙ sym eb)
+pub summarise_unique : (f : Format) (t s : List ℕ) (a b : Summary) → summarised a ≡ summarise f t s → summarised b ≡ summarise f t s → a ≡ b
+summarise_unique f t s a b ea eb = summary_same a b (ea ∙ sym eb)
 
 module _ (f : Format) (t s : List ℕ) (a : Summary) (q : summarised a ≡ summarise f t s) where
   -- An entry's different rows are no more than its lines, nor than the rows of its type, and its other lines are copies.
-  pub figures-agree : (e : ℕ) → FiguresAgree (summarised a).rest e
-  figures-agree e = subst (λ (r : Reply Figures). FiguresAgree r.rest e) (sym q) (summary-agrees f t s e)
+  pub figures_agree : (e : ℕ) → FiguresAgree (summarised a).rest e
+  figures_agree e = subst (λ (r : Reply Figures). FiguresAgree r.rest e) (sym q) (summary_agrees f t s e)
 
   -- Where the verdict is 0, every row of an entry's type is shown.
   pub all_shown : (judge f t s).rest.verdict ≡ kept → a.different ≡ a.rows
-  all_shown ok = subst (λ (r : Reply Figures). r.rest.different ≡ r.rest.rows) (sym q) (summary-shows-all f t s ok)
+  all_shown ok = subst (λ (r : Reply Figures). r.rest.different ≡ r.rest.rows) (sym q) (summary_shows_all f t s ok)
 
 -- ---- with an index
 module _ {f : Format} {t s last next new sources new₁ sources₁ : List ℕ} {a : Reshaped} (p : ReshapesWith f t s last next new sources a new₁ sources₁) where
   -- Two reshapes with an index that keep the promise give one answer, and leave the same in every lent byte and place.
-  pub reshape-with-unique : {new₂ sources₂ : List ℕ} {b : Reshaped} → ReshapesWith f t s last next new sources b new₂ sources₂
+  pub reshape_with_unique : {new₂ sources₂ : List ℕ} {b : Reshaped} → ReshapesWith f t s last next new sources b new₂ sources₂
       → (a ≡ b) × (new₁ ≡ new₂) × (sources₁ ≡ sources₂)
-  reshape-with-unique {b = b} q = (answer-same a b (p.answer ∙ sym q.answer), p.bytes ∙ sym q.bytes, p.places ∙ sym q.places)
+  reshape_with_unique {b = b} q = (answer_same a b (p.answer ∙ sym q.answer), p.bytes ∙ sym q.bytes, p.places ∙ sym q.places)
 
   -- Where the index is this table's, all that is promised of a reshape without one is a part of the promise.
-  pub plain-promised : (rs : List Row) → testsIndex f t last next ≡ given rs → Reshapes f t s new sources a new₁ sources₁
-  plain-promised = p.plain
+  pub plain_promised : (rs : List Row) → tests_index f t last next ≡ given rs → Reshapes f t s new sources a new₁ sources₁
+  plain_promised = p.plain
 
-module _ (f : Format) (t s last next : List ℕ) (a : Summary) (q : summarised a ≡ summariseWith f t s last next) where
-  pub summarise-with-unique : (b : Summary) → summarised b ≡ summariseWith f t s last next → a ≡ b
-  summarise-with-unique b e = summary-same a b (q ∙ sym e)
+module _ (f : Format) (t s last next : List ℕ) (a : Summary) (q : summarised a ≡ summarise_with f t s last next) where
+  pub summarise_with_unique : (b : Summary) → summarised b ≡ summarise_with f t s last next → a ≡ b
+  summarise_with_unique b e = summary_same a b (q ∙ sym e)
 
   -- Where the index is this table's, it is the summary without one.
-  pub summary-as-plain : (rs : List Row) → testsIndex f t last next ≡ given rs → summarised a ≡ summarise f t s
-  summary-as-plain rs e = q ∙ summarise-plain f t s last next (index_reads f t last next rs e)
+  pub summary_as_plain : (rs : List Row) → tests_index f t last next ≡ given rs → summarised a ≡ summarise f t s
+  summary_as_plain rs e = q ∙ summarise-plain f t s last next (index_reads f t last next rs e)

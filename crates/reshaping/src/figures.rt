@@ -1,7 +1,7 @@
 // The figures of a summary beside its lines: for each entry the rows of its type, copies, and different rows.
 ghost use Rattle.std.specs.Prelude.{ℕ, ◌+◌, ◌*◌, ◌≤◌, ◌<◌, ◌≡◌, length, get_or};
-ghost use Rattle.paper.specs.Format.{mostRows, mostEntries};
-ghost use Rattle.reshaping.specs.Figures.{heldBy, differentIn, Figured};
+ghost use Rattle.paper.specs.Format.{most_rows, most_entries};
+ghost use Rattle.reshaping.specs.Figures.{held_by, different_in, Figured};
 
 use crate::summarise::Summary;
 use tables::row::smaller;
@@ -15,9 +15,9 @@ struct EntryRows {
 
 // The rows of type k, which is entry e's. A row that the entry's lines show counts once among the different ones, however often they show it.
 fn entry_rows(types: &[u8], rows: usize, k: u8, shows: &[u16], e: usize) -> EntryRows
-    requires { (rows ≤ length types.now) × (rows ≤ mostRows) × (mostRows * e + rows ≤ length shows.now) }
-    ensures held_value { result.held ≡ heldBy types.now rows k }
-    ensures different_value { result.different ≡ differentIn types.now rows k shows.now e }
+    requires { (rows ≤ length types.now) × (rows ≤ most_rows) × (most_rows * e + rows ≤ length shows.now) }
+    ensures held_value { result.held ≡ held_by types.now rows k }
+    ensures different_value { result.different ≡ different_in types.now rows k shows.now e }
 {
     let entry_at = 1024 * e;
     let mut held = 0;
@@ -26,7 +26,7 @@ fn entry_rows(types: &[u8], rows: usize, k: u8, shows: &[u16], e: usize) -> Entr
     while i < rows {
         if types[i] == k {
             held += 1;
-            different += smaller(bytes::wide16(shows[entry_at + i]), 1);
+            different += smaller(octets::wide16(shows[entry_at + i]), 1);
             i += 1;
         } else {
             i += 1;
@@ -47,8 +47,8 @@ pub fn figures_of(
     shows: &[u16],
     lines: [usize; 16],
 ) -> Summary
-    requires rows_in_bounds { (rows ≤ length types.now) × (rows ≤ mostRows) × (entries ≤ mostEntries) × (mostEntries * mostRows ≤ length shows.now) }
-    requires by_index { (e : ℕ) → e < entries → differentIn types.now rows (get_or wanted e 0) shows.now e ≤ get_or lines e 0 }
+    requires rows_in_bounds { (rows ≤ length types.now) × (rows ≤ most_rows) × (entries ≤ most_entries) × (most_entries * most_rows ≤ length shows.now) }
+    requires by_index { (e : ℕ) → e < entries → different_in types.now rows (get_or wanted e 0) shows.now e ≤ get_or lines e 0 }
     ensures { Figured types.now rows wanted entries shows.now lines result }
 {
     let mut held = [0; 16];

@@ -1,7 +1,7 @@
 // Reshaping a table to a shape: the new table and its source list, into what was lent.
 ghost use Rattle.std.specs.Prelude.{◌≡◌, ◌/◌, ◌≤◌, min, length};
-ghost use Rattle.paper.specs.Format.{mostLines, rowBytes};
-ghost use Rattle.bytes.specs.Served.{Served};
+ghost use Rattle.paper.specs.Format.{most_lines, row_bytes};
+ghost use Rattle.octets.specs.Served.{Served};
 ghost use Rattle.closest.specs.Runs.{NextRows};
 ghost use Rattle.closest.specs.Rows.{RowsIn};
 ghost use Rattle.reshaping.specs.Reshaped.{reshaped, Reshapes, ReshapesWith};
@@ -26,10 +26,10 @@ pub struct Reshaped {
 // The room for lines in so many bytes and so many places of a source list.
 fn room_in(bytes: usize, f: Format, places: usize) -> usize
     requires { Served f }
-    ensures { result ≡ min (bytes / rowBytes f) (min places mostLines) }
+    ensures { result ≡ min (bytes / row_bytes f) (min places most_lines) }
 {
     tables::row::smaller(
-        bytes / bytes::row_bytes(f),
+        bytes / octets::row_bytes(f),
         tables::row::smaller(places, 4096),
     )
 }

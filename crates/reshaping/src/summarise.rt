@@ -1,9 +1,9 @@
 // Summarising a reshape: what each entry would show, with nothing written.
 ghost use Rattle.std.specs.Prelude.{◌≡◌};
-ghost use Rattle.paper.specs.Figures.{noFigures};
+ghost use Rattle.paper.specs.Figures.{no_figures};
 ghost use Rattle.paper.specs.Calls.{summarise};
-ghost use Rattle.paper.specs.Index.{summariseWith};
-ghost use Rattle.bytes.specs.Served.{Served};
+ghost use Rattle.paper.specs.Index.{summarise_with};
+ghost use Rattle.octets.specs.Served.{Served};
 ghost use Rattle.closest.specs.Rows.{SomeRows};
 ghost use Rattle.reshaping.specs.Reshaped.{summarised};
 ghost use Rattle.reshaping.specs.Rows.{SummarisesRows};
@@ -29,7 +29,7 @@ pub struct Summary {
 }
 
 pub fn refused(number: usize, place: usize) -> Summary
-    ensures { summarised result ≡ record { number = number; place = place; rest = noFigures } }
+    ensures { summarised result ≡ record { number = number; place = place; rest = no_figures } }
 {
     Summary {
         number: number,
@@ -100,7 +100,7 @@ pub fn summarise_with_index(
     next: &[u16],
 ) -> Summary
     requires { Served f }
-    ensures { summarised result ≡ summariseWith f table.now shape.now last.now next.now }
+    ensures { summarised result ≡ summarise_with f table.now shape.now last.now next.now }
 {
     let mut levels = [0u8; 1024];
     let mut types = [0u8; 1024];

@@ -11,9 +11,9 @@ use borrow.Author.Tests.{eq-eqb, ne_eqb, ltb-true, not-true}
 use types.Run.{OneOf}
 use Rattle.paper.specs.Lists.{any, first_or, count}
 use Rattle.paper.proofs.Lists.{or_left, or_right, all-has, has-count}
-use Rattle.grammar.specs.Text.{ascii, digit, digitsIn, decimal}
-use Rattle.grammar.specs.Names.{names, named, name_of, nameText}
-use Rattle.names.proofs.Naming.{has-name}
+use Rattle.grammar.specs.Text.{ascii, digit, digits_in, decimal}
+use Rattle.grammar.specs.Names.{names, named, name_of, name_text}
+use Rattle.names.proofs.Naming.{has_name}
 use Rattle.screens.specs.Screens.{vowel, article}
 -- A wrong definition is refused first by the sample that it breaks, so the samples stand before the laws.
 use Rattle.screens.specs.Samples
@@ -33,14 +33,14 @@ missed (k ∷ []) b out = rw (ne_eqb b k out) refl
 missed (k ∷ j ∷ ks) b out = rw (ne_eqb b k (λ e. out (inl e))) (missed (j ∷ ks) b (λ h. out (inr h)))
 
 -- One of the five is a vowel.
-pub a-vowel : (b : ℕ) → OneOf (ascii "aeiou") b → true ≡ vowel b
+pub a_vowel : (b : ℕ) → OneOf (ascii "aeiou") b → true ≡ vowel b
 unfolding vowel
-a-vowel b h = sym (found (ascii "aeiou") b h)
+a_vowel b h = sym (found (ascii "aeiou") b h)
 
 -- None of them is no vowel.
-pub no-vowel : (b : ℕ) → (OneOf (ascii "aeiou") b → ⊥) → false ≡ vowel b
+pub no_vowel : (b : ℕ) → (OneOf (ascii "aeiou") b → ⊥) → false ≡ vowel b
 unfolding vowel
-no-vowel b out = sym (missed (ascii "aeiou") b out)
+no_vowel b out = sym (missed (ascii "aeiou") b out)
 
 -- ---- a number
 -- the text begins with a digit
@@ -52,61 +52,61 @@ longer : {a : List ℕ} (b : List ℕ) → Figure a → Figure (a ++ b)
 longer b (figure d lt) = figure d lt
 
 -- A number's digits begin with one.
-digits-figure : (f n : ℕ) → n ≤ f → Figure (digitsIn f n)
-unfolding digitsIn
-digits-figure zero n le = figure n (omega arith)
-digits-figure (suc f) n le = by-test (ltb n 10) refl (digits-figure f (n / 10) (omega arith))
+digits_figure : (f n : ℕ) → n ≤ f → Figure (digits_in f n)
+unfolding digits_in
+digits_figure zero n le = figure n (omega arith)
+digits_figure (suc f) n le = by_test (ltb n 10) refl (digits_figure f (n / 10) (omega arith))
   where
-    by-test : (b : Bool) → ltb n 10 ≡ b → Figure (digitsIn f (n / 10))
-        → Figure (elim b [ true ↦ digit n ∷ [] | false ↦ digitsIn f (n / 10) ++ (digit (n % 10) ∷ []) ])
-    by-test true e h = figure n (omega (arith, ltb-true))
-    by-test false e h = longer (digit (n % 10) ∷ []) h
+    by_test : (b : Bool) → ltb n 10 ≡ b → Figure (digits_in f (n / 10))
+        → Figure (elim b [ true ↦ digit n ∷ [] | false ↦ digits_in f (n / 10) ++ (digit (n % 10) ∷ []) ])
+    by_test true e h = figure n (omega (arith, ltb-true))
+    by_test false e h = longer (digit (n % 10) ∷ []) h
 
 -- the digit is no vowel
 plain : ℕ → Bool
 plain d = not (vowel (digit d))
 
 -- No digit is one.
-digit-no-vowel : (d : ℕ) → d < 10 → vowel (digit d) ≡ false
+digit_no_vowel : (d : ℕ) → d < 10 → vowel (digit d) ≡ false
 unfolding vowel plain
-digit-no-vowel d lt = not-true (vowel (digit d)) (all-has plain d (count 0 10) refl (has-count 0 10 d (omega arith) (omega arith)))
+digit_no_vowel d lt = not-true (vowel (digit d)) (all-has plain d (count 0 10) refl (has-count 0 10 d (omega arith) (omega arith)))
 
 -- So a text that begins with a digit begins with no vowel.
-figure-no-vowel : {t : List ℕ} → Figure t → vowel (first_or 0 t) ≡ false
-figure-no-vowel (figure d lt) = digit-no-vowel d lt
+figure_no_vowel : {t : List ℕ} → Figure t → vowel (first_or 0 t) ≡ false
+figure_no_vowel (figure d lt) = digit_no_vowel d lt
 
 -- Nor does a label that prints as a number.
-pub number-first : (l : ℕ) → decimal l ≡ nameText l → false ≡ vowel (first_or 0 (nameText l))
+pub number-first : (l : ℕ) → decimal l ≡ name_text l → false ≡ vowel (first_or 0 (name_text l))
 unfolding decimal
-number-first l e = sym (figure-no-vowel (digits-figure l l (omega arith))) ∙ ap (λ t. vowel (first_or 0 t)) e
+number-first l e = sym (figure_no_vowel (digits_figure l l (omega arith))) ∙ ap (λ t. vowel (first_or 0 t)) e
 
 -- ---- a name
 -- What is held for a text begins as it does.
-first-held : (held text : List ℕ) → 0 < length text → take (length text) held ≡ text → get_or held 0 0 ≡ first_or 0 text
-first-held held [] lt e = absurd (omega arith)
-first-held [] (x ∷ xs) lt e = ap (first_or 0) e
-first-held (y ∷ ys) (x ∷ xs) lt e = ap (first_or 0) e
+first_held : (held text : List ℕ) → 0 < length text → take (length text) held ≡ text → get_or held 0 0 ≡ first_or 0 text
+first_held held [] lt e = absurd (omega arith)
+first_held [] (x ∷ xs) lt e = ap (first_or 0) e
+first_held (y ∷ ys) (x ∷ xs) lt e = ap (first_or 0) e
 
 -- the name of label k + 1 has a byte
 some : ℕ → Bool
 some k = ltb 0 (length (name_of k))
 
 -- Every name has one.
-name-some : (k : ℕ) → k < named → 0 < length (name_of k)
+name_some : (k : ℕ) → k < named → 0 < length (name_of k)
 unfolding names name_of some
-name-some k lt = ltb-true 0 (length (name_of k)) (all-has some k (count 0 named) refl (has-count 0 named k (omega arith) (omega arith)))
+name_some k lt = ltb-true 0 (length (name_of k)) (all-has some k (count 0 named) refl (has-count 0 named k (omega arith) (omega arith)))
 
 -- A label that has a name begins with a vowel where what is held for the name does.
-pub name-first : (l k : ℕ) (held : List ℕ) → l ≡ k + 1 → k < named → take (length (name_of k)) held ≡ name_of k
-    → vowel (get_or held 0 0) ≡ vowel (first_or 0 (nameText l))
-name-first l k held e lt begins = ap vowel (first-held held (name_of k) (name-some k lt) begins ∙ ap (first_or 0) (has-name l k e (omega arith)))
+pub name_first : (l k : ℕ) (held : List ℕ) → l ≡ k + 1 → k < named → take (length (name_of k)) held ≡ name_of k
+    → vowel (get_or held 0 0) ≡ vowel (first_or 0 (name_text l))
+name_first l k held e lt begins = ap vowel (first_held held (name_of k) (name_some k lt) begins ∙ ap (first_or 0) (has_name l k e (omega arith)))
 
 -- ---- the article
 module _ (name : List ℕ) (b : Bool) (is : b ≡ vowel (first_or 0 name)) where
-  pub article-an : b ≡ true → ascii "an" ≡ article name
+  pub article_an : b ≡ true → ascii "an" ≡ article name
   unfolding article
-  article-an e = let first : vowel (first_or 0 name) ≡ true = sym is ∙ e in rw (first, article) refl
+  article_an e = let first : vowel (first_or 0 name) ≡ true = sym is ∙ e in rw (first, article) refl
 
-  pub article-a : b ≡ false → ascii "a" ≡ article name
+  pub article_a : b ≡ false → ascii "a" ≡ article name
   unfolding article
-  article-a e = let first : vowel (first_or 0 name) ≡ false = sym is ∙ e in rw (first, article) refl
+  article_a e = let first : vowel (first_or 0 name) ≡ false = sym is ∙ e in rw (first, article) refl

@@ -12,7 +12,7 @@ use Rattle.grammar.specs.Text.{ascii}
 use Rattle.listing.specs.Listing.{lined}
 use Rattle.names.specs.Put.{Put}
 use Rattle.names.proofs.Putting.{as_long, put_then}
-use Rattle.screens.specs.Screens.{rowsText, underText, typeText}
+use Rattle.screens.specs.Screens.{rows_text, under_text, type_text}
 -- A wrong definition is refused first by the sample that it breaks, so the samples stand before the laws.
 use Rattle.screens.specs.Samples
 
@@ -22,17 +22,17 @@ fits {l' = l'} {r = r} p le = (p, prefix_len_of_le r l' (omega (arith, as_long p
 
 -- ---- counts
 -- A text, a comma and a space, and another text, put one after the other.
-pub put-comma : {l x a b y c : List ℕ} {at i j k : ℕ} → Put l at x a i → Put a i (ascii ", ") b j → Put b j y c k → Put l at (x ++ ascii ", " ++ y) c k
-put-comma p q r = put_then (put_then p q) r
+pub put_comma : {l x a b y c : List ℕ} {at i j k : ℕ} → Put l at x a i → Put a i (ascii ", ") b j → Put b j y c k → Put l at (x ++ ascii ", " ++ y) c k
+put_comma p q r = put_then (put_then p q) r
 
 -- ---- a type
 module _ (s : Summary) (above : ℕ) where
   -- A root type stands under none.
-  pub root_line : s.level ≡ 1 → lined (rowsText s) ≡ typeText s above
-  unfolding typeText
-  root_line e = rw (eq-eqb s.level 1 e, typeText) (ap lined (sym (append-nil (rowsText s))))
+  pub root_line : s.level ≡ 1 → lined (rows_text s) ≡ type_text s above
+  unfolding type_text
+  root_line e = rw (eq-eqb s.level 1 e, type_text) (ap lined (sym (append-nil (rows_text s))))
 
   -- Any other stands under the type above.
-  pub lower-line : (s.level ≡ 1 → ⊥) → lined (rowsText s ++ underText s.least s.greatest above) ≡ typeText s above
-  unfolding typeText
-  lower-line e = rw (ne_eqb s.level 1 e, typeText) refl
+  pub lower_line : (s.level ≡ 1 → ⊥) → lined (rows_text s ++ under_text s.least s.greatest above) ≡ type_text s above
+  unfolding type_text
+  lower_line e = rw (ne_eqb s.level 1 e, type_text) refl

@@ -1,8 +1,8 @@
 -- Lines of the two screens, proved by computation. Assumes nothing.
 use Rattle.std.specs.Prelude.{ℕ, ◌-◌, ◌^◌, ◌≡◌, refl, List, [], ◌∷◌, ◌++◌, map}
-use Rattle.grammar.specs.Text.{ascii, digitsIn, decimal}
-use Rattle.grammar.specs.Names.{names, name_of, nameText}
-use Rattle.screens.specs.Screens.{counted, indent, vowel, article, withArticle, countsText, figuresText, rowsText, underText, typeText}
+use Rattle.grammar.specs.Text.{ascii, digits_in, decimal}
+use Rattle.grammar.specs.Names.{names, name_of, name_text}
+use Rattle.screens.specs.Screens.{counted, indent, vowel, article, with_article, counts_text, figures_text, rows_text, under_text, type_text}
 
 -- the largest number that is printed
 abbrev largest : ℕ
@@ -11,27 +11,27 @@ largest = 2 ^ 64 - 1
 -- the line of a type with this label, level, number of rows, least and greatest, under this label
 type_of : ℕ → ℕ → ℕ → ℕ → ℕ → ℕ → List ℕ
 type_of label level rows least greatest above =
-    typeText (record { parent = 0; label = label; level = level; rows = rows; least = least; greatest = greatest }) above
+    type_text (record { parent = 0; label = label; level = level; rows = rows; least = least; greatest = greatest }) above
 
 -- what the definitions say, beside what is to be printed
 pub samples : List (List ℕ × List ℕ)
 samples =
     -- one of each, none of each, more of each
-    (figuresText 1 0 3 1 1 1 1, ascii "0 lease: 1 line, 1 row, 1 copy, 1 different row\n")
-    ∷ (figuresText 1 0 3 0 0 0 0, ascii "0 lease: 0 lines, 0 rows, 0 copies, 0 different rows\n")
-    ∷ (figuresText 2 1 2 3 2 1 2, ascii "  1 lessee: 3 lines, 2 rows, 1 copy, 2 different rows\n")
-    ∷ (figuresText 2 10 4 11 11 21 31, ascii "  10 asset: 11 lines, 11 rows, 21 copies, 31 different rows\n")
+    (figures_text 1 0 3 1 1 1 1, ascii "0 lease: 1 line, 1 row, 1 copy, 1 different row\n")
+    ∷ (figures_text 1 0 3 0 0 0 0, ascii "0 lease: 0 lines, 0 rows, 0 copies, 0 different rows\n")
+    ∷ (figures_text 2 1 2 3 2 1 2, ascii "  1 lessee: 3 lines, 2 rows, 1 copy, 2 different rows\n")
+    ∷ (figures_text 2 10 4 11 11 21 31, ascii "  10 asset: 11 lines, 11 rows, 21 copies, 31 different rows\n")
     -- P5: one of its three leases does not appear, and one appears twice
-    ∷ (figuresText 2 1 3 3 3 1 2, ascii "  1 lease: 3 lines, 3 rows, 1 copy, 2 different rows\n")
+    ∷ (figures_text 2 1 3 3 3 1 2, ascii "  1 lease: 3 lines, 3 rows, 1 copy, 2 different rows\n")
     -- level 6, a label with no name, the largest numbers
-    ∷ (figuresText 6 15 21 4096 1023 3073 1023, ascii "          15 21: 4096 lines, 1023 rows, 3073 copies, 1023 different rows\n")
+    ∷ (figures_text 6 15 21 4096 1023 3073 1023, ascii "          15 21: 4096 lines, 1023 rows, 3073 copies, 1023 different rows\n")
     ∷ (
-      figuresText 6 largest largest largest largest largest largest,
+      figures_text 6 largest largest largest largest largest largest,
       ascii "          18446744073709551615 18446744073709551615: 18446744073709551615 lines, 18446744073709551615 rows"
           ++ ascii ", 18446744073709551615 copies, 18446744073709551615 different rows\n",
     )
     -- level 8
-    ∷ (figuresText 8 15 4 2 1 1 1, ascii "              15 asset: 2 lines, 1 row, 1 copy, 1 different row\n")
+    ∷ (figures_text 8 15 4 2 1 1 1, ascii "              15 asset: 2 lines, 1 row, 1 copy, 1 different row\n")
     ∷ (type_of 4 8 3 0 2 3, ascii "              asset 3 rows, 0..2 under a lease\n")
     -- a root type, of one row and of more
     ∷ (type_of 1 1 1 1 1 0, ascii "portfolio 1 row\n")
@@ -58,6 +58,6 @@ samples =
     ∷ []
 
 -- every sample is printed as it should be
-pub samples-hold : map (λ (p : List ℕ × List ℕ). p.0) samples ≡ map (λ (p : List ℕ × List ℕ). p.1) samples
-unfolding digitsIn decimal names name_of nameText counted indent vowel article withArticle countsText figuresText rowsText underText typeText type_of samples
-samples-hold = refl
+pub samples_hold : map (λ (p : List ℕ × List ℕ). p.0) samples ≡ map (λ (p : List ℕ × List ℕ). p.1) samples
+unfolding digits_in decimal names name_of name_text counted indent vowel article with_article counts_text figures_text rows_text under_text type_text type_of samples
+samples_hold = refl

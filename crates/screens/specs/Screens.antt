@@ -3,7 +3,7 @@ use Rattle.std.specs.Prelude.{ℕ, ◌*◌, ◌-◌, Bool, true, false, List, []
 use Rattle.paper.specs.Lists.{any, first_or}
 use Rattle.paper.specs.Adorned.{Summary}
 use Rattle.grammar.specs.Text.{ascii, space, decimal}
-use Rattle.grammar.specs.Names.{nameText}
+use Rattle.grammar.specs.Names.{name_text}
 use Rattle.listing.specs.Listing.{lined}
 
 -- ---- words
@@ -24,13 +24,13 @@ unfoldable pub article : List ℕ → List ℕ
 article name = elim (vowel (first_or 0 name)) [ true ↦ ascii "an" | false ↦ ascii "a" ]
 
 -- a name with its article before it
-unfoldable pub withArticle : List ℕ → List ℕ
-withArticle name = article name ++ (space ∷ name)
+unfoldable pub with_article : List ℕ → List ℕ
+with_article name = article name ++ (space ∷ name)
 
 -- ---- an entry's figures
 -- `LINES lines, ROWS rows, COPIES copies, DIFFERENT different rows`
-unfoldable pub countsText : ℕ → ℕ → ℕ → ℕ → List ℕ
-countsText lines rows copies different =
+unfoldable pub counts_text : ℕ → ℕ → ℕ → ℕ → List ℕ
+counts_text lines rows copies different =
     counted lines (ascii "line") (ascii "lines")
     ++ ascii ", "
     ++ counted rows (ascii "row") (ascii "rows")
@@ -40,20 +40,20 @@ countsText lines rows copies different =
     ++ counted different (ascii "different row") (ascii "different rows")
 
 -- `ENTRY NAME: ` and the counts, indented by the entry's level
-unfoldable pub figuresText : ℕ → ℕ → ℕ → ℕ → ℕ → ℕ → ℕ → List ℕ
-figuresText level entry label lines rows copies different =
-    lined (indent level ++ decimal entry ++ (space ∷ nameText label) ++ ascii ": " ++ countsText lines rows copies different)
+unfoldable pub figures_text : ℕ → ℕ → ℕ → ℕ → ℕ → ℕ → ℕ → List ℕ
+figures_text level entry label lines rows copies different =
+    lined (indent level ++ decimal entry ++ (space ∷ name_text label) ++ ascii ": " ++ counts_text lines rows copies different)
 
 -- ---- a type
 -- `NAME ROWS rows`, indented by the type's level
-unfoldable pub rowsText : Summary → List ℕ
-rowsText s = indent s.level ++ nameText s.label ++ (space ∷ counted s.rows (ascii "row") (ascii "rows"))
+unfoldable pub rows_text : Summary → List ℕ
+rows_text s = indent s.level ++ name_text s.label ++ (space ∷ counted s.rows (ascii "row") (ascii "rows"))
 
 -- `, LEAST..GREATEST under ` and the name of the label above
-unfoldable pub underText : ℕ → ℕ → ℕ → List ℕ
-underText least greatest above =
-    ascii ", " ++ decimal least ++ ascii ".." ++ decimal greatest ++ ascii " under " ++ withArticle (nameText above)
+unfoldable pub under_text : ℕ → ℕ → ℕ → List ℕ
+under_text least greatest above =
+    ascii ", " ++ decimal least ++ ascii ".." ++ decimal greatest ++ ascii " under " ++ with_article (name_text above)
 
 -- a type's rows, and where its level is not 1 how many of them stand under a row of the type above
-unfoldable pub typeText : Summary → ℕ → List ℕ
-typeText s above = lined (rowsText s ++ elim (eqb s.level 1) [ true ↦ [] | false ↦ underText s.least s.greatest above ])
+unfoldable pub type_text : Summary → ℕ → List ℕ
+type_text s above = lined (rows_text s ++ elim (eqb s.level 1) [ true ↦ [] | false ↦ under_text s.least s.greatest above ])

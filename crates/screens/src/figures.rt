@@ -1,9 +1,9 @@
 // A line of the figures' screen: an entry's number, its label name, and its figures.
 ghost use Rattle.std.specs.Prelude.{◌+◌, ◌≤◌, length};
 ghost use Rattle.io.specs.Counts.{IsPrefixLen};
-ghost use Rattle.bytes.specs.Served.{mostLevels};
+ghost use Rattle.octets.specs.Served.{most_levels};
 ghost use Rattle.names.specs.Put.{Put};
-ghost use Rattle.screens.specs.Screens.{countsText, figuresText};
+ghost use Rattle.screens.specs.Screens.{counts_text, figures_text};
 
 use crate::words::{put_counted, put_indent};
 use names::names::put_name;
@@ -21,7 +21,7 @@ pub struct Figures {
 // The figures with their words.
 fn put_counts(out: &mut [u8], at: usize, f: Figures) -> usize
     requires { at + 122 ≤ length out.old }
-    ensures put { Put out.old at (countsText f.lines f.rows f.copies f.different) out.new result }
+    ensures put { Put out.old at (counts_text f.lines f.rows f.copies f.different) out.new result }
     ensures upper_bound { result ≤ at + 122 }
 {
     let lines = put_counted(out, at, f.lines, b"line", b"lines");
@@ -47,8 +47,8 @@ pub fn put_figures(
     label: usize,
     f: Figures,
 ) -> usize
-    requires { level ≤ mostLevels }
-    ensures put { Put out.old 0 (figuresText level entry label f.lines f.rows f.copies f.different) out.new result }
+    requires { level ≤ most_levels }
+    ensures put { Put out.old 0 (figures_text level entry label f.lines f.rows f.copies f.different) out.new result }
     ensures prefix_len { IsPrefixLen result out.new }
 {
     let indent = put_indent(out, 0, level);

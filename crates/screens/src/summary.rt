@@ -1,10 +1,10 @@
 // A line of the types' screen: a type's label name and rows, and how many of its rows stand under a row of the type above.
 ghost use Rattle.std.specs.Prelude.{◌+◌, ◌≤◌, length};
 ghost use Rattle.io.specs.Counts.{IsPrefixLen};
-ghost use Rattle.bytes.specs.Served.{mostLevels};
+ghost use Rattle.octets.specs.Served.{most_levels};
 ghost use Rattle.adorned.specs.Told.{told};
 ghost use Rattle.names.specs.Put.{Put};
-ghost use Rattle.screens.specs.Screens.{rowsText, underText, typeText};
+ghost use Rattle.screens.specs.Screens.{rows_text, under_text, type_text};
 
 use crate::words::{put_counted, put_indent, put_with_article};
 use adorned::TypeSummary;
@@ -13,8 +13,8 @@ use names::put::{put_byte, put_bytes, put_number};
 
 // The type's name and rows.
 fn put_rows(out: &mut [u8], at: usize, s: TypeSummary) -> usize
-    requires { (at + 62 ≤ length out.old) × (s.level ≤ mostLevels) }
-    ensures { Put out.old at (rowsText (told s)) out.new result × (result ≤ at + 62) }
+    requires { (at + 62 ≤ length out.old) × (s.level ≤ most_levels) }
+    ensures { Put out.old at (rows_text (told s)) out.new result × (result ≤ at + 62) }
 {
     let indent = put_indent(out, at, s.level);
     let name = put_name(out, indent, s.label);
@@ -25,7 +25,7 @@ fn put_rows(out: &mut [u8], at: usize, s: TypeSummary) -> usize
 // The least and the greatest number of children, and the name of the label above.
 fn put_under(out: &mut [u8], at: usize, least: usize, greatest: usize, above: usize) -> usize
     requires { at + 74 ≤ length out.old }
-    ensures { Put out.old at (underText least greatest above) out.new result × (result ≤ at + 74) }
+    ensures { Put out.old at (under_text least greatest above) out.new result × (result ≤ at + 74) }
 {
     let comma = put_bytes(out, at, b", ");
     let low = put_number(out, comma, least);
@@ -37,8 +37,8 @@ fn put_under(out: &mut [u8], at: usize, least: usize, greatest: usize, above: us
 
 // The line of a type, at the front of the buffer; a root type stands under none.
 pub fn put_type(out: &mut [u8; 256], s: TypeSummary, above: usize) -> usize
-    requires { s.level ≤ mostLevels }
-    ensures put { Put out.old 0 (typeText (told s) above) out.new result }
+    requires { s.level ≤ most_levels }
+    ensures put { Put out.old 0 (type_text (told s) above) out.new result }
     ensures prefix_len { IsPrefixLen result out.new }
 {
     let rows = put_rows(out, 0, s);

@@ -1,10 +1,10 @@
 // The parts that lines are made of: counts with their words, indents, articles.
 ghost use Rattle.std.specs.Prelude.{◌≡◌, ◌+◌, ◌≤◌, length};
 ghost use Rattle.paper.specs.Lists.{first_or};
-ghost use Rattle.bytes.specs.Served.{mostLevels};
-ghost use Rattle.grammar.specs.Names.{nameText};
+ghost use Rattle.octets.specs.Served.{most_levels};
+ghost use Rattle.grammar.specs.Names.{name_text};
 ghost use Rattle.names.specs.Put.{Put};
-ghost use Rattle.screens.specs.Screens.{counted, indent, vowel, article, withArticle};
+ghost use Rattle.screens.specs.Screens.{counted, indent, vowel, article, with_article};
 
 use names::names::{name_bytes, put_name};
 use names::put::{put_byte, put_bytes, put_number};
@@ -25,7 +25,7 @@ pub fn put_counted(out: &mut [u8], at: usize, n: usize, one: &[u8], more: &[u8])
 
 // Two spaces for each level below the first.
 pub fn put_indent(out: &mut [u8], at: usize, level: usize) -> usize
-    requires { (at + 14 ≤ length out.old) × (level ≤ mostLevels) }
+    requires { (at + 14 ≤ length out.old) × (level ≤ most_levels) }
     ensures { Put out.old at (indent level) out.new result × (result ≤ at + 14) }
 {
     let mut p = at;
@@ -49,7 +49,7 @@ fn is_vowel(b: u8) -> bool
 
 // Whether a label's name begins with one of them; a number begins with a digit.
 fn vowel_first(label: usize) -> bool
-    ensures { result ≡ vowel (first_or 0 (nameText label)) }
+    ensures { result ≡ vowel (first_or 0 (name_text label)) }
 {
     if label < 1 {
         return false;
@@ -64,7 +64,7 @@ fn vowel_first(label: usize) -> bool
 // The article of a label's name.
 fn put_article(out: &mut [u8], at: usize, label: usize) -> usize
     requires { at + 2 ≤ length out.old }
-    ensures { Put out.old at (article (nameText label)) out.new result × (result ≤ at + 2) }
+    ensures { Put out.old at (article (name_text label)) out.new result × (result ≤ at + 2) }
 {
     if vowel_first(label) {
         return put_bytes(out, at, b"an");
@@ -75,7 +75,7 @@ fn put_article(out: &mut [u8], at: usize, label: usize) -> usize
 // A label's name with its article before it.
 pub fn put_with_article(out: &mut [u8], at: usize, label: usize) -> usize
     requires { at + 23 ≤ length out.old }
-    ensures { Put out.old at (withArticle (nameText label)) out.new result × (result ≤ at + 23) }
+    ensures { Put out.old at (with_article (name_text label)) out.new result × (result ≤ at + 23) }
 {
     let article = put_article(out, at, label);
     let gap = put_byte(out, article, b' ');

@@ -52,12 +52,12 @@ module _ {K A B R D E : Type 0} (to : A → B) (at : D → E) (Learnt : K → A 
     Holds-too {P} _ = (κs : K) (a : A) (r : R) (e : D) → Learnt κs a r e → P κs (to a) r (at e)
 
     -- so it is settled where the other is, and has each property that the other has
-    pub settled-too : {Asked : K → A → Type 0} {X : Type 0} {Asked' : K → B → Type 0} {shows : K → R → E → X} (t : Settled Asked' Learnt' shows)
+    pub settled_too : {Asked : K → A → Type 0} {X : Type 0} {Asked' : K → B → Type 0} {shows : K → R → E → X} (t : Settled Asked' Learnt' shows)
         → Asks-nothing Asked → Says-as Learnt' → Settled-too Asked t
-    settled-too t asks says = (asks, λ κs a r s e f x y. t.1 κs (to a) r s (at e) (at f) (says κs a r e x) (says κs a s f y))
+    settled_too t asks says = (asks, λ κs a r s e f x y. t.1 κs (to a) r s (at e) (at f) (says κs a r e x) (says κs a s f y))
 
-    pub holds-too : {P : K → B → R → E → Type 0} (t : Promises Learnt' P) → Says-as Learnt' → Holds-too t
-    holds-too t says κs a r e x = t κs (to a) r (at e) (says κs a r e x)
+    pub holds_too : {P : K → B → R → E → Type 0} (t : Promises Learnt' P) → Says-as Learnt' → Holds-too t
+    holds_too t says κs a r e x = t κs (to a) r (at e) (says κs a r e x)
 
 -- a walked function's clauses at every model
 abbrev pub Contract : Ended → Type 2
@@ -98,11 +98,11 @@ module _ {M : Type 1} (𝓤 : Ura M) where
       fact_use 𝓤 φ₁ (via 𝓤 P (fst∗ 𝓤 P Q) p) (λ x. fact_use 𝓤 φ₂ (via 𝓤 Q (snd∗ 𝓤 P Q) q) (λ y. fact_i 𝓤 ψ (sep 𝓤 P Q) (k x y)))
 
   -- a contract of one clause, at two results
-  pub one-clause : (φ₁ φ₂ : Type 0) {ψ : Type 0} → (φ₁ → φ₂ → ψ) → ent 𝓤 (sep 𝓤 (fact 𝓤 φ₁) (fact 𝓤 φ₂)) (fact 𝓤 ψ)
-  one-clause φ₁ φ₂ k = of_two φ₁ φ₂ (id⊢ 𝓤 (fact 𝓤 φ₁)) (id⊢ 𝓤 (fact 𝓤 φ₂)) k
+  pub one_clause : (φ₁ φ₂ : Type 0) {ψ : Type 0} → (φ₁ → φ₂ → ψ) → ent 𝓤 (sep 𝓤 (fact 𝓤 φ₁) (fact 𝓤 φ₂)) (fact 𝓤 ψ)
+  one_clause φ₁ φ₂ k = of_two φ₁ φ₂ (id⊢ 𝓤 (fact 𝓤 φ₁)) (id⊢ 𝓤 (fact 𝓤 φ₂)) k
 
   -- a contract of two clauses, at two results
-  pub two-clauses : (φ₁ χ₁ φ₂ χ₂ : Type 0) {ψ : Type 0} → (φ₁ → χ₁ → φ₂ → χ₂ → ψ)
+  pub two_clauses : (φ₁ χ₁ φ₂ χ₂ : Type 0) {ψ : Type 0} → (φ₁ → χ₁ → φ₂ → χ₂ → ψ)
       → ent 𝓤 (sep 𝓤 (sep 𝓤 (fact 𝓤 φ₁) (fact 𝓤 χ₁)) (sep 𝓤 (fact 𝓤 φ₂) (fact 𝓤 χ₂))) (fact 𝓤 ψ)
-  two-clauses φ₁ χ₁ φ₂ χ₂ k =
-      of_two (φ₁ × χ₁) (φ₂ × χ₂) (one-clause φ₁ χ₁ (λ x y. (x, y))) (one-clause φ₂ χ₂ (λ x y. (x, y))) (λ x y. k x.0 x.1 y.0 y.1)
+  two_clauses φ₁ χ₁ φ₂ χ₂ k =
+      of_two (φ₁ × χ₁) (φ₂ × χ₂) (one_clause φ₁ χ₁ (λ x y. (x, y))) (one_clause φ₂ χ₂ (λ x y. (x, y))) (λ x y. k x.0 x.1 y.0 y.1)

@@ -12,17 +12,17 @@ use lib.ListN.{length, get_or, take, length-take, length-append}
 use lib.Seq.{take-suc, take-take}
 use borrow.Author.Tests.{leb-true, leb-false}
 use Rattle.paper.specs.Lists.{Has, last_or, place, same, up}
-use Rattle.paper.specs.Format.{mostTypes}
-use Rattle.paper.specs.Tables.{typeNumber}
-use Rattle.paper.proofs.Lists.{same_self, same-eq, getD-has, up-snoc, last_snoc, up-last}
+use Rattle.paper.specs.Format.{most_types}
+use Rattle.paper.specs.Tables.{type_number}
+use Rattle.paper.proofs.Lists.{same_self, same_eq, get_d_has, up_snoc, last_snoc, up_last}
 use Rattle.paper.proofs.Tables.{number_at, number_same}
 use Rattle.types.specs.Types.{parent_of, Found, Told}
 use Rattle.shapes.specs.EntryTypes.{Numbers}
 
 -- ---- the number of a type
 -- the number is the first place
-number-first : (ts : List (List ℕ)) (k : ℕ) → k < length ts → typeNumber ts (get_or ts k []) ≤ k
-unfolding typeNumber
+number-first : (ts : List (List ℕ)) (k : ℕ) → k < length ts → type_number ts (get_or ts k []) ≤ k
+unfolding type_number
 number-first [] k lt = absurd (not-suc-le-zero lt)
 number-first (t ∷ ts) zero lt = rw (same_self t, place) zero-le
 number-first (t ∷ ts) (suc k) lt = go (same (get_or ts k []) t) refl (number-first ts k (le_of_suc-le-suc lt))
@@ -32,17 +32,17 @@ number-first (t ∷ ts) (suc k) lt = go (same (get_or ts k []) t) refl (number-f
     go false e ih = rw (e, place) (omega arith)
 
 -- what is none of the types has their count for its number
-pub number-none : (ts : List (List ℕ)) (v : List ℕ) → (Has v ts → ⊥) → typeNumber ts v ≡ length ts
-unfolding typeNumber
+pub number-none : (ts : List (List ℕ)) (v : List ℕ) → (Has v ts → ⊥) → type_number ts v ≡ length ts
+unfolding type_number
 number-none [] v out = refl
 number-none (t ∷ ts) v out = go (same v t) refl (number-none ts v (λ h. out (inr h)))
   where
     go : (b : Bool) → same v t ≡ b → place (same v) ts ≡ length ts → place (same v) (t ∷ ts) ≡ suc (length ts)
-    go true e ih = absurd (out (inl (same-eq v t e)))
+    go true e ih = absurd (out (inl (same_eq v t e)))
     go false e ih = rw (e, place) (ap suc ih)
 
 -- what is not empty has its own number
-some_number : (ts : List (List ℕ)) (u : List ℕ) → 0 < length u → typeNumber ts u ≡ parent_of ts u
+some_number : (ts : List (List ℕ)) (u : List ℕ) → 0 < length u → type_number ts u ≡ parent_of ts u
 some_number ts [] lt = absurd (not-suc-le-zero lt)
 some_number ts (x ∷ u) lt = refl
 
@@ -53,16 +53,16 @@ module _ (ts : List (List ℕ)) (parents labels : List ℕ) (count : ℕ) (told 
   Known u = (u ≡ []) ⊎ Has u ts
 
   -- a listed type's number is below 64
-  pub below-most : (u : List ℕ) → Has u ts → typeNumber ts u < mostTypes
-  below-most u h = omega (arith, (number_at u ts h).0, told.count-is, told.few)
+  pub below_most : (u : List ℕ) → Has u ts → type_number ts u < most_types
+  below_most u h = omega (arith, (number_at u ts h).0, told.count-is, told.few)
 
   -- numbers tell the known apart
   number-one : (u v : List ℕ) → Known u → Known v → parent_of ts u ≡ parent_of ts v → u ≡ v
   number-one [] [] a b e = refl
   number-one [] (y ∷ v) a (inl q) e = sym q
-  number-one [] (y ∷ v) a (inr h) e = let z : ⊥ = omega (arith, below-most (y ∷ v) h) in absurd z
+  number-one [] (y ∷ v) a (inr h) e = let z : ⊥ = omega (arith, below_most (y ∷ v) h) in absurd z
   number-one (x ∷ u) [] (inl q) b e = q
-  number-one (x ∷ u) [] (inr h) b e = let z : ⊥ = omega (arith, below-most (x ∷ u) h) in absurd z
+  number-one (x ∷ u) [] (inr h) b e = let z : ⊥ = omega (arith, below_most (x ∷ u) h) in absurd z
   number-one (x ∷ u) (y ∷ v) (inl q) b e = let z : ⊥ = omega (arith, ap length q) in absurd z
   number-one (x ∷ u) (y ∷ v) (inr h) (inl q) e = let z : ⊥ = omega (arith, ap length q) in absurd z
   number-one (x ∷ u) (y ∷ v) (inr h) (inr k) e = number_same (x ∷ u) (y ∷ v) ts h k e
@@ -81,50 +81,50 @@ module _ (ts : List (List ℕ)) (parents labels : List ℕ) (count : ℕ) (told 
     where
       go : (u : List ℕ) → 0 < length u → u ≡ up u ++ (last_or 0 u ∷ [])
       go [] lt = absurd (not-suc-le-zero lt)
-      go (x ∷ u) lt = up-last x u
+      go (x ∷ u) lt = up_last x u
 
   module _ (u : List ℕ) (p a q : ℕ) (known : Known u) (ep : p ≡ parent_of ts u) (f : Found parents labels count p a q) where
     -- a listed type that is u and the label a is not passed over
-    not-passed : Has (u ++ (a ∷ [])) ts → q ≤ typeNumber ts (u ++ (a ∷ []))
-    not-passed h = go (leb q (typeNumber ts (u ++ (a ∷ [])))) refl (number_at (u ++ (a ∷ [])) ts h)
+    not_passed : Has (u ++ (a ∷ [])) ts → q ≤ type_number ts (u ++ (a ∷ []))
+    not_passed h = go (leb q (type_number ts (u ++ (a ∷ [])))) refl (number_at (u ++ (a ∷ [])) ts h)
       where
-        go : (b : Bool) → leb q (typeNumber ts (u ++ (a ∷ []))) ≡ b
-            → (typeNumber ts (u ++ (a ∷ [])) < length ts) × (get_or ts (typeNumber ts (u ++ (a ∷ []))) [] ≡ u ++ (a ∷ [])) → q ≤ typeNumber ts (u ++ (a ∷ []))
-        go true e at = leb-true q (typeNumber ts (u ++ (a ∷ []))) e
+        go : (b : Bool) → leb q (type_number ts (u ++ (a ∷ []))) ≡ b
+            → (type_number ts (u ++ (a ∷ [])) < length ts) × (get_or ts (type_number ts (u ++ (a ∷ []))) [] ≡ u ++ (a ∷ [])) → q ≤ type_number ts (u ++ (a ∷ []))
+        go true e at = leb-true q (type_number ts (u ++ (a ∷ []))) e
         go false e (lt, is) =
-            let j = typeNumber ts (u ++ (a ∷ [])) in
+            let j = type_number ts (u ++ (a ∷ [])) in
             let lc : j < count = omega (arith, told.count-is) in
-            absurd (f.passed j (leb-false q j e) (told.parent j lc ∙ ap (λ z. parent_of ts (up z)) is ∙ ap (parent_of ts) (up-snoc u a) ∙ sym ep)
+            absurd (f.passed j (leb-false q j e) (told.parent j lc ∙ ap (λ z. parent_of ts (up z)) is ∙ ap (parent_of ts) (up_snoc u a) ∙ sym ep)
             (told.label j lc ∙ ap (last_or 0) is ∙ last_snoc 0 u a))
 
     -- the type that is found is u and the label a
     found_type : q < count → get_or ts q [] ≡ u ++ (a ∷ [])
     found_type lt =
         let v = get_or ts q [] in
-        let h : Has v ts = getD-has [] ts q (omega (arith, told.count-is)) in
+        let h : Has v ts = get_d_has [] ts q (omega (arith, told.count-is)) in
         let (e, l) = f.found lt in
         let eu : up v ≡ u = number-one (up v) u (known_up v h) known (sym (told.parent q lt) ∙ e ∙ ep) in
         in_two v h ∙ ap₂ (λ x y. x ++ (y ∷ [])) eu (sym (told.label q lt) ∙ l)
 
-    found-listed : q < count → Has (u ++ (a ∷ [])) ts
-    found-listed lt = subst (λ v. Has v ts) (found_type lt) (getD-has [] ts q (omega (arith, told.count-is)))
+    found_listed : q < count → Has (u ++ (a ∷ [])) ts
+    found_listed lt = subst (λ v. Has v ts) (found_type lt) (get_d_has [] ts q (omega (arith, told.count-is)))
 
     -- q is its number
-    found_number : q < count → q ≡ typeNumber ts (u ++ (a ∷ []))
+    found_number : q < count → q ≡ type_number ts (u ++ (a ∷ []))
     found_number lt =
-        let le : typeNumber ts (get_or ts q []) ≤ q = number-first ts q (omega (arith, told.count-is)) in
-        omega (arith, not-passed (found-listed lt), ap (typeNumber ts) (found_type lt))
+        let le : type_number ts (get_or ts q []) ≤ q = number-first ts q (omega (arith, told.count-is)) in
+        omega (arith, not_passed (found_listed lt), ap (type_number ts) (found_type lt))
 
     -- where none is found, it is no listed type
     found_none : count ≤ q → Has (u ++ (a ∷ [])) ts → ⊥
-    found_none le h = omega (arith, not-passed h, (number_at (u ++ (a ∷ [])) ts h).0, told.count-is)
+    found_none le h = omega (arith, not_passed h, (number_at (u ++ (a ∷ [])) ts h).0, told.count-is)
 
 -- ---- the walk: whatever types are listed, p is the number of the first k labels
 module _ (parents labels : List ℕ) (count : ℕ) where
   abbrev pub Walked : List ℕ → ℕ → ℕ → Type 0
   Walked l k p = (ts : List (List ℕ)) → Told ts parents labels count → (p ≡ parent_of ts (take k l)) × ((take k l ≡ []) ⊎ Has (take k l) ts)
 
-  pub walk_start : (l : List ℕ) → Walked l 0 mostTypes
+  pub walk_start : (l : List ℕ) → Walked l 0 most_types
   walk_start l ts told = (refl, inl refl)
 
   module _ (l : List ℕ) (k p a q : ℕ) (w : Walked l k p) (lt : k < length l) (ea : a ≡ get_or l k 0) (f : Found parents labels count p a q) where
@@ -135,8 +135,8 @@ module _ (parents labels : List ℕ) (count : ℕ) where
     walk_step lq ts told =
         let (e, known) = w ts told in
         let n : take (k + 1) l ≡ take k l ++ (a ∷ []) = ap (λ m. take m l) (add-one k) ∙ one_more in (
-          found_number ts parents labels count told (take k l) p a q known e f lq ∙ sym (ap (typeNumber ts) n) ∙ some_number ts (take (k + 1) l) (omega (arith, ap length n, length-append (take k l) (a ∷ []))),
-          inr (subst (λ v. Has v ts) (sym n) (found-listed ts parents labels count told (take k l) p a q known e f lq)),
+          found_number ts parents labels count told (take k l) p a q known e f lq ∙ sym (ap (type_number ts) n) ∙ some_number ts (take (k + 1) l) (omega (arith, ap length n, length-append (take k l) (a ∷ []))),
+          inr (subst (λ v. Has v ts) (sym n) (found_listed ts parents labels count told (take k l) p a q known e f lq)),
         )
 
     pub walk-stop : (size : ℕ) → k < size → size ≤ length l → count ≤ q → Numbers parents labels count (take size l) count

@@ -19,8 +19,8 @@ pub record Ending (parents : List ℕ) (entries : ℕ) (ends : List ℕ) (c : �
   pub last : (d : ℕ) → 0 < d → d < c → d < get_or ends (get_or parents d 0) 0
 
 module _ (parents : List ℕ) (entries : ℕ) where
-  pub ending-start : (ends : List ℕ) → length ends ≡ 16 → ((e : ℕ) → get_or ends e 0 ≡ 0) → (c : ℕ) → c ≡ 1 → Ending parents entries ends c
-  ending-start ends long zeros c one = record {
+  pub ending_start : (ends : List ℕ) → length ends ≡ 16 → ((e : ℕ) → get_or ends e 0 ≡ 0) → (c : ℕ) → c ≡ 1 → Ending parents entries ends c
+  ending_start ends long zeros c one = record {
     long = long;
     before = λ e. omega (arith, zeros e);
     last = λ d pos lt. let z : ⊥ = omega arith in absurd z;
@@ -41,13 +41,13 @@ module _ (parents : List ℕ) (entries : ℕ) where
     past d pos ld true q = omega (arith, own (get_or parents d 0) (eqb-true p (get_or parents d 0) q))
     past d pos ld false q = omega (arith, other (get_or parents d 0) (eqb-false p (get_or parents d 0) q), g.last d pos ld)
 
-    pub ending-next : (n : ℕ) → n ≡ c + 1 → Ending parents entries (set ends p v) n
-    ending-next n en = record {
+    pub ending_next : (n : ℕ) → n ≡ c + 1 → Ending parents entries (set ends p v) n
+    ending_next n en = record {
       long = length-set ends p v ∙ g.long;
       before = λ e. most e (eqb p e) refl;
       last = λ d pos ld. ⊎_elim (λ a. past d pos a (eqb p (get_or parents d 0)) refl)
           (λ q. omega (arith, own (get_or parents d 0) (is ∙ ap (λ x. get_or parents x 0) (sym q)))) (below d c (omega arith));
     }
 
-  pub ending-end : (ends : List ℕ) (c : ℕ) → Ending parents entries ends c → entries ≤ c → Ends parents entries ends
-  ending-end ends c g le = record { before = g.before; last = λ d pos lt. g.last d pos (omega arith) }
+  pub ending_end : (ends : List ℕ) (c : ℕ) → Ending parents entries ends c → entries ≤ c → Ends parents entries ends
+  ending_end ends c g le = record { before = g.before; last = λ d pos lt. g.last d pos (omega arith) }

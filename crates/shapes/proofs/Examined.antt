@@ -9,13 +9,13 @@ use mathlib.Core.Option.{Option, none, some}
 use lib.Dec.{eqb, ltb}
 use lib.ListN.{length}
 use borrow.Author.Tests.{lt-ltb, le-ltb, ltb-false, eq-eqb, ne_eqb}
-use Rattle.paper.specs.Format.{Format, mostEntries, entryBytes, whole}
-use Rattle.paper.specs.Shapes.{Entry, entries, badEntry}
-use Rattle.paper.specs.Calls.{Answer, refused, given, ◌>>=◌, refuse, refuseAt, Reply, reply, tests5-6}
+use Rattle.paper.specs.Format.{Format, most_entries, entry_bytes, whole}
+use Rattle.paper.specs.Shapes.{Entry, entries, bad_entry}
+use Rattle.paper.specs.Calls.{Answer, refused, given, ◌>>=◌, refuse, refuse_at, Reply, reply, tests5_6}
 use Rattle.paper.proofs.Lists.{or_left, or_right}
 use Rattle.paper.proofs.Calls.{count_entries}
 use Rattle.tables.specs.Place.{place_of}
-use Rattle.shapes.specs.Tests.{shapeReply}
+use Rattle.shapes.specs.Tests.{shape_reply}
 
 -- ---- a place among n
 pub place-some : (r n : ℕ) → r < n → place_of r n ≡ some r
@@ -28,7 +28,7 @@ place_none r n le = rw (le-ltb r n le, place_of) refl
 
 -- ---- the tests, from what each finds
 abbrev tested : Bool → Option ℕ → List Entry → Answer (List Entry)
-tested wrong bad es = refuse 5 wrong >>= (λ _. refuseAt 6 bad >>= (λ _. given es))
+tested wrong bad es = refuse 5 wrong >>= (λ _. refuse_at 6 bad >>= (λ _. given es))
 
 abbrev replied : Answer (List Entry) → Reply ℕ
 replied a = reply 0 (a >>= (λ (es : List Entry). given (length es)))
@@ -51,86 +51,86 @@ module _ (f : Format) (s : List ℕ) where
   empty = eqb (length s) 0
 
   abbrev long : Bool
-  long = ltb (mostEntries * entryBytes f) (length s)
+  long = ltb (most_entries * entry_bytes f) (length s)
 
   abbrev ragged : Bool
-  ragged = not (eqb (length s % entryBytes f) 0)
+  ragged = not (eqb (length s % entry_bytes f) 0)
 
   abbrev wrong : Bool
   wrong = empty || long || ragged
 
-  tests-are : tests5-6 f s ≡ tested wrong (badEntry f (entries f s)) (entries f s)
-  unfolding tests5-6
-  tests-are = refl
+  tests_are : tests5_6 f s ≡ tested wrong (bad_entry f (entries f s)) (entries f s)
+  unfolding tests5_6
+  tests_are = refl
 
-  reply-is : shapeReply f s ≡ replied (tested wrong (badEntry f (entries f s)) (entries f s))
-  unfolding shapeReply
-  reply-is = ap replied tests-are
+  reply-is : shape_reply f s ≡ replied (tested wrong (bad_entry f (entries f s)) (entries f s))
+  unfolding shape_reply
+  reply-is = ap replied tests_are
 
-  refused-5 : wrong ≡ true → record { number = 5; place = 0; rest = 0 } ≡ shapeReply f s
-  refused-5 e = sym (reply-is ∙ ap (λ b. replied (tested b (badEntry f (entries f s)) (entries f s))) e)
+  refused_5 : wrong ≡ true → record { number = 5; place = 0; rest = 0 } ≡ shape_reply f s
+  refused_5 e = sym (reply-is ∙ ap (λ b. replied (tested b (bad_entry f (entries f s)) (entries f s))) e)
 
-  pub refused-empty : length s ≡ 0 → record { number = 5; place = 0; rest = 0 } ≡ shapeReply f s
-  refused-empty z = refused-5 (or_left ragged (or_left long (eq-eqb (length s) 0 z)))
+  pub refused_empty : length s ≡ 0 → record { number = 5; place = 0; rest = 0 } ≡ shape_reply f s
+  refused_empty z = refused_5 (or_left ragged (or_left long (eq-eqb (length s) 0 z)))
 
-  pub refused-long : mostEntries * entryBytes f < length s → record { number = 5; place = 0; rest = 0 } ≡ shapeReply f s
-  refused-long lt = refused-5 (or_left ragged (or_right empty (lt-ltb (mostEntries * entryBytes f) (length s) lt)))
+  pub refused_long : most_entries * entry_bytes f < length s → record { number = 5; place = 0; rest = 0 } ≡ shape_reply f s
+  refused_long lt = refused_5 (or_left ragged (or_right empty (lt-ltb (most_entries * entry_bytes f) (length s) lt)))
 
-  pub refused-ragged : (length s % entryBytes f ≡ 0 → ⊥) → record { number = 5; place = 0; rest = 0 } ≡ shapeReply f s
-  refused-ragged ne = refused-5 (or_right (empty || long) (ap not (ne_eqb (length s % entryBytes f) 0 ne)))
+  pub refused_ragged : (length s % entry_bytes f ≡ 0 → ⊥) → record { number = 5; place = 0; rest = 0 } ≡ shape_reply f s
+  refused_ragged ne = refused_5 (or_right (empty || long) (ap not (ne_eqb (length s % entry_bytes f) 0 ne)))
 
-  module _ (ne : length s ≡ 0 → ⊥) (le : length s ≤ mostEntries * entryBytes f) (z : length s % entryBytes f ≡ 0) where
+  module _ (ne : length s ≡ 0 → ⊥) (le : length s ≤ most_entries * entry_bytes f) (z : length s % entry_bytes f ≡ 0) where
     right : wrong ≡ false
     right =
-        ap₂ (λ a b. a || b || ragged) (ne_eqb (length s) 0 ne) (le-ltb (mostEntries * entryBytes f) (length s) le)
-        ∙ ap not (eq-eqb (length s % entryBytes f) 0 z)
+        ap₂ (λ a b. a || b || ragged) (ne_eqb (length s) 0 ne) (le-ltb (most_entries * entry_bytes f) (length s) le)
+        ∙ ap not (eq-eqb (length s % entry_bytes f) 0 z)
 
-    replied-right : (o : Option ℕ) → badEntry f (entries f s) ≡ o → shapeReply f s ≡ replied (tested false o (entries f s))
-    replied-right o e = reply-is ∙ ap₂ (λ b x. replied (tested b x (entries f s))) right e
+    replied_right : (o : Option ℕ) → bad_entry f (entries f s) ≡ o → shape_reply f s ≡ replied (tested false o (entries f s))
+    replied_right o e = reply-is ∙ ap₂ (λ b x. replied (tested b x (entries f s))) right e
 
-    pub refused-6 : (p n : ℕ) → badEntry f (entries f s) ≡ place_of p n → p < n → record { number = 6; place = p; rest = 0 } ≡ shapeReply f s
-    refused-6 p n e lt = sym (replied-right (some p) (e ∙ place-some p n lt))
+    pub refused_6 : (p n : ℕ) → bad_entry f (entries f s) ≡ place_of p n → p < n → record { number = 6; place = p; rest = 0 } ≡ shape_reply f s
+    refused_6 p n e lt = sym (replied_right (some p) (e ∙ place-some p n lt))
 
-    pub accepted : (p n : ℕ) → badEntry f (entries f s) ≡ place_of p n → n ≤ p → record { number = 0; place = 0; rest = whole (entryBytes f) s } ≡ shapeReply f s
+    pub accepted : (p n : ℕ) → bad_entry f (entries f s) ≡ place_of p n → n ≤ p → record { number = 0; place = 0; rest = whole (entry_bytes f) s } ≡ shape_reply f s
     accepted p n e late =
-        ap (λ m. record { number = 0; place = 0; rest = m }) (sym (count_entries f s)) ∙ sym (replied-right none (e ∙ place_none p n late))
+        ap (λ m. record { number = 0; place = 0; rest = m }) (sym (count_entries f s)) ∙ sym (replied_right none (e ∙ place_none p n late))
 
   -- ---- what examining tells of the tests
-  module _ (k p c : ℕ) (e : ◌≡◌ {A = Reply ℕ} (record { number = k; place = p; rest = c }) (shapeReply f s)) where
-    told : record { number = k; place = p; rest = c } ≡ replied (tested wrong (badEntry f (entries f s)) (entries f s))
+  module _ (k p c : ℕ) (e : ◌≡◌ {A = Reply ℕ} (record { number = k; place = p; rest = c }) (shape_reply f s)) where
+    told : record { number = k; place = p; rest = c } ≡ replied (tested wrong (bad_entry f (entries f s)) (entries f s))
     told = e ∙ reply-is
 
-    number : k ≡ (replied (tested wrong (badEntry f (entries f s)) (entries f s))).number
+    number : k ≡ (replied (tested wrong (bad_entry f (entries f s)) (entries f s))).number
     number = ap (λ (r : Reply ℕ). r.number) told
 
-    pub examined-refused : (k ≡ 0 → ⊥) → tests5-6 f s ≡ refused k p
+    pub examined-refused : (k ≡ 0 → ⊥) → tests5_6 f s ≡ refused k p
     examined-refused ne =
-        tests-are ∙ told-refused wrong (badEntry f (entries f s)) (entries f s) (λ q. ne (number ∙ q))
+        tests_are ∙ told-refused wrong (bad_entry f (entries f s)) (entries f s) (λ q. ne (number ∙ q))
         ∙ ap₂ {C = Answer (List Entry)} (λ a b. refused a b) (sym number) (sym (ap (λ (r : Reply ℕ). r.place) told))
 
     module _ (z : k ≡ 0) where
-      passes : (wrong ≡ false) × (badEntry f (entries f s) ≡ none)
-      passes = told-given wrong (badEntry f (entries f s)) (entries f s) (sym number ∙ z)
+      passes : (wrong ≡ false) × (bad_entry f (entries f s) ≡ none)
+      passes = told-given wrong (bad_entry f (entries f s)) (entries f s) (sym number ∙ z)
 
-      short : length s ≤ mostEntries * entryBytes f
-      short = ltb-false (mostEntries * entryBytes f) (length s) (second empty long ragged passes.0)
+      short : length s ≤ most_entries * entry_bytes f
+      short = ltb-false (most_entries * entry_bytes f) (length s) (second empty long ragged passes.0)
         where
           second : (a b c : Bool) → a || b || c ≡ false → b ≡ false
           second true b c h = absurd (true≢false h)
           second false true c h = absurd (true≢false h)
           second false false c h = refl
 
-      pub kept : badEntry f (entries f s) ≡ none
+      pub kept : bad_entry f (entries f s) ≡ none
       kept = passes.1
 
-      pub examined-given : tests5-6 f s ≡ given (entries f s)
-      examined-given = tests-are ∙ ap₂ (λ b o. tested b o (entries f s)) passes.0 kept
+      pub examined-given : tests5_6 f s ≡ given (entries f s)
+      examined-given = tests_are ∙ ap₂ (λ b o. tested b o (entries f s)) passes.0 kept
 
-      pub counted : c ≡ whole (entryBytes f) s
+      pub counted : c ≡ whole (entry_bytes f) s
       counted =
           ap (λ (r : Reply ℕ). r.rest) told ∙ ap₂ (λ b o. (replied (tested b o (entries f s))).rest) passes.0 kept ∙ count_entries f s
 
-      pub few-entries : c ≤ mostEntries
-      few-entries =
-          let lt : length s < suc mostEntries * entryBytes f = omega (arith, short, suc-mul mostEntries (entryBytes f)) in
-          omega (arith, counted, (div-lt_iff_lt-mul {k = entryBytes f} {x = length s} {y = suc mostEntries} (omega arith)).1 lt)
+      pub few_entries : c ≤ most_entries
+      few_entries =
+          let lt : length s < suc most_entries * entry_bytes f = omega (arith, short, suc-mul most_entries (entry_bytes f)) in
+          omega (arith, counted, (div-lt_iff_lt-mul {k = entry_bytes f} {x = length s} {y = suc most_entries} (omega arith)).1 lt)

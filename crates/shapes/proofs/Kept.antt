@@ -11,7 +11,7 @@ use lib.Seq.{drop-cons, get_or-take}
 use borrow.Author.Tests.{eq-eqb, ne_eqb, le-leb, lt-leb}
 use Rattle.paper.specs.Lists.{all, between}
 use Rattle.paper.specs.Format.{Format, byte, word, words}
-use Rattle.paper.specs.Shapes.{entry_of, levelKept, entryKept}
+use Rattle.paper.specs.Shapes.{entry_of, level_kept, entry_kept}
 use Rattle.paper.proofs.Lists.{and}
 use Rattle.paper.proofs.Tables.{length-words}
 use Rattle.tables.proofs.Laws.{and_left, and_right}
@@ -44,34 +44,34 @@ module _ (f : Format) (size : ℕ) (e : List ℕ) (fits : size ≤ f.levels) (k 
         ∙ ap (λ y. label y && all label (drop (suc k) labels)) (get_or-take size (words f.levels e 4) k 0 lt ∙ sym at-k)
 
     -- A number that is no label of the format decides.
-    pub label-stop : between 1 x f.labels ≡ false → all (λ y. between 1 y f.labels) (drop k (take size (words f.levels e 4))) ≡ false
-    label-stop no_label = split ∙ and_left (all label (drop (suc k) labels)) no_label
+    pub label_stop : between 1 x f.labels ≡ false → all (λ y. between 1 y f.labels) (drop k (take size (words f.levels e 4))) ≡ false
+    label_stop no_label = split ∙ and_left (all label (drop (suc k) labels)) no_label
 
     -- After a label of the format the next one decides.
-    pub label-step : between 1 x f.labels ≡ true
+    pub label_step : between 1 x f.labels ≡ true
         → all (λ y. between 1 y f.labels) (drop k (take size (words f.levels e 4)))
         ≡ all (λ y. between 1 y f.labels) (drop (k + 1) (take size (words f.levels e 4)))
-    label-step a-label =
+    label_step a-label =
         split ∙ ap (λ b. b && all label (drop (suc k) labels)) a-label ∙ ap (λ n. all label (drop n labels)) (sym (add-one k))
 
   -- Past the last label there is nothing left to break.
-  pub label-end : size ≤ k → all (λ y. between 1 y f.labels) (drop k (take size (words f.levels e 4))) ≡ true
-  label-end le = ap (all label) (drop_of_length-le labels {i = k} (omega (arith, count)))
+  pub label_end : size ≤ k → all (λ y. between 1 y f.labels) (drop k (take size (words f.levels e 4))) ≡ true
+  label_end le = ap (all label) (drop_of_length-le labels {i = k} (omega (arith, count)))
 
 -- ---- the level of an entry after one of level b
 -- The first entry has level 1.
-pub level-first : (b l : ℕ) → b ≡ 0 → eqb l 1 ≡ levelKept b l
-level-first b l e = sym (ap (λ n. levelKept n l) e)
+pub level-first : (b l : ℕ) → b ≡ 0 → eqb l 1 ≡ level_kept b l
+level-first b l e = sym (ap (λ n. level_kept n l) e)
 
 -- A later entry does not have level 1 or less.
-pub level-low : (b l : ℕ) → (b ≡ 0 → ⊥) → l < 2 → levelKept b l ≡ false
+pub level-low : (b l : ℕ) → (b ≡ 0 → ⊥) → l < 2 → level_kept b l ≡ false
 level-low zero l ne lt = absurd (ne refl)
 level-low (suc b) l ne lt = below 2 l (suc (suc b)) lt
 
 -- A later entry of level 2 or more is at most one level down.
-pub level-next : (b l : ℕ) → (b ≡ 0 → ⊥) → 2 ≤ l → leb l (b + 1) ≡ levelKept b l
-level-next zero l ne le = absurd (ne refl)
-level-next (suc b) l ne le = ap (leb l) (add-one (suc b)) ∙ sym (ap (λ t. t && leb l (suc (suc b))) (le-leb 2 l le))
+pub level_next : (b l : ℕ) → (b ≡ 0 → ⊥) → 2 ≤ l → leb l (b + 1) ≡ level_kept b l
+level_next zero l ne le = absurd (ne refl)
+level_next (suc b) l ne le = ap (leb l) (add-one (suc b)) ∙ sym (ap (λ t. t && leb l (suc (suc b))) (le-leb 2 l le))
 
 -- ---- the tests of an entry, one by one
 module _ (f : Format) (before : ℕ) (b : List ℕ) {level size : ℕ} (is-level : level ≡ byte b 0) (is-size : size ≡ byte b 1) where
@@ -91,32 +91,32 @@ module _ (f : Format) (before : ℕ) (b : List ℕ) {level size : ℕ} (is-level
   zeros = all (eqb 0) (drop size (words f.levels b 4))
 
   abbrev next : Bool
-  next = levelKept before level
+  next = level_kept before level
 
-  tests : entryKept f before (entry_of f b) ≡ deep && long && spare && labelled && zeros && next
-  unfolding entryKept entry_of
+  tests : entry_kept f before (entry_of f b) ≡ deep && long && spare && labelled && zeros && next
+  unfolding entry_kept entry_of
   tests =
       ap₂ (λ l n. between 1 l f.levels && between 1 n f.levels && spare && all (λ x. between 1 x f.labels) (take n (words f.levels b 4))
-      && all (eqb 0) (drop n (words f.levels b 4)) && levelKept before l) (sym is-level) (sym is-size)
+      && all (eqb 0) (drop n (words f.levels b 4)) && level_kept before l) (sym is-level) (sym is-size)
 
-  pub wrong-level : between 1 level f.levels ≡ false → entryKept f before (entry_of f b) ≡ false
-  wrong-level e = tests ∙ and_left next (and_left zeros (and_left labelled (and_left spare (and_left long e))))
+  pub wrong_level : between 1 level f.levels ≡ false → entry_kept f before (entry_of f b) ≡ false
+  wrong_level e = tests ∙ and_left next (and_left zeros (and_left labelled (and_left spare (and_left long e))))
 
-  pub wrong_size : between 1 size f.levels ≡ false → entryKept f before (entry_of f b) ≡ false
+  pub wrong_size : between 1 size f.levels ≡ false → entry_kept f before (entry_of f b) ≡ false
   wrong_size e = tests ∙ and_left next (and_left zeros (and_left labelled (and_left spare (and_right deep e))))
 
-  pub spare-set : (v : ℕ) → v ≡ word b 2 → (v ≡ 0 → ⊥) → entryKept f before (entry_of f b) ≡ false
-  spare-set v e ne =
+  pub spare_set : (v : ℕ) → v ≡ word b 2 → (v ≡ 0 → ⊥) → entry_kept f before (entry_of f b) ≡ false
+  spare_set v e ne =
       tests ∙ and_left next (and_left zeros (and_left labelled (and_right (deep && long) (ne_eqb (word b 2) 0 (λ q. ne (e ∙ q))))))
 
-  pub wrong-label : all (λ x. between 1 x f.labels) (take size (words f.levels b 4)) ≡ false → entryKept f before (entry_of f b) ≡ false
-  wrong-label e = tests ∙ and_left next (and_left zeros (and_right (deep && long && spare) e))
+  pub wrong_label : all (λ x. between 1 x f.labels) (take size (words f.levels b 4)) ≡ false → entry_kept f before (entry_of f b) ≡ false
+  wrong_label e = tests ∙ and_left next (and_left zeros (and_right (deep && long && spare) e))
 
-  pub past-set : all (eqb 0) (drop size (words f.levels b 4)) ≡ false → entryKept f before (entry_of f b) ≡ false
-  past-set e = tests ∙ and_left next (and_right (deep && long && spare && labelled) e)
+  pub past_set : all (eqb 0) (drop size (words f.levels b 4)) ≡ false → entry_kept f before (entry_of f b) ≡ false
+  past_set e = tests ∙ and_left next (and_right (deep && long && spare && labelled) e)
 
   -- The level after the one before decides for an entry whose own fields keep the rules.
-  pub level-decides : between 1 level f.levels ≡ true → between 1 size f.levels ≡ true → (v : ℕ) → v ≡ word b 2 → v ≡ 0
+  pub level_decides : between 1 level f.levels ≡ true → between 1 size f.levels ≡ true → (v : ℕ) → v ≡ word b 2 → v ≡ 0
       → all (λ x. between 1 x f.labels) (take size (words f.levels b 4)) ≡ true
-      → all (eqb 0) (drop size (words f.levels b 4)) ≡ true → entryKept f before (entry_of f b) ≡ levelKept before level
-  level-decides d l v e s n z = tests ∙ ap (λ t. t && next) (and (and (and (and d l) (eq-eqb (word b 2) 0 (sym e ∙ s))) n) z)
+      → all (eqb 0) (drop size (words f.levels b 4)) ≡ true → entry_kept f before (entry_of f b) ≡ level_kept before level
+  level_decides d l v e s n z = tests ∙ ap (λ t. t && next) (and (and (and (and d l) (eq-eqb (word b 2) 0 (sym e ∙ s))) n) z)

@@ -9,44 +9,44 @@ use mathlib.Core.List.{List, map}
 use lib.ListN.{length, get_or, take, drop, set}
 use lib.Seq.{get_or-set_same, get_or-set_other}
 use Rattle.paper.specs.Lists.{Has, any, place, same}
-use Rattle.paper.specs.Format.{Format, entryBytes, byte, words, whole}
-use Rattle.paper.specs.Tables.{typeNumber}
+use Rattle.paper.specs.Format.{Format, entry_bytes, byte, words, whole}
+use Rattle.paper.specs.Tables.{type_number}
 use Rattle.paper.specs.Shapes.{Entry, entry_of, entries, named}
-use Rattle.paper.proofs.Lists.{same-eq, same_self, any-has, has-any}
+use Rattle.paper.proofs.Lists.{same_eq, same_self, any_has, has_any}
 use Rattle.paper.proofs.Tables.{number_at}
 use Rattle.tables.proofs.Rows.{rec}
 use Rattle.types.proofs.Step.{below}
 use Rattle.types.proofs.Listed.{at_drop}
-use Rattle.shapes.proofs.Entries.{entry, entries-from-lem, entries-end}
+use Rattle.shapes.proofs.Entries.{entry, entries_from_lem, entries_end}
 use Rattle.shapes.proofs.Down.{number-none}
 use Rattle.types.specs.Types.{Told}
 use Rattle.shapes.specs.EntryTypes.{Numbers, NumbersEach}
 
 -- the number of the labels that are read from entry i is that of the type that it names
-pub read-numbers : (f : Format) (s parents labels : List ℕ) (count i : ℕ) (b : List ℕ) (size k : ℕ) → b ≡ rec (entryBytes f) i s → size ≡ byte b 1
+pub read_numbers : (f : Format) (s parents labels : List ℕ) (count i : ℕ) (b : List ℕ) (size k : ℕ) → b ≡ rec (entry_bytes f) i s → size ≡ byte b 1
     → Numbers parents labels count (take size (words f.levels b 4)) k → Numbers parents labels count (named (entry f s i)) k
 unfolding entry_of
-read-numbers f s parents labels count i b size k eb ez num ts told =
-    num ts told ∙ ap₂ (λ z c. typeNumber ts (take z (words f.levels c 4))) (ez ∙ ap (λ c. byte c 1) eb) eb
+read_numbers f s parents labels count i b size k eb ez num ts told =
+    num ts told ∙ ap₂ (λ z c. type_number ts (take z (words f.levels c 4))) (ez ∙ ap (λ c. byte c 1) eb) eb
 
 -- ---- numbers and places
 -- a number below the count is a listed type's
-number-any : (ts : List (List ℕ)) (v : List ℕ) → typeNumber ts v < length ts → any (same v) ts ≡ true
-number-any ts v lt = go (any (same v) ts) refl
+number_any : (ts : List (List ℕ)) (v : List ℕ) → type_number ts v < length ts → any (same v) ts ≡ true
+number_any ts v lt = go (any (same v) ts) refl
   where
     go : (b : Bool) → any (same v) ts ≡ b → any (same v) ts ≡ true
     go true e = e
     go false e =
-        let z : ⊥ = omega (arith, number-none ts v (λ h. false≢true (sym e ∙ has-any (same v) v ts h (same_self v)))) in absurd z
+        let z : ⊥ = omega (arith, number-none ts v (λ h. false≢true (sym e ∙ has_any (same v) v ts h (same_self v)))) in absurd z
 
 -- the count is no listed type's number
-number-not : (ts : List (List ℕ)) (v : List ℕ) → length ts ≤ typeNumber ts v → any (same v) ts ≡ false
+number-not : (ts : List (List ℕ)) (v : List ℕ) → length ts ≤ type_number ts v → any (same v) ts ≡ false
 number-not ts v le = go (any (same v) ts) refl
   where
     go : (b : Bool) → any (same v) ts ≡ b → any (same v) ts ≡ false
     go true e =
-        let (x, h, q) = any-has (same v) ts e in
-        let z : ⊥ = omega (arith, (number_at v ts (subst (λ u. Has u ts) (sym (same-eq v x q)) h)).0) in absurd z
+        let (x, h, q) = any_has (same v) ts e in
+        let z : ⊥ = omega (arith, (number_at v ts (subst (λ u. Has u ts) (sym (same_eq v x q)) h)).0) in absurd z
     go false e = e
 
 -- ---- the walk: entries before i have their numbers, and from i on the first whose type is missing is the shape's
@@ -55,19 +55,19 @@ module _ (f : Format) (s parents labels : List ℕ) (count : ℕ) where
   missing ts e = not (any (same (named e)) ts)
 
   abbrev number : List (List ℕ) → Entry → ℕ
-  number ts e = typeNumber ts (named e)
+  number ts e = type_number ts (named e)
 
   abbrev pub Numbered : ℕ → List ℕ → Type 0
   Numbered i ks = (ts : List (List ℕ)) → Told ts parents labels count
       → (place (missing ts) (entries f s) ≡ i + place (missing ts) (drop i (entries f s)))
       × ((j : ℕ) → j < i → (get_or ks j 0 ≡ get_or (map (number ts) (entries f s)) j 0) × (get_or ks j 0 < count))
 
-  module _ (i : ℕ) (ks : List ℕ) (num : Numbered i ks) (lt : i < whole (entryBytes f) s) (k : ℕ) (is : Numbers parents labels count (named (entry f s i)) k) where
+  module _ (i : ℕ) (ks : List ℕ) (num : Numbered i ks) (lt : i < whole (entry_bytes f) s) (k : ℕ) (is : Numbers parents labels count (named (entry f s i)) k) where
     pub numbered_step : i < length ks → k < count → Numbered (i + 1) (set ks i k)
     numbered_step room lk ts told =
-        let here : missing ts (entry f s i) ≡ false = ap not (number-any ts (named (entry f s i)) (omega (arith, is ts told, told.count-is))) in
+        let here : missing ts (entry f s i) ≡ false = ap not (number_any ts (named (entry f s i)) (omega (arith, is ts told, told.count-is))) in
         let past : place (missing ts) (drop i (entries f s)) ≡ suc (place (missing ts) (drop (suc i) (entries f s))) =
-        ap (place (missing ts)) (entries-from-lem f s i lt) ∙ rw (here, place) refl in
+        ap (place (missing ts)) (entries_from_lem f s i lt) ∙ rw (here, place) refl in
         let next : place (missing ts) (drop (i + 1) (entries f s)) ≡ place (missing ts) (drop (suc i) (entries f s)) =
         ap (λ m. place (missing ts) (drop m (entries f s))) (add-one i) in
         (omega (arith, (num ts told).0), λ j lj. ⊎_elim (earlier j) (own j) (below j i lj))
@@ -80,27 +80,27 @@ module _ (f : Format) (s parents labels : List ℕ) (count : ℕ) where
         own : (j : ℕ) → j ≡ i → (get_or (set ks i k) j 0 ≡ get_or (map (number ts) (entries f s)) j 0) × (get_or (set ks i k) j 0 < count)
         own j e =
             let here = ap (λ m. get_or (set ks i k) m 0) e ∙ get_or-set_same ks i k 0 room in
-            (here ∙ is ts told ∙ sym (ap (λ m. get_or (map (number ts) (entries f s)) m 0) e ∙ at_drop (number ts) 0 (entries f s) i (entry f s i) (drop (suc i) (entries f s)) (entries-from-lem f s i lt)), omega (arith, here))
+            (here ∙ is ts told ∙ sym (ap (λ m. get_or (map (number ts) (entries f s)) m 0) e ∙ at_drop (number ts) 0 (entries f s) i (entry f s i) (drop (suc i) (entries f s)) (entries_from_lem f s i lt)), omega (arith, here))
 
-    pub numbered-stop : count ≤ k → (n : ℕ) → n ≡ whole (entryBytes f) s → NumbersEach parents labels count (entries f s) n (record { place = i; types = ks })
-    numbered-stop le n e ts told =
+    pub numbered_stop : count ≤ k → (n : ℕ) → n ≡ whole (entry_bytes f) s → NumbersEach parents labels count (entries f s) n (record { place = i; types = ks })
+    numbered_stop le n e ts told =
         let here : missing ts (entry f s i) ≡ true = ap not (number-not ts (named (entry f s i)) (omega (arith, is ts told, told.count-is))) in
-        let at : place (missing ts) (drop i (entries f s)) ≡ 0 = ap (place (missing ts)) (entries-from-lem f s i lt) ∙ rw (here, place) refl in
+        let at : place (missing ts) (drop i (entries f s)) ≡ 0 = ap (place (missing ts)) (entries_from_lem f s i lt) ∙ rw (here, place) refl in
         record {
           place_is = omega (arith, (num ts told).0);
           within = omega arith;
-          type-is = λ late. let z : ⊥ = omega arith in absurd z;
+          type_is = λ late. let z : ⊥ = omega arith in absurd z;
           known = λ late. let z : ⊥ = omega arith in absurd z;
         }
 
-  pub numbered-end : (i : ℕ) (ks : List ℕ) → Numbered i ks → (n : ℕ) → n ≡ whole (entryBytes f) s → i ≡ n
+  pub numbered_end : (i : ℕ) (ks : List ℕ) → Numbered i ks → (n : ℕ) → n ≡ whole (entry_bytes f) s → i ≡ n
       → NumbersEach parents labels count (entries f s) n (record { place = n; types = ks })
-  numbered-end i ks num n e q ts told =
+  numbered_end i ks num n e q ts told =
       let at : place (missing ts) (drop i (entries f s)) ≡ 0 =
-      ap (place (missing ts)) (entries-end f s i (omega arith)) in
+      ap (place (missing ts)) (entries_end f s i (omega arith)) in
       record {
         place_is = omega (arith, (num ts told).0);
         within = omega arith;
-        type-is = λ late j lj. ((num ts told).1 j (omega arith)).0;
+        type_is = λ late j lj. ((num ts told).1 j (omega arith)).0;
         known = λ late j lj. omega (arith, ((num ts told).1 j (omega arith)).1, told.count-is);
       }

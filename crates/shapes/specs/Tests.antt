@@ -1,46 +1,46 @@
 -- A shape that passes tests 5 to 7 over a table, as it was read. Assumes nothing.
 use Rattle.std.specs.Prelude.{ℕ, ◌≤◌, ◌<◌, ◌≡◌, List, length, get_or}
-use Rattle.paper.specs.Format.{Format, mostEntries}
+use Rattle.paper.specs.Format.{Format, most_entries}
 use Rattle.paper.specs.Tables.{rows, types}
 use Rattle.paper.specs.Closeness.{nodes}
-use Rattle.paper.specs.Shapes.{Shape, entries, shapeOver, kind, parent, way}
-use Rattle.paper.specs.Calls.{◌>>=◌, Reply, refused, given, reply, tests1-4, tests5-6, tests1-7}
+use Rattle.paper.specs.Shapes.{Shape, entries, shape_over, kind, parent, way}
+use Rattle.paper.specs.Calls.{◌>>=◌, Reply, refused, given, reply, tests1_4, tests5_6, tests1_7}
 use Rattle.types.specs.Types.{Told}
-use Rattle.shapes.specs.Ways.{wayAt}
+use Rattle.shapes.specs.Ways.{way_at}
 use Rattle.shapes.specs.declared.tests.ShapeExamined.{ShapeExamined}
 use Rattle.shapes.specs.declared.tests.Tested.{Tested}
 
 -- number and place of 5 and 6, or the number of entries
-unfoldable pub shapeReply : Format → List ℕ → Reply ℕ
-shapeReply f s = reply 0 do
-  es ← tests5-6 f s
+unfoldable pub shape_reply : Format → List ℕ → Reply ℕ
+shape_reply f s = reply 0 do
+  es ← tests5_6 f s
   given (length es)
 
-abbrev pub shapeExamined : ShapeExamined → Reply ℕ
-shapeExamined r = record { number = r.number; place = r.place; rest = r.entries }
+abbrev pub shape_examined : ShapeExamined → Reply ℕ
+shape_examined r = record { number = r.number; place = r.place; rest = r.entries }
 
 -- the shape of the bytes s over the types of the table t
-abbrev pub shapeIn : Format → List ℕ → List ℕ → Shape
-shapeIn f t s = shapeOver (types (rows f t)) (entries f s)
+abbrev pub shape_in : Format → List ℕ → List ℕ → Shape
+shape_in f t s = shape_over (types (rows f t)) (entries f s)
 
 -- the entries of a shape as they were read: number, level, last label, parent, type number, way
 pub record Read (s : Shape) (w : Tested) (ways : List ℕ) : Type 0 where
   pub counted : w.entries ≡ length s.ways
-  pub few : w.entries ≤ mostEntries
+  pub few : w.entries ≤ most_entries
   pub level : (e : ℕ) → e < w.entries → get_or w.levels e 0 ≡ get_or s.levels e 0
   pub label : (e : ℕ) → e < w.entries → get_or w.labels e 0 ≡ get_or s.labels e 0
   pub parent_is : (e : ℕ) → e < w.entries → get_or w.parents e 0 ≡ parent s e
-  pub type-is : (e : ℕ) → e < w.entries → get_or w.types e 0 ≡ kind s e
-  pub way-is : (e : ℕ) → e < w.entries → wayAt ways e (get_or w.levels e 0) ≡ way s e
+  pub type_is : (e : ℕ) → e < w.entries → get_or w.types e 0 ≡ kind s e
+  pub way_is : (e : ℕ) → e < w.entries → way_at ways e (get_or w.levels e 0) ≡ way s e
 
 -- what tests 1 to 7 say of a table t and a shape s, and where none refuses, the entries
 pub record Passes (f : Format) (t s : List ℕ) (w : Tested) (ways : List ℕ) : Type 0 where
-  pub refused-is : (w.number ≡ 0 → ⊥) → tests1-7 f t s ≡ refused w.number w.place
-  pub given_is : w.number ≡ 0 → tests1-7 f t s ≡ given (record { rows = rows f t; nodes = nodes (rows f t); shape = shapeIn f t s })
+  pub refused-is : (w.number ≡ 0 → ⊥) → tests1_7 f t s ≡ refused w.number w.place
+  pub given_is : w.number ≡ 0 → tests1_7 f t s ≡ given (record { rows = rows f t; nodes = nodes (rows f t); shape = shape_in f t s })
   pub known : w.number ≡ 0 → (e : ℕ) → e < w.entries → get_or w.types e 0 < length (types (rows f t))
-  pub reads : w.number ≡ 0 → Read (shapeIn f t s) w ways
+  pub reads : w.number ≡ 0 → Read (shape_in f t s) w ways
 
 -- this is so of whatever table passes the first four tests and has these types
 abbrev pub PassesEach : Format → List ℕ → List ℕ → ℕ → List ℕ → Tested → List ℕ → Type 0
 PassesEach f parents labels count s w ways =
-    (t : List ℕ) → tests1-4 f t ≡ given (rows f t) → Told (types (rows f t)) parents labels count → Passes f t s w ways
+    (t : List ℕ) → tests1_4 f t ≡ given (rows f t) → Told (types (rows f t)) parents labels count → Passes f t s w ways

@@ -1,19 +1,19 @@
 -- A table and a shape that pass tests 1 to 7, as judging, reshaping and summarising work on them. Assumes nothing.
 use Rattle.std.specs.Prelude.{ℕ, ◌*◌, ◌≤◌, ◌<◌, ◌≡◌, List, length, get_or}
-use Rattle.paper.specs.Format.{Format, mostEntries}
+use Rattle.paper.specs.Format.{Format, most_entries}
 use Rattle.paper.specs.Tables.{rows}
-use Rattle.paper.specs.Closeness.{nodes, kindsMeet}
+use Rattle.paper.specs.Closeness.{nodes, kinds_meet}
 use Rattle.paper.specs.Shapes as Paper
-use Rattle.paper.specs.Calls.{refused, given, tests1-7}
-use Rattle.bytes.specs.Served.{Served}
-use Rattle.closest.specs.Deepest.{noMeetings}
+use Rattle.paper.specs.Calls.{refused, given, tests1_7}
+use Rattle.octets.specs.Served.{Served}
+use Rattle.closest.specs.Deepest.{no_meetings}
 use Rattle.closest.specs.Runs.{Levelled, Rows}
 use Rattle.closest.specs.Rows.{RowsIn}
 use Rattle.closest.specs.declared.rows.RowsRead.{RowsRead}
-use Rattle.shapes.specs.Ways.{wayPlaces, wayAt}
-use Rattle.shapes.specs.Tests.{shapeIn}
-use Rattle.shapes.specs.Edges.{meetingOf}
-use Rattle.shapes.specs.Shape.{levelOf, label_of, type_of, parent_of, Shaped}
+use Rattle.shapes.specs.Ways.{way_places, way_at}
+use Rattle.shapes.specs.Tests.{shape_in}
+use Rattle.shapes.specs.Edges.{meeting_of}
+use Rattle.shapes.specs.Shape.{level_of, label_of, type_of, parent_of, Shaped}
 use Rattle.shapes.specs.declared.shape.Shape.{Shape}
 use Rattle.shapes.specs.declared.work.Preparation.{Preparation}
 
@@ -31,37 +31,37 @@ pub record Work : Type 0 where
 -- the entries of the paper's shape: their number, and of each its level, last label, type number, parent and way
 pub record Holds (s : Paper.Shape) (w : Work) : Type 0 where
   pub counted : w.shape.entries ≡ length s.ways
-  pub level-is : (e : ℕ) → e < w.shape.entries → levelOf w.shape e ≡ get_or s.levels e 0
+  pub level-is : (e : ℕ) → e < w.shape.entries → level_of w.shape e ≡ get_or s.levels e 0
   pub label_is : (e : ℕ) → e < w.shape.entries → label_of w.shape e ≡ get_or s.labels e 0
-  pub type-is : (e : ℕ) → e < w.shape.entries → type_of w.shape e ≡ Paper.kind s e
+  pub type_is : (e : ℕ) → e < w.shape.entries → type_of w.shape e ≡ Paper.kind s e
   pub parent_is : (e : ℕ) → e < w.shape.entries → parent_of w.shape e ≡ Paper.parent s e
-  pub way-is : (e : ℕ) → e < w.shape.entries → wayAt w.ways e (levelOf w.shape e) ≡ Paper.way s e
+  pub way_is : (e : ℕ) → e < w.shape.entries → way_at w.ways e (level_of w.shape e) ≡ Paper.way s e
 
 -- what tests 1 to 7 give where none refuses
 pub record Ready (f : Format) (t s : List ℕ) (w : Work) : Type 0 where
   pub served : Served f
-  pub given_is : tests1-7 f t s ≡ given (record { rows = rows f t; nodes = nodes (rows f t); shape = shapeIn f t s })
+  pub given_is : tests1_7 f t s ≡ given (record { rows = rows f t; nodes = nodes (rows f t); shape = shape_in f t s })
   pub levelled : Levelled f w.rows t w.levels w.types
   pub rows_are : Rows w.rows w.levels w.types
   pub shaped : Shaped (nodes (rows f t)) w.shape
-  pub shallow : (e : ℕ) → e < w.shape.entries → levelOf w.shape e ≤ f.levels
+  pub shallow : (e : ℕ) → e < w.shape.entries → level_of w.shape e ≤ f.levels
   pub meets : (d e : ℕ) → d < w.shape.entries → e < w.shape.entries
-      → meetingOf w.meetings w.shape.types d e ≡ kindsMeet (nodes (rows f t)) (type_of w.shape d) (type_of w.shape e)
-  pub holds : Holds (shapeIn f t s) w
+      → meeting_of w.meetings w.shape.types d e ≡ kinds_meet (nodes (rows f t)) (type_of w.shape d) (type_of w.shape e)
+  pub holds : Holds (shape_in f t s) w
 
 -- what tests 1 to 7 say of a table t and a shape s
 pub record Prepared (f : Format) (t s : List ℕ) (w : Work) : Type 0 where
-  pub refused-is : (w.number ≡ 0 → ⊥) → tests1-7 f t s ≡ refused w.number w.place
+  pub refused-is : (w.number ≡ 0 → ⊥) → tests1_7 f t s ≡ refused w.number w.place
   pub ready : w.number ≡ 0 → Ready f t s w
 
 -- the lists that are lent to prepare it: no meetings yet, and places for all ways
 pub record Blank (meetings ways : List ℕ) : Type 0 where
-  pub none-met : meetings ≡ noMeetings
-  pub ways-long : length ways ≡ wayPlaces * mostEntries
+  pub none_met : meetings ≡ no_meetings
+  pub ways_long : length ways ≡ way_places * most_entries
 
 -- the work that is given back as r and found in the lent lists
-abbrev pub workOf : Preparation → List ℕ → List ℕ → List ℕ → List ℕ → Work
-workOf r levels types meetings ways = record {
+abbrev pub work_of : Preparation → List ℕ → List ℕ → List ℕ → List ℕ → Work
+work_of r levels types meetings ways = record {
   number = r.number;
   place = r.place;
   rows = r.rows;
@@ -75,4 +75,4 @@ workOf r levels types meetings ways = record {
 -- whatever table the rows are of, preparing gives r back, and leaves these meetings and ways
 abbrev pub Prepares : Format → List ℕ → RowsRead → Preparation → List ℕ → List ℕ → List ℕ → List ℕ → Type 0
 Prepares f s read r levels types meetings ways =
-    (t : List ℕ) → RowsIn f t read levels types → Prepared f t s (workOf r levels types meetings ways)
+    (t : List ℕ) → RowsIn f t read levels types → Prepared f t s (work_of r levels types meetings ways)

@@ -1,15 +1,15 @@
 // The edges of a shape, each named by its lower entry: the level at which its two types meet. And where the children of an entry end.
 ghost use Rattle.std.specs.Prelude.{◌≡◌, ◌<◌, length, get_or};
-ghost use Rattle.shapes.specs.Edges.{Known, Inside, meetingOf, EdgeLevels, Ends};
+ghost use Rattle.shapes.specs.Edges.{Known, Inside, meeting_of, EdgeLevels, Ends};
 
 // The level at which the types of entries e and f meet.
 pub fn meeting(meetings: &[u8], types: [u8; 16], e: usize, f: usize) -> usize
     requires { (length meetings.now ≡ 1024) × (e < 16) × (f < 16) × (get_or types e 0 < 64) × (get_or types f 0 < 64) }
-    ensures { (result ≡ meetingOf meetings.now types e f) × (result < 256) }
+    ensures { (result ≡ meeting_of meetings.now types e f) × (result < 256) }
 {
-    let down = meetings[16 * bytes::wide(types[f]) + e];
-    let up = meetings[16 * bytes::wide(types[e]) + f];
-    tables::row::larger(bytes::wide(down), bytes::wide(up))
+    let down = meetings[16 * octets::wide(types[f]) + e];
+    let up = meetings[16 * octets::wide(types[e]) + f];
+    tables::row::larger(octets::wide(down), octets::wide(up))
 }
 
 // The level of each edge.
@@ -20,7 +20,7 @@ pub fn edge_levels(meetings: &[u8], types: [u8; 16], parents: [u8; 16], entries:
     let mut edges = [0u8; 16];
     let mut c = 0;
     while c < entries {
-        let p = bytes::wide(parents[c]);
+        let p = octets::wide(parents[c]);
         edges[c] = meeting(meetings, types, p, c) as u8;
         c += 1;
     }
@@ -35,7 +35,7 @@ pub fn entry_ends(parents: [u8; 16], entries: usize) -> [u8; 16]
     let mut ends = [0u8; 16];
     let mut c = 1;
     while c < entries {
-        ends[bytes::wide(parents[c])] = (c + 1) as u8;
+        ends[octets::wide(parents[c])] = (c + 1) as u8;
         c += 1;
     }
     ends

@@ -1,16 +1,16 @@
 // One entry of a shape: the entry rules, and the first entry that breaks one.
 ghost use Rattle.std.specs.Prelude.{◌≡◌, ◌≤◌, length, take};
 ghost use Rattle.paper.specs.Lists.{all, between};
-ghost use Rattle.paper.specs.Format.{entryBytes, words, whole};
+ghost use Rattle.paper.specs.Format.{entry_bytes, words, whole};
 ghost use Rattle.paper.specs.Shapes as Shapes;
-ghost use Rattle.paper.specs.Shapes.{entry_of, levelKept, entryKept, badEntry};
+ghost use Rattle.paper.specs.Shapes.{entry_of, level_kept, entry_kept, bad_entry};
 ghost use Rattle.tables.specs.Place.{place_of};
 
 use paper::Format;
 
 // Are the first `size` labels of an entry labels of the format?
 fn labels_within(entry: &[u8], f: Format, size: usize) -> bool
-    requires { (entryBytes f ≤ length entry.now) × (size ≤ f.levels) × (f.levels ≤ 255) }
+    requires { (entry_bytes f ≤ length entry.now) × (size ≤ f.levels) × (f.levels ≤ 255) }
     ensures { result ≡ all (λ x. between 1 x f.labels) (take size (words f.levels entry.now 4)) }
 {
     let mut k = 0;
@@ -30,7 +30,7 @@ fn labels_within(entry: &[u8], f: Format, size: usize) -> bool
 // May an entry of this level stand after one of level `before`, 0 where there is none before it?
 fn level_kept(before: usize, level: usize) -> bool
     requires { before ≤ 255 }
-    ensures { result ≡ levelKept before level }
+    ensures { result ≡ level_kept before level }
 {
     if before == 0 {
         return level == 1;
@@ -43,11 +43,11 @@ fn level_kept(before: usize, level: usize) -> bool
 
 // Does an entry keep the rules after one of level `before`?
 fn entry_kept(entry: &[u8], f: Format, before: usize) -> bool
-    requires { (length entry.now ≡ entryBytes f) × (f.levels ≤ 255) × (before ≤ 255) }
-    ensures { result ≡ entryKept f before (entry_of f entry.now) }
+    requires { (length entry.now ≡ entry_bytes f) × (f.levels ≤ 255) × (before ≤ 255) }
+    ensures { result ≡ entry_kept f before (entry_of f entry.now) }
 {
-    let level = bytes::wide(entry[0]);
-    let size = bytes::wide(entry[1]);
+    let level = octets::wide(entry[0]);
+    let size = octets::wide(entry[1]);
     if level < 1 {
         return false;
     }
@@ -60,7 +60,7 @@ fn entry_kept(entry: &[u8], f: Format, before: usize) -> bool
     if f.levels < size {
         return false;
     }
-    if bytes::word(entry, 2) != 0 {
+    if octets::word(entry, 2) != 0 {
         return false;
     }
     if !labels_within(entry, f, size) {
@@ -74,18 +74,18 @@ fn entry_kept(entry: &[u8], f: Format, before: usize) -> bool
 
 // The first entry that breaks a rule, the number of entries for none.
 pub fn bad_entry(shape: &[u8], f: Format, entries: usize) -> usize
-    requires { (entries ≡ whole (entryBytes f) shape.now) × (f.levels ≤ 255) }
-    ensures { (badEntry f (Shapes.entries f shape.now) ≡ place_of result entries) × (result ≤ entries) }
+    requires { (entries ≡ whole (entry_bytes f) shape.now) × (f.levels ≤ 255) }
+    ensures { (bad_entry f (Shapes.entries f shape.now) ≡ place_of result entries) × (result ≤ entries) }
 {
-    let w = bytes::entry_bytes(f);
+    let w = octets::entry_bytes(f);
     let mut before = 0;
     let mut e = 0;
     while e < entries {
-        let entry = bytes::record(shape, w, e);
+        let entry = octets::record(shape, w, e);
         if !entry_kept(entry, f, before) {
             return e;
         }
-        before = bytes::wide(entry[0]);
+        before = octets::wide(entry[0]);
         e += 1;
     }
     entries

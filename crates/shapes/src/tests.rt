@@ -1,9 +1,9 @@
 // A shape by itself and over the types of a table: refusals 5 to 7, or what was read of it.
 ghost use Rattle.std.specs.Prelude.{◌≡◌, ◌*◌, ◌≤◌, length};
-ghost use Rattle.paper.specs.Format.{mostEntries, mostTypes};
-ghost use Rattle.bytes.specs.Served.{Served};
-ghost use Rattle.shapes.specs.Ways.{wayPlaces};
-ghost use Rattle.shapes.specs.Tests.{shapeExamined, shapeReply, PassesEach};
+ghost use Rattle.paper.specs.Format.{most_entries, most_types};
+ghost use Rattle.octets.specs.Served.{Served};
+ghost use Rattle.shapes.specs.Ways.{way_places};
+ghost use Rattle.shapes.specs.Tests.{shape_examined, shape_reply, PassesEach};
 
 use crate::entry::bad_entry;
 use crate::entry_types::entry_types;
@@ -21,9 +21,9 @@ pub struct ShapeExamined {
 // Refusals 5 and 6, or the number of entries.
 pub fn examine_shape(shape: &[u8], f: Format) -> ShapeExamined
     requires { Served f }
-    ensures { shapeExamined result ≡ shapeReply f shape.now }
+    ensures { shape_examined result ≡ shape_reply f shape.now }
 {
-    let w = bytes::entry_bytes(f);
+    let w = octets::entry_bytes(f);
     if shape.len() == 0 {
         return ShapeExamined {
             number: 5,
@@ -96,8 +96,8 @@ pub fn tests5_7<'a>(
     count: usize,
     ways: &mut [u8],
 ) -> Tested
-    requires served { Served f × (length ways.old ≡ wayPlaces * mostEntries) }
-    requires count_in_bounds { (count ≤ length parents.now) × (count ≤ length labels.now) × (count ≤ mostTypes) }
+    requires served { Served f × (length ways.old ≡ way_places * most_entries) }
+    requires count_in_bounds { (count ≤ length parents.now) × (count ≤ length labels.now) × (count ≤ most_types) }
     ensures { PassesEach f parents.now labels.now count shape.now result ways.new }
 {
     let examined = examine_shape(shape, f);

@@ -1,6 +1,6 @@
 // A table and a shape as judging, reshaping and summarising work on them.
 ghost use Rattle.std.specs.Prelude.{◌≡◌};
-ghost use Rattle.bytes.specs.Served.{Served};
+ghost use Rattle.octets.specs.Served.{Served};
 ghost use Rattle.closest.specs.Rows.{SomeRows};
 ghost use Rattle.shapes.specs.Work.{Blank, Prepares};
 

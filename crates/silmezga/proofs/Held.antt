@@ -20,11 +20,11 @@ tuple = (S.the_field).into
 abbrev val : (S.the_field).row.Denot → Val
 val = (S'.the_field_laws).val
 
-each-out : (xs : List TypeSummary) (us : List Val) → shadow (each (S.the_field).row.Denot (S.the_field).row.own_val (map tuple xs) us) → shadow (each TypeSummary (S.the_row).own_val xs us)
-each-out [] [] s = s
-each-out [] (u ∷ us) s = s
-each-out (x ∷ xs) [] s = s
-each-out (x ∷ xs) (u ∷ us) s = (s.0, each-out xs us s.1)
+each_out : (xs : List TypeSummary) (us : List Val) → shadow (each (S.the_field).row.Denot (S.the_field).row.own_val (map tuple xs) us) → shadow (each TypeSummary (S.the_row).own_val xs us)
+each_out [] [] s = s
+each_out [] (u ∷ us) s = s
+each_out (x ∷ xs) [] s = s
+each_out (x ∷ xs) (u ∷ us) s = (s.0, each_out xs us s.1)
 
 each_in : (xs : List TypeSummary) (us : List Val) → shadow (each TypeSummary (S.the_row).own_val xs us) → shadow (each (S.the_field).row.Denot (S.the_field).row.own_val (map tuple xs) (map val (map tuple xs)))
 each_in [] [] s = s
@@ -32,9 +32,9 @@ each_in [] (u ∷ us) s = absurd s
 each_in (x ∷ xs) [] s = absurd s
 each_in (x ∷ xs) (u ∷ us) s = (subst (Is (S.the_field).row (tuple x)) ((S'.the_field_laws).tells (tuple x) (u ∷ []) s.0) s.0, each_in xs us s.1)
 
-pub summaries-out : (m : ℕ) (xs : List TypeSummary) (vs : List Val) → Is (array_field S.the_field m).row (map tuple xs) vs → Is (Array S.the_row m) xs (array_val (map S'.lowered xs) ∷ [])
-summaries-out m xs vs p =
-    (map S'.lowered xs, ((refl, sym (length-map xs tuple) ∙ p.1.0.1), subst (λ (us : List Val). shadow (each TypeSummary (S.the_row).own_val xs us)) (LL.each-low S.the_field S'.the_field_laws xs p.0 p.1.1) (each-out xs p.0 p.1.1)))
+pub summaries_out : (m : ℕ) (xs : List TypeSummary) (vs : List Val) → Is (array_field S.the_field m).row (map tuple xs) vs → Is (Array S.the_row m) xs (array_val (map S'.lowered xs) ∷ [])
+summaries_out m xs vs p =
+    (map S'.lowered xs, ((refl, sym (length-map xs tuple) ∙ p.1.0.1), subst (λ (us : List Val). shadow (each TypeSummary (S.the_row).own_val xs us)) (LL.each-low S.the_field S'.the_field_laws xs p.0 p.1.1) (each_out xs p.0 p.1.1)))
 
-pub summaries-in : (m : ℕ) (xs : List TypeSummary) (vs : List Val) → Is (Array S.the_row m) xs vs → Is (array_field S.the_field m).row (map tuple xs) (array_val (map val (map tuple xs)) ∷ [])
-summaries-in m xs vs p = (map val (map tuple xs), ((refl, length-map xs tuple ∙ p.1.0.1), each_in xs p.0 p.1.1))
+pub summaries_in : (m : ℕ) (xs : List TypeSummary) (vs : List Val) → Is (Array S.the_row m) xs vs → Is (array_field S.the_field m).row (map tuple xs) (array_val (map val (map tuple xs)) ∷ [])
+summaries_in m xs vs p = (map val (map tuple xs), ((refl, length-map xs tuple ∙ p.1.0.1), each_in xs p.0 p.1.1))

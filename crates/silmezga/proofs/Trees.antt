@@ -10,21 +10,21 @@ use Rattle.paper.specs.declared.Width.TheVariants.{Six, Eight}
 use Rattle.grammar.specs.Typed.{Reading, Printing}
 use Rattle.grammar.proofs.NamesRead.{NamesRead}
 use Rattle.grammar.proofs.Named.{names-read}
-use Rattle.grammar.proofs.Right.{read-tree-unique}
+use Rattle.grammar.proofs.Right.{read_tree_unique}
 use Rattle.typed.specs.Read.{ReadsTree, reading_of}
 use Rattle.typed.specs.declared.read.TreeRead.{TreeRead}
 use Rattle.spelling.specs.Printed.{Prints}
 use Rattle.spelling.specs.declared.print.TreePrinted.{TreePrinted}
-use Rattle.spelling.proofs.Unique.{prints-unique}
+use Rattle.spelling.proofs.Unique.{prints_unique}
 
 -- both widths have a label
-width-labelled : (w : Width) → 0 < (format_of w).labels
+width_labelled : (w : Width) → 0 < (format_of w).labels
 unfolding base eight
-width-labelled Six = lit≤ tt
-width-labelled Eight = lit≤ tt
+width_labelled Six = lit≤ tt
+width_labelled Eight = lit≤ tt
 
-pub format-labelled : (f : Format) (w : Width) → f ≡ format_of w → 0 < f.labels
-format-labelled f w e = subst (λ (g : Format). 0 < g.labels) (sym e) (width-labelled w)
+pub format_labelled : (f : Format) (w : Width) → f ≡ format_of w → 0 < f.labels
+format_labelled f w e = subst (λ (g : Format). 0 < g.labels) (sym e) (width_labelled w)
 
 -- and each label is of one byte
 pub width_low : (w : Width) → (format_of w).labels < 256
@@ -33,16 +33,16 @@ width_low Six = lit≤ tt
 width_low Eight = lit≤ tt
 
 -- so names are read as they are spelled
-pub width-named : (w : Width) → NamesRead (format_of w)
-width-named w = names-read (format_of w) (width-labelled w)
+pub width_named : (w : Width) → NamesRead (format_of w)
+width_named w = names-read (format_of w) (width_labelled w)
 
 -- the answer, and every byte lent for the shape after it
-pub read-settled : (f : Format) → NamesRead f → (b text lent : List ℕ) (r s : TreeRead) (t u : List ℕ) → ReadsTree f b text lent r t → ReadsTree f b text lent s u
+pub read_settled : (f : Format) → NamesRead f → (b text lent : List ℕ) (r s : TreeRead) (t u : List ℕ) → ReadsTree f b text lent r t → ReadsTree f b text lent s u
     → ◌≡◌ {A = TreeRead × List ℕ} (r, t) (s, u)
-read-settled f names b text lent r s t u x y =
+read_settled f names b text lent r s t u x y =
     ap (λ (z : Reading). (record { number = z.reply.number; place = z.reply.place; entries = z.reply.rest }, z.shape))
-    (read-tree-unique f names b text lent (reading_of r t) (reading_of s u) x y)
+    (read_tree_unique f names b text lent (reading_of r t) (reading_of s u) x y)
 
 -- the answer, and every byte lent for the line after it
-pub print-settled : (p : Printing) (r s : TreePrinted) (t u : List ℕ) → Prints p r t → Prints p s u → ◌≡◌ {A = TreePrinted × List ℕ} (r, t) (s, u)
-print-settled p r s t u x y = let e = prints-unique p r s t u x y in λ i. (e.0 i, e.1 i)
+pub print_settled : (p : Printing) (r s : TreePrinted) (t u : List ℕ) → Prints p r t → Prints p s u → ◌≡◌ {A = TreePrinted × List ℕ} (r, t) (s, u)
+print_settled p r s t u x y = let e = prints_unique p r s t u x y in λ i. (e.0 i, e.1 i)

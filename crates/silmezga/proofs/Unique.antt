@@ -4,7 +4,7 @@ use Prim.Native.Nat.{ℕ, ◌*◌}
 use mathlib.Core.Path.{◌≡◌, refl, sym, ◌∙◌, ap}
 use mathlib.Core.List.{List, map}
 use lib.ListN.{length, take}
-use Rattle.paper.specs.Format.{Format, rowBytes}
+use Rattle.paper.specs.Format.{Format, row_bytes}
 use Rattle.paper.specs.Widths as Widths
 use Rattle.paper.specs.Widths.{format_of}
 use Rattle.paper.specs.Verdict.{kept}
@@ -15,25 +15,25 @@ use Rattle.paper.specs.Shown.{FiguresAgree}
 use Rattle.paper.specs.Edges.{EdgesAgree}
 use Rattle.widths.specs.Answers.{Moves}
 use Rattle.widths.specs.declared.moves.Moved.{Moved}
-use Rattle.widths.proofs.Unique.{moves-unique}
+use Rattle.widths.proofs.Unique.{moves_unique}
 use Rattle.labels.specs.declared.convert.Converted.{Converted}
-use Rattle.labels.proofs.Unique.{converts-unique, converts-left}
-use Rattle.bytes.proofs.Laws.{format-served}
+use Rattle.labels.proofs.Unique.{converts_unique, converts_left}
+use Rattle.octets.proofs.Laws.{format_served}
 use Rattle.typed.specs.declared.read.TreeRead.{TreeRead}
 use Rattle.spelling.specs.declared.print.TreePrinted.{TreePrinted}
 use Rattle.adorned.specs.Told.{told}
-use Rattle.adorned.specs.Lent.{adornedTypes}
+use Rattle.adorned.specs.Lent.{adorned_types}
 use Rattle.adorned.specs.declared.TypeSummary.{TypeSummary}
 use Rattle.adorned.specs.declared.lent.AdornedTypes.{AdornedTypes}
 use Rattle.adorned.proofs.Unique.{told_same}
 use Rattle.tables.proofs.Unique as tables
 use Rattle.judging.proofs.Unique as judging
-use Rattle.judging.specs.Judged.{edgesOf}
+use Rattle.judging.specs.Judged.{edges_of}
 use Rattle.reshaping.proofs.Unique as reshaping
 use Rattle.reshaping.specs.Reshaped.{Reshapes, summarised}
 use Rattle.reshaping.specs.declared.reshape.Reshaped.{Reshaped}
-use Rattle.settling.proofs.Settles.{part, Settled, Promises, Walk-settled, both, three, nothing, two-clauses}
-use Rattle.silmezga.proofs.Trees.{width-named, read-settled, print-settled}
+use Rattle.settling.proofs.Settles.{part, Settled, Promises, Walk-settled, both, three, nothing, two_clauses}
+use Rattle.silmezga.proofs.Trees.{width_named, read_settled, print_settled}
 use Rattle.silmezga.proofs.examine.Reads as examine
 use Rattle.silmezga.proofs.look_up.Reads as look_up
 use Rattle.silmezga.proofs.look_up_refusal.Reads as look-up-refusal
@@ -50,63 +50,63 @@ use Rattle.silmezga.proofs.read_tree.Reads as read-tree
 use Rattle.silmezga.proofs.print_tree.Reads as print-tree
 
 -- ---- examining and looking up
-pub examine-settled : Settled examine.Asked examine.Learnt (λ κs r e. r)
-examine-settled = ((λ κs a. tt), λ κs a r s e f. tables.examine-unique (format_of a.0) a.1.0.now r s)
+pub examine_settled : Settled examine.Asked examine.Learnt (λ κs r e. r)
+examine_settled = ((λ κs a. tt), λ κs a r s e f. tables.examine_unique (format_of a.0) a.1.0.now r s)
 
 -- the same bytes at the same place of the caller's table
-pub look-up-settled : Settled look_up.Asked look_up.Learnt (λ κs p e. part p)
-look-up-settled = ((λ κs a. tt), λ κs a p o e f x y. both (tables.look-up-unique (format_of a.0) a.1.0 a.1.1.0 p o x y))
+pub look_up_settled : Settled look_up.Asked look_up.Learnt (λ κs p e. part p)
+look_up_settled = ((λ κs a. tt), λ κs a p o e f x y. both (tables.look_up_unique (format_of a.0) a.1.0 a.1.1.0 p o x y))
 
-pub look-up-refusal-settled : Settled look-up-refusal.Asked look-up-refusal.Learnt (λ κs r e. r)
-look-up-refusal-settled = ((λ κs a. tt), λ κs a r s e f. tables.look-up-refusal-unique (format_of a.0) a.1.0.now a.1.1.0 r s)
+pub look_up_refusal_settled : Settled look-up-refusal.Asked look-up-refusal.Learnt (λ κs r e. r)
+look_up_refusal_settled = ((λ κs a. tt), λ κs a r s e f. tables.look_up_refusal_unique (format_of a.0) a.1.0.now a.1.1.0 r s)
 
 -- ---- adorning: the answer, and every lent summary after it
-adorn-unique : (f : Format) (t : List ℕ) (before after₁ after₂ : List TypeSummary) (a b : AdornedTypes)
-    → adornedTypes a ≡ (adorn f t (map told before)).reply → adornedTypes b ≡ (adorn f t (map told before)).reply
+adorn_unique : (f : Format) (t : List ℕ) (before after₁ after₂ : List TypeSummary) (a b : AdornedTypes)
+    → adorned_types a ≡ (adorn f t (map told before)).reply → adorned_types b ≡ (adorn f t (map told before)).reply
     → map told after₁ ≡ (adorn f t (map told before)).summaries → map told after₂ ≡ (adorn f t (map told before)).summaries
     → (a ≡ b) × (after₁ ≡ after₂)
-adorn-unique f t before after₁ after₂ a b ea eb la lb =
+adorn_unique f t before after₁ after₂ a b ea eb la lb =
     let same : a ≡ b = ap {B = AdornedTypes} (λ (r : Reply ℕ). record { number = r.number; place = r.place; types = r.rest }) (ea ∙ sym eb) in
     (same, told_same after₁ after₂ (la ∙ sym lb))
 
-pub adorn-settled : Walk-settled adorn-call.ended (λ M 𝓤 𝓛. adorn-call.clauses 𝓛) {X = AdornedTypes × List TypeSummary} (λ κs r e. (r, e.1.1.0.now))
-adorn-settled = (
+pub adorn_settled : Walk-settled adorn-call.ended (λ M 𝓤 𝓛. adorn-call.clauses 𝓛) {X = AdornedTypes × List TypeSummary} (λ κs r e. (r, e.1.1.0.now))
+adorn_settled = (
   (λ M 𝓤 𝓛 mem run κs a g. nothing 𝓤),
-  λ M 𝓤 𝓛 mem run κs a g r s e f. two-clauses 𝓤 _ _ _ _ (λ x₀ x₁ y₀ y₁.
-      both (adorn-unique (format_of a.0) a.1.0.now a.1.1.0.now e.1.1.0.now f.1.1.0.now r s x₀ y₀ x₁ y₁)),
+  λ M 𝓤 𝓛 mem run κs a g r s e f. two_clauses 𝓤 _ _ _ _ (λ x₀ x₁ y₀ y₁.
+      both (adorn_unique (format_of a.0) a.1.0.now a.1.1.0.now e.1.1.0.now f.1.1.0.now r s x₀ y₀ x₁ y₁)),
 )
 
 -- ---- judging and reshaping
-pub judge-settled : Settled judge-call.Asked judge-call.Learnt (λ κs r e. r)
-judge-settled = ((λ κs a. tt), λ κs a r s e f. judging.judge-unique (format_of a.0) a.1.0.now a.1.1.0.now r s)
+pub judge_settled : Settled judge-call.Asked judge-call.Learnt (λ κs r e. r)
+judge_settled = ((λ κs a. tt), λ κs a r s e f. judging.judge_unique (format_of a.0) a.1.0.now a.1.1.0.now r s)
 
 -- where judging is accepted, the numbers of each edge agree with rows and verdict
-pub judge-edges-agree : Promises judge-call.Learnt (λ κs a r e. r.number ≡ 0 → EdgesAgree (format_of a.0) a.1.0.now a.1.1.0.now (edgesOf r))
-judge-edges-agree κs a r e x = judging.edges-agree (format_of a.0) a.1.0.now a.1.1.0.now r x
+pub judge_edges_agree : Promises judge-call.Learnt (λ κs a r e. r.number ≡ 0 → EdgesAgree (format_of a.0) a.1.0.now a.1.1.0.now (edges_of r))
+judge_edges_agree κs a r e x = judging.edges_agree (format_of a.0) a.1.0.now a.1.1.0.now r x
 
 -- the answer, and every lent byte and place after it
-pub reshape-settled : Settled {X = Reshaped × (List ℕ × List ℕ)} reshape.Asked reshape.Learnt (λ κs r e. (r, (e.1.1.1.0.now, e.1.1.1.1.0.now)))
-reshape-settled = ((λ κs a. tt), λ κs a r s e f x y. three (reshaping.reshape-unique x y))
+pub reshape_settled : Settled {X = Reshaped × (List ℕ × List ℕ)} reshape.Asked reshape.Learnt (λ κs r e. (r, (e.1.1.1.0.now, e.1.1.1.1.0.now)))
+reshape_settled = ((λ κs a. tt), λ κs a r s e f x y. three (reshaping.reshape_unique x y))
 
 -- what the call leaves keeps the whole promise, each of its parts
-pub reshape-promises : Promises reshape.Learnt (λ κs a r e.
+pub reshape_promises : Promises reshape.Learnt (λ κs a r e.
     Reshapes (format_of a.0) a.1.0.now a.1.1.0.now a.1.1.1.0.now a.1.1.1.1.0.now r
     e.1.1.1.0.now e.1.1.1.1.0.now)
-reshape-promises κs a r e x = x
+reshape_promises κs a r e x = x
 
 -- demand 3: where the reshape is accepted and the verdict on the same table and shape is 0, what the call leaves keeps the links
-pub reshape-keeps-links : Promises reshape.Learnt (λ κs a r e. r.number ≡ 0
+pub reshape_keeps_links : Promises reshape.Learnt (λ κs a r e. r.number ≡ 0
     → (judge (format_of a.0) a.1.0.now a.1.1.0.now).rest.verdict ≡ kept
     → LinksKept (format_of a.0) a.1.0.now a.1.1.0.now
-    (take (r.lines * rowBytes (format_of a.0)) e.1.1.1.0.now) (take r.lines e.1.1.1.1.0.now))
-reshape-keeps-links κs a r e x = reshaping.links-promised x
+    (take (r.lines * row_bytes (format_of a.0)) e.1.1.1.0.now) (take r.lines e.1.1.1.1.0.now))
+reshape_keeps_links κs a r e x = reshaping.links_promised x
 
-pub summarise-settled : Settled summarise.Asked summarise.Learnt (λ κs r e. r)
-summarise-settled = ((λ κs a. tt), λ κs a r s e f. reshaping.summarise-unique (format_of a.0) a.1.0.now a.1.1.0.now r s)
+pub summarise_settled : Settled summarise.Asked summarise.Learnt (λ κs r e. r)
+summarise_settled = ((λ κs a. tt), λ κs a r s e f. reshaping.summarise_unique (format_of a.0) a.1.0.now a.1.1.0.now r s)
 
 -- the figures of each entry agree: its different rows are no more than its lines, nor than the rows of its type, and its other lines are copies
-pub summarise-agrees : Promises summarise.Learnt (λ κs a r e. (n : ℕ) → FiguresAgree (summarised r).rest n)
-summarise-agrees κs a r e x = reshaping.figures-agree (format_of a.0) a.1.0.now a.1.1.0.now r x
+pub summarise_agrees : Promises summarise.Learnt (λ κs a r e. (n : ℕ) → FiguresAgree (summarised r).rest n)
+summarise_agrees κs a r e x = reshaping.figures_agree (format_of a.0) a.1.0.now a.1.1.0.now r x
 
 -- where the verdict on the same table and shape is 0, every row of an entry's type is shown
 pub summarise-shows-all : Promises summarise.Learnt (λ κs a r e.
@@ -114,25 +114,25 @@ pub summarise-shows-all : Promises summarise.Learnt (λ κs a r e.
 summarise-shows-all κs a r e x = reshaping.all_shown (format_of a.0) a.1.0.now a.1.1.0.now r x
 
 -- ---- widening and narrowing: the answer, and every lent byte after it
-moved-settled : (m : Widths.Moved) (r s : Moved) (new₁ new₂ : List ℕ) → Moves m r new₁ → Moves m s new₂ → ◌≡◌ {A = Moved × List ℕ} (r, new₁) (s, new₂)
-moved-settled m r s new₁ new₂ x y = both (moves-unique m r s new₁ new₂ x y)
+moved_settled : (m : Widths.Moved) (r s : Moved) (new₁ new₂ : List ℕ) → Moves m r new₁ → Moves m s new₂ → ◌≡◌ {A = Moved × List ℕ} (r, new₁) (s, new₂)
+moved_settled m r s new₁ new₂ x y = both (moves_unique m r s new₁ new₂ x y)
 
-pub widen-table-settled : Settled {X = Moved × List ℕ} widen-table.Asked widen-table.Learnt (λ κs r e. (r, e.1.0.now))
-widen-table-settled = ((λ κs a. tt), λ κs a r s e f. moved-settled _ r s _ _)
+pub widen_table_settled : Settled {X = Moved × List ℕ} widen-table.Asked widen-table.Learnt (λ κs r e. (r, e.1.0.now))
+widen_table_settled = ((λ κs a. tt), λ κs a r s e f. moved_settled _ r s _ _)
 
-pub narrow-table-settled : Settled {X = Moved × List ℕ} narrow-table.Asked narrow-table.Learnt (λ κs r e. (r, e.1.0.now))
-narrow-table-settled = ((λ κs a. tt), λ κs a r s e f. moved-settled _ r s _ _)
+pub narrow_table_settled : Settled {X = Moved × List ℕ} narrow-table.Asked narrow-table.Learnt (λ κs r e. (r, e.1.0.now))
+narrow_table_settled = ((λ κs a. tt), λ κs a r s e f. moved_settled _ r s _ _)
 
-pub widen-shape-settled : Settled {X = Moved × List ℕ} widen-shape.Asked widen-shape.Learnt (λ κs r e. (r, e.1.0.now))
-widen-shape-settled = ((λ κs a. tt), λ κs a r s e f. moved-settled _ r s _ _)
+pub widen_shape_settled : Settled {X = Moved × List ℕ} widen-shape.Asked widen-shape.Learnt (λ κs r e. (r, e.1.0.now))
+widen_shape_settled = ((λ κs a. tt), λ κs a r s e f. moved_settled _ r s _ _)
 
-pub narrow-shape-settled : Settled {X = Moved × List ℕ} narrow-shape.Asked narrow-shape.Learnt (λ κs r e. (r, e.1.0.now))
-narrow-shape-settled = ((λ κs a. tt), λ κs a r s e f. moved-settled _ r s _ _)
+pub narrow_shape_settled : Settled {X = Moved × List ℕ} narrow-shape.Asked narrow-shape.Learnt (λ κs r e. (r, e.1.0.now))
+narrow_shape_settled = ((λ κs a. tt), λ κs a r s e f. moved_settled _ r s _ _)
 
 -- ---- converting labels: the answer, and every byte lent for the table and for the shape after it
-pub convert-labels-settled : Settled {X = Converted × (List ℕ × List ℕ)} convert-labels.Asked convert-labels.Learnt
+pub convert_labels_settled : Settled {X = Converted × (List ℕ × List ℕ)} convert-labels.Asked convert-labels.Learnt
     (λ κs r e. (r, (e.1.1.1.1.0.now, e.1.1.1.1.1.0.now)))
-convert-labels-settled = ((λ κs a. tt), λ κs a r s e f x y. three (converts-unique _ r s _ _ _ _ x y))
+convert_labels_settled = ((λ κs a. tt), λ κs a r s e f x y. three (converts_unique _ r s _ _ _ _ x y))
 
 -- What an accepted call leaves is an accepted conversion, of which the theorems on one are (paper's ConvertedCalls).
 pub convert-labels-leaves : Promises convert-labels.Learnt (λ κs a r e. r.number ≡ 0
@@ -143,11 +143,11 @@ pub convert-labels-leaves : Promises convert-labels.Learnt (λ κs a r e. r.numb
       take (length a.1.0.now) e.1.1.1.1.0.now,
       take (length a.1.1.0.now) e.1.1.1.1.1.0.now,
     ))
-convert-labels-leaves κs a r e x = converts-left (format_of a.0) (format-served _ a.0 refl).small _ _ _ _ _ r _ _ x
+convert-labels-leaves κs a r e x = converts_left (format_of a.0) (format_served _ a.0 refl).small _ _ _ _ _ r _ _ x
 
 -- ---- typed trees: the answer, and every byte lent for the shape or the line after it
-pub read-tree-settled : Settled {X = TreeRead × List ℕ} read-tree.Asked read-tree.Learnt (λ κs r e. (r, e.1.1.1.0.now))
-read-tree-settled = ((λ κs a. tt), λ κs a r s e f. read-settled (format_of a.0) (width-named a.0) _ _ _ r s _ _)
+pub read_tree_settled : Settled {X = TreeRead × List ℕ} read-tree.Asked read-tree.Learnt (λ κs r e. (r, e.1.1.1.0.now))
+read_tree_settled = ((λ κs a. tt), λ κs a r s e f. read_settled (format_of a.0) (width_named a.0) _ _ _ r s _ _)
 
-pub print-tree-settled : Settled {X = TreePrinted × List ℕ} print-tree.Asked print-tree.Learnt (λ κs r e. (r, e.1.1.0.now))
-print-tree-settled = ((λ κs a. tt), λ κs a r s e f. print-settled _ r s _ _)
+pub print_tree_settled : Settled {X = TreePrinted × List ℕ} print-tree.Asked print-tree.Learnt (λ κs r e. (r, e.1.1.0.now))
+print_tree_settled = ((λ κs a. tt), λ κs a r s e f. print_settled _ r s _ _)

@@ -6,20 +6,20 @@
 // a table, under the same rule; its file, with its promises, stands in crate `reading`.
 ghost use Rattle.std.specs.Prelude.{◌≡◌, map};
 ghost use Rattle.paper.specs.Format.{base, eight};
-ghost use Rattle.paper.specs.Widths.{format_of, moveTable, moveShape};
-ghost use Rattle.paper.specs.Calls.{examine, lookUp, adorn, judge, summarise};
+ghost use Rattle.paper.specs.Widths.{format_of, move_table, move_shape};
+ghost use Rattle.paper.specs.Calls.{examine, look_up, adorn, judge, summarise};
 ghost use Rattle.paper.specs.Labels.{convert};
-ghost use Rattle.paper.specs.Index.{judgeWith, summariseWith};
-ghost use Rattle.grammar.specs.Typed.{printTree};
+ghost use Rattle.paper.specs.Index.{judge_with, summarise_with};
+ghost use Rattle.grammar.specs.Typed.{print_tree};
 ghost use Rattle.tables.specs.Reply.{examined, HandsBack};
-ghost use Rattle.adorned.specs.Lent.{told, adornedTypes};
-ghost use Rattle.adorned.specs.Told.{Says, adornFigures};
+ghost use Rattle.adorned.specs.Lent.{told, adorned_types};
+ghost use Rattle.adorned.specs.Told.{Says, adorn_figures};
 ghost use Rattle.widths.specs.Answers.{Moves};
 ghost use Rattle.labels.specs.Answers.{Converts};
 ghost use Rattle.typed.specs.Read.{ReadsTree};
 ghost use Rattle.spelling.specs.Printed.{Prints};
 ghost use Rattle.indexes.specs.Built.{Builds};
-ghost use Rattle.judging.specs.Judged.{judged, inNumbers};
+ghost use Rattle.judging.specs.Judged.{judged, in_numbers};
 ghost use Rattle.reshaping.specs.Reshaped.{Reshapes, ReshapesWith, summarised};
 
 use adorned::Adorned;
@@ -54,15 +54,15 @@ pub fn look_up(width: Width, table: &[u8], row: usize) -> &[u8]
 
 // The number and place of a look-up: refusals 1 to 3, then 11.
 pub fn look_up_refusal(width: Width, table: &[u8], row: usize) -> Refusal
-    ensures number_value { result.number ≡ (lookUp (format_of width) table.now row).number }
-    ensures place_value { result.place ≡ (lookUp (format_of width) table.now row).place }
+    ensures number_value { result.number ≡ (look_up (format_of width) table.now row).number }
+    ensures place_value { result.place ≡ (look_up (format_of width) table.now row).place }
 {
     tables::table::look_up_refusal(table, paper::format_of(width), row)
 }
 
 // What adorning finds out of a table, by value.
 fn adorned_at(width: Width, table: &[u8], lent: usize) -> Adorned
-    ensures { Says (adornFigures (format_of width) table.now lent) result }
+    ensures { Says (adorn_figures (format_of width) table.now lent) result }
 {
     adorned::adorn_by_value(table, paper::format_of(width), lent)
 }
@@ -70,7 +70,7 @@ fn adorned_at(width: Width, table: &[u8], lent: usize) -> Adorned
 // Adorns a table: refusals 1 to 4, then 10, or the count of types, with one summary a type at the front of what was lent; what lies past
 // them stays as it was.
 pub fn adorn(width: Width, table: &[u8], summaries: &mut [TypeSummary]) -> AdornedTypes
-    ensures result_value { adornedTypes result ≡ (adorn (format_of width) table.now (map told summaries.old)).reply }
+    ensures result_value { adorned_types result ≡ (adorn (format_of width) table.now (map told summaries.old)).reply }
     ensures summaries_after { map told summaries.new ≡ (adorn (format_of width) table.now (map told summaries.old)).summaries }
 {
     let lent = summaries.len();
@@ -87,7 +87,7 @@ pub fn adorn(width: Width, table: &[u8], summaries: &mut [TypeSummary]) -> Adorn
 // each entry but the first how many closest rows there are along its edge: the least and the greatest number of children under a row of its parent
 // entry's type, and of parents of a row of its own. All edges, whatever the verdict; entry 0 and unused entries hold zeros.
 pub fn judge(width: Width, table: &[u8], shape: &[u8]) -> Judged
-    ensures { judged result ≡ inNumbers (judge (format_of width) table.now shape.now) }
+    ensures { judged result ≡ in_numbers (judge (format_of width) table.now shape.now) }
 {
     judging::judge::judge(table, shape, paper::format_of(width))
 }
@@ -121,7 +121,7 @@ pub fn summarise(width: Width, table: &[u8], shape: &[u8]) -> Summary
 // Widens a table of six levels: refusals 1 to 3, then 29, or the count of rows, with the table of eight levels at the front of what was
 // lent: each row has two zero components more. What lies past it stays as it was.
 pub fn widen_table(table: &[u8], new: &mut [u8]) -> Moved
-    ensures { Moves (moveTable base eight table.now new.old) result new.new }
+    ensures { Moves (move_table base eight table.now new.old) result new.new }
 {
     widths::moves::table_between(table, Width::Six, Width::Eight, new)
 }
@@ -129,7 +129,7 @@ pub fn widen_table(table: &[u8], new: &mut [u8]) -> Moved
 // Narrows a table of eight levels: refusals 1 to 3, then 24 with the first row deeper than six levels, then 29, or the count of rows, with
 // the table of six levels at the front of what was lent. What lies past it stays as it was.
 pub fn narrow_table(table: &[u8], new: &mut [u8]) -> Moved
-    ensures { Moves (moveTable eight base table.now new.old) result new.new }
+    ensures { Moves (move_table eight base table.now new.old) result new.new }
 {
     widths::moves::table_between(table, Width::Eight, Width::Six, new)
 }
@@ -137,7 +137,7 @@ pub fn narrow_table(table: &[u8], new: &mut [u8]) -> Moved
 // Widens a shape of six levels: refusals 5 and 6, then 29, or the count of entries, with the shape of eight levels at the front of what was
 // lent: each entry has two zero labels more. What lies past it stays as it was.
 pub fn widen_shape(shape: &[u8], new: &mut [u8]) -> Moved
-    ensures { Moves (moveShape base eight shape.now new.old) result new.new }
+    ensures { Moves (move_shape base eight shape.now new.old) result new.new }
 {
     widths::moves::shape_between(shape, Width::Six, Width::Eight, new)
 }
@@ -145,7 +145,7 @@ pub fn widen_shape(shape: &[u8], new: &mut [u8]) -> Moved
 // Narrows a shape of eight levels: refusals 5 and 6, then 24 with the first entry whose level or type length is over six, then 29, or the
 // count of entries, with the shape of six levels at the front of what was lent. What lies past it stays as it was.
 pub fn narrow_shape(shape: &[u8], new: &mut [u8]) -> Moved
-    ensures { Moves (moveShape eight base shape.now new.old) result new.new }
+    ensures { Moves (move_shape eight base shape.now new.old) result new.new }
 {
     widths::moves::shape_between(shape, Width::Eight, Width::Six, new)
 }
@@ -190,7 +190,7 @@ pub fn read_tree(width: Width, table: &[u8], text: &[u8], shape: &mut [u8]) -> T
 // with the line at the front of what was lent. It has no more than 1,360 bytes, and is read back as the same shape over every table past 1 to 4
 // that holds its types.
 pub fn print_tree(width: Width, shape: &[u8], text: &mut [u8]) -> TreePrinted
-    ensures { Prints (printTree (format_of width) shape.now text.old) result text.new }
+    ensures { Prints (print_tree (format_of width) shape.now text.old) result text.new }
 {
     spelling::print::print_tree(shape, paper::format_of(width), text)
 }
@@ -214,8 +214,8 @@ pub fn judge_with_index(
     last: &[u16],
     next: &[u16],
 ) -> Judged
-    ensures { let asked = judgeWith (format_of width) table.now shape.now last.now next.now in
-        judged result ≡ inNumbers asked }
+    ensures { let asked = judge_with (format_of width) table.now shape.now last.now next.now in
+        judged result ≡ in_numbers asked }
 {
     judging::judge::judge_with_index(table, shape, paper::format_of(width), last, next)
 }
@@ -255,7 +255,7 @@ pub fn summarise_with_index(
     last: &[u16],
     next: &[u16],
 ) -> Summary
-    ensures { summarised result ≡ summariseWith (format_of width) table.now shape.now last.now next.now }
+    ensures { summarised result ≡ summarise_with (format_of width) table.now shape.now last.now next.now }
 {
     reshaping::summarise::summarise_with_index(table, shape, paper::format_of(width), last, next)
 }

@@ -5,63 +5,63 @@ use mathlib.Core.Path.{◌≡◌, refl, sym, ◌∙◌, ap}
 use mathlib.Core.List.{List, [], ◌∷◌, ◌++◌}
 use lib.ListN.{length, take, drop, get_or}
 use Rattle.paper.specs.Lists.{padded}
-use Rattle.paper.specs.Format.{Format, mostRows, rowBytes, whole}
+use Rattle.paper.specs.Format.{Format, most_rows, row_bytes, whole}
 use Rattle.paper.specs.Tables.{rows}
 use Rattle.paper.specs.Verdict as paper
-use Rattle.paper.specs.Verdict.{Judgement, kept, missing, apart, unsure, verdictNumbers}
-use Rattle.paper.specs.Calls.{given, Reply, tests1-3, lookUp}
-use Rattle.judging.specs.Judged.{numbersOf, InNumbers, judged, inNumbers}
+use Rattle.paper.specs.Verdict.{Judgement, kept, missing, apart, unsure, verdict_numbers}
+use Rattle.paper.specs.Calls.{given, Reply, tests1_3, look_up}
+use Rattle.judging.specs.Judged.{numbers_of, InNumbers, judged, in_numbers}
 use Rattle.judging.specs.declared.judge.Judged.{Judged}
 use Rattle.judging.specs.declared.verdict.Verdict.{Verdict}
 use Rattle.judging.specs.declared.verdict.Verdict.TheVariants.{Kept, Missing, Apart, Unsure}
-use Rattle.paper.proofs.Calls.{passed1-3}
-use Rattle.bytes.proofs.Laws.{record-length}
+use Rattle.paper.proofs.Calls.{passed1_3}
+use Rattle.octets.proofs.Laws.{record_length}
 use Rattle.tables.specs.Reply.{start_of}
-use Rattle.tables.proofs.Back.{refused-start}
-use Rattle.tables.proofs.Examine.{lookUp-row}
+use Rattle.tables.proofs.Back.{refused_start}
+use Rattle.tables.proofs.Examine.{look_up-row}
 use Rattle.tables.proofs.Rows.{row_in}
-use Rattle.silmezga_c.specs.Told.{LooksUp, as_number, InFour, inFour, fourNumbers}
-use Rattle.silmezga_c.specs.Numbers.{judgedNumbers}
+use Rattle.silmezga_c.specs.Told.{LooksUp, as_number, InFour, in_four, four_numbers}
+use Rattle.silmezga_c.specs.Numbers.{judged_numbers}
 use Rattle.silmezga_c.specs.declared.LookedUp.{LookedUp}
 use Rattle.silmezga_c.specs.declared.JudgedNumbers.{JudgedNumbers}
 
 -- ---- look-up
 module _ (f : Format) (t : List ℕ) (i : ℕ) where
   -- refused, the number and the place are told, and no part
-  pub told-refused : (k p : ℕ) (r : LookedUp) → (k ≡ 0 → ⊥) → lookUp f t i ≡ record { number = k; place = p; rest = [] }
+  pub told-refused : (k p : ℕ) (r : LookedUp) → (k ≡ 0 → ⊥) → look_up f t i ≡ record { number = k; place = p; rest = [] }
       → (r.number ≡ k) × (r.place ≡ p) × (r.start ≡ 0) × (r.length ≡ 0) → LooksUp f t i r
   told-refused k p r ne e h =
-      let number : (lookUp f t i).number ≡ k = ap (λ (x : Reply (List ℕ)). x.number) e in
-      let rest : (lookUp f t i).rest ≡ [] = ap (λ (x : Reply (List ℕ)). x.rest) e in
+      let number : (look_up f t i).number ≡ k = ap (λ (x : Reply (List ℕ)). x.number) e in
+      let rest : (look_up f t i).rest ≡ [] = ap (λ (x : Reply (List ℕ)). x.rest) e in
       record {
         number_is = h.0 ∙ sym number;
         place_is = h.1 ∙ sym (ap (λ (x : Reply (List ℕ)). x.place) e);
-        start_is = h.2 ∙ sym (refused-start f k i ne) ∙ ap (λ n. start_of f n i) (sym number);
+        start_is = h.2 ∙ sym (refused_start f k i ne) ∙ ap (λ n. start_of f n i) (sym number);
         length-is = h.3 ∙ ap length (sym rest);
-        part-is = ap (λ n. take n (drop r.start t)) h.3 ∙ sym rest;
+        part_is = ap (λ n. take n (drop r.start t)) h.3 ∙ sym rest;
       }
 
-  module _ (g : tests1-3 f t ≡ given (rows f t)) (lt : i < whole (rowBytes f) t) where
-    pub start_small : rowBytes f * i ≤ mostRows * rowBytes f
-    start_small = omega (arith, (passed1-3 f t (rows f t) g).2, row_in (rowBytes f) i t lt)
+  module _ (g : tests1_3 f t ≡ given (rows f t)) (lt : i < whole (row_bytes f) t) where
+    pub start_small : row_bytes f * i ≤ most_rows * row_bytes f
+    start_small = omega (arith, (passed1_3 f t (rows f t) g).2, row_in (row_bytes f) i t lt)
 
     -- a row that is there starts after those before it
-    pub told-row : LooksUp f t i (record { number = 0; place = 0; start = rowBytes f * i; length = rowBytes f })
+    pub told-row : LooksUp f t i (record { number = 0; place = 0; start = row_bytes f * i; length = row_bytes f })
     told-row =
-        let e = lookUp-row f t i g lt in
-        let number : (lookUp f t i).number ≡ 0 = ap (λ (x : Reply (List ℕ)). x.number) e in
-        let rest : (lookUp f t i).rest ≡ take (rowBytes f) (drop (rowBytes f * i) t) = ap (λ (x : Reply (List ℕ)). x.rest) e in
+        let e = look_up-row f t i g lt in
+        let number : (look_up f t i).number ≡ 0 = ap (λ (x : Reply (List ℕ)). x.number) e in
+        let rest : (look_up f t i).rest ≡ take (row_bytes f) (drop (row_bytes f * i) t) = ap (λ (x : Reply (List ℕ)). x.rest) e in
         record {
           number_is = sym number;
           place_is = sym (ap (λ (x : Reply (List ℕ)). x.place) e);
           start_is = ap (λ n. start_of f n i) (sym number);
-          length-is = sym (record-length t (rowBytes f) i (row_in (rowBytes f) i t lt)) ∙ ap length (sym rest);
-          part-is = sym rest;
+          length-is = sym (record_length t (row_bytes f) i (row_in (row_bytes f) i t lt)) ∙ ap length (sym rest);
+          part_is = sym rest;
         }
 
 -- two answers that say where the row stands are one
-pub look-up-unique : {f : Format} {t : List ℕ} {i : ℕ} {r s : LookedUp} → LooksUp f t i r → LooksUp f t i s → r ≡ s
-look-up-unique a b = λ j. record {
+pub look_up_unique : {f : Format} {t : List ℕ} {i : ℕ} {r s : LookedUp} → LooksUp f t i r → LooksUp f t i s → r ≡ s
+look_up_unique a b = λ j. record {
   number = (a.number_is ∙ sym b.number_is) j;
   place = (a.place_is ∙ sym b.place_is) j;
   start = (a.start_is ∙ sym b.start_is) j;
@@ -71,25 +71,25 @@ look-up-unique a b = λ j. record {
 -- ---- judging
 -- the four numbers of a verdict in numbers and a second answer
 abbrev four : InNumbers → List ℕ
-four y = padded 3 y.verdict ++ (as_number y.noneApart ∷ [])
+four y = padded 3 y.verdict ++ (as_number y.none_apart ∷ [])
 
 -- what was judged, in numbers, is the reply that it was judged to be, in numbers
-pub in-four-lem : (j : Judged) (x : Reply Judgement) → judged j ≡ inNumbers x → judgedNumbers j ≡ fourNumbers x
-in-four-lem j x e = ap {B = Reply InFour} (λ (y : Reply InNumbers). record {
+pub in_four_lem : (j : Judged) (x : Reply Judgement) → judged j ≡ in_numbers x → judged_numbers j ≡ four_numbers x
+in_four_lem j x e = ap {B = Reply InFour} (λ (y : Reply InNumbers). record {
   number = y.number;
   place = y.place;
   rest = record { four = four y.rest; edges = y.rest.edges };
 }) e
 
 -- a verdict as Rattle's call answers it
-answered : (v : paper.Verdict) → (w : Verdict) × (numbersOf w ≡ verdictNumbers v)
+answered : (v : paper.Verdict) → (w : Verdict) × (numbers_of w ≡ verdict_numbers v)
 answered kept = (Kept, refl)
 answered (missing e r) = (Missing e r, refl)
 answered (apart e f) = (Apart e f, refl)
 answered (unsure e f) = (Unsure e f, refl)
 
 -- who is told a judgement in numbers is told an answer of Rattle's call
-pub tells : (x : Reply Judgement) (r : JudgedNumbers) → inFour r ≡ fourNumbers x → (j : Judged) × ((judged j ≡ inNumbers x) × (inFour r ≡ judgedNumbers j))
+pub tells : (x : Reply Judgement) (r : JudgedNumbers) → in_four r ≡ four_numbers x → (j : Judged) × ((judged j ≡ in_numbers x) × (in_four r ≡ judged_numbers j))
 tells x r told =
     let (v, e) = answered x.rest.verdict in
     let edges = x.rest.edges in
@@ -97,18 +97,18 @@ tells x r told =
       number = x.number;
       place = x.place;
       verdict = v;
-      none_apart = x.rest.noneApart;
-      least_children = edges.leastChildren;
-      greatest_children = edges.greatestChildren;
-      least_parents = edges.leastParents;
-      greatest_parents = edges.greatestParents;
+      none_apart = x.rest.none_apart;
+      least_children = edges.least_children;
+      greatest_children = edges.greatest_children;
+      least_parents = edges.least_parents;
+      greatest_parents = edges.greatest_parents;
     } in
-    let is : judged j ≡ inNumbers x =
-    λ i. record { number = x.number; place = x.place; rest = record { verdict = e i; noneApart = x.rest.noneApart; edges = edges } } in
-    (j, (is, told ∙ sym (in-four-lem j x is)))
+    let is : judged j ≡ in_numbers x =
+    λ i. record { number = x.number; place = x.place; rest = record { verdict = e i; none_apart = x.rest.none_apart; edges = edges } } in
+    (j, (is, told ∙ sym (in_four_lem j x is)))
 
 -- two answers that are one reply are one
-pub judged-same : (a b : JudgedNumbers) → inFour a ≡ inFour b → a ≡ b
+pub judged-same : (a b : JudgedNumbers) → in_four a ≡ in_four b → a ≡ b
 judged-same a b = ap {B = JudgedNumbers} (λ (x : Reply InFour). record {
   number = x.number;
   place = x.place;
@@ -116,8 +116,8 @@ judged-same a b = ap {B = JudgedNumbers} (λ (x : Reply InFour). record {
   first = get_or x.rest.four 1 0;
   second = get_or x.rest.four 2 0;
   none_apart = get_or x.rest.four 3 0;
-  least_children = x.rest.edges.leastChildren;
-  greatest_children = x.rest.edges.greatestChildren;
-  least_parents = x.rest.edges.leastParents;
-  greatest_parents = x.rest.edges.greatestParents;
+  least_children = x.rest.edges.least_children;
+  greatest_children = x.rest.edges.greatest_children;
+  least_parents = x.rest.edges.least_parents;
+  greatest_parents = x.rest.edges.greatest_parents;
 })

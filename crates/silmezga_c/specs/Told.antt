@@ -4,8 +4,8 @@ use Rattle.paper.specs.Lists.{padded}
 use Rattle.paper.specs.Format.{Format}
 use Rattle.paper.specs.Widths.{format_of}
 use Rattle.paper.specs.Partners.{EdgeNumbers}
-use Rattle.paper.specs.Verdict.{Judgement, verdictNumbers}
-use Rattle.paper.specs.Calls.{Reply, lookUp}
+use Rattle.paper.specs.Verdict.{Judgement, verdict_numbers}
+use Rattle.paper.specs.Calls.{Reply, look_up}
 use Rattle.paper.specs.declared.Width.{Width}
 use Rattle.paper.specs.declared.Width.TheVariants.{Six, Eight}
 use Rattle.tables.specs.Reply.{start_of}
@@ -16,16 +16,16 @@ use Rattle.silmezga_c.specs.declared.JudgedNumbers.{JudgedNumbers}
 abbrev pub width_of : ℕ → Width
 width_of n = elim (eqb n 8) [ true ↦ Eight | false ↦ Six ]
 
-abbrev pub formatNumbered : ℕ → Format
-formatNumbered n = format_of (width_of n)
+abbrev pub format_numbered : ℕ → Format
+format_numbered n = format_of (width_of n)
 
 -- the answer to the look-up of row i: its number, its place, and where the row's own bytes stand in the caller's table
 pub record LooksUp (f : Format) (t : List ℕ) (i : ℕ) (r : LookedUp) : Type 0 where
-  pub number_is : r.number ≡ (lookUp f t i).number
-  pub place_is : r.place ≡ (lookUp f t i).place
-  pub start_is : r.start ≡ start_of f (lookUp f t i).number i
-  pub length-is : r.length ≡ length (lookUp f t i).rest
-  pub part-is : take r.length (drop r.start t) ≡ (lookUp f t i).rest
+  pub number_is : r.number ≡ (look_up f t i).number
+  pub place_is : r.place ≡ (look_up f t i).place
+  pub start_is : r.start ≡ start_of f (look_up f t i).number i
+  pub length-is : r.length ≡ length (look_up f t i).rest
+  pub part_is : take r.length (drop r.start t) ≡ (look_up f t i).rest
 
 -- yes is 1, and no is 0
 abbrev pub as_number : Bool → ℕ
@@ -38,28 +38,28 @@ pub record InFour : Type 0 where
   pub edges : EdgeNumbers
 
 -- the numbers of each edge, as they are told
-abbrev pub edgesTold : JudgedNumbers → EdgeNumbers
-edgesTold r = record {
-  leastChildren = r.least_children;
-  greatestChildren = r.greatest_children;
-  leastParents = r.least_parents;
-  greatestParents = r.greatest_parents;
+abbrev pub edges_told : JudgedNumbers → EdgeNumbers
+edges_told r = record {
+  least_children = r.least_children;
+  greatest_children = r.greatest_children;
+  least_parents = r.least_parents;
+  greatest_parents = r.greatest_parents;
 }
 
-abbrev pub inFour : JudgedNumbers → Reply InFour
-inFour r = record {
+abbrev pub in_four : JudgedNumbers → Reply InFour
+in_four r = record {
   number = r.number;
   place = r.place;
-  rest = record { four = r.verdict ∷ r.first ∷ r.second ∷ r.none_apart ∷ []; edges = edgesTold r };
+  rest = record { four = r.verdict ∷ r.first ∷ r.second ∷ r.none_apart ∷ []; edges = edges_told r };
 }
 
 -- a reply with a judgement, in numbers: document 01's number of the verdict and its values, zeros where it has none, and the second answer
-abbrev pub fourNumbers : Reply Judgement → Reply InFour
-fourNumbers r = record {
+abbrev pub four_numbers : Reply Judgement → Reply InFour
+four_numbers r = record {
   number = r.number;
   place = r.place;
   rest = record {
-    four = padded 3 (verdictNumbers r.rest.verdict) ++ (as_number r.rest.noneApart ∷ []);
+    four = padded 3 (verdict_numbers r.rest.verdict) ++ (as_number r.rest.none_apart ∷ []);
     edges = r.rest.edges;
   };
 }

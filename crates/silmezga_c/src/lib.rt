@@ -4,21 +4,21 @@
 // six. `include/silmezga.h` declares what is exported here. None asks anything of its caller beyond slices that are there.
 ghost use Rattle.std.specs.Prelude.{◌≡◌, [], ◌∷◌, map};
 ghost use Rattle.paper.specs.Format.{base, eight};
-ghost use Rattle.paper.specs.Widths.{moveTable, moveShape};
+ghost use Rattle.paper.specs.Widths.{move_table, move_shape};
 ghost use Rattle.paper.specs.Calls.{examine, adorn, judge, summarise};
 ghost use Rattle.paper.specs.Labels.{convert};
-ghost use Rattle.paper.specs.Index.{judgeWith, summariseWith};
-ghost use Rattle.grammar.specs.Typed.{printTree};
+ghost use Rattle.paper.specs.Index.{judge_with, summarise_with};
+ghost use Rattle.grammar.specs.Typed.{print_tree};
 ghost use Rattle.tables.specs.Reply.{examined};
-ghost use Rattle.adorned.specs.Lent.{told, adornedTypes};
+ghost use Rattle.adorned.specs.Lent.{told, adorned_types};
 ghost use Rattle.indexes.specs.Built.{Builds};
 ghost use Rattle.reshaping.specs.Reshaped.{Reshapes, ReshapesWith, summarised};
 ghost use Rattle.widths.specs.Answers.{Moves};
 ghost use Rattle.labels.specs.Answers.{Converts};
 ghost use Rattle.typed.specs.Read.{ReadsTree};
 ghost use Rattle.spelling.specs.Printed.{Prints};
-ghost use Rattle.silmezga_c.specs.Told.{width_of, formatNumbered, LooksUp, as_number, inFour, fourNumbers};
-ghost use Rattle.silmezga_c.specs.Numbers.{toldOf, judgedNumbers};
+ghost use Rattle.silmezga_c.specs.Told.{width_of, format_numbered, LooksUp, as_number, in_four, four_numbers};
+ghost use Rattle.silmezga_c.specs.Numbers.{told_of, judged_numbers};
 
 use adorned::TypeSummary;
 use adorned::lent::AdornedTypes;
@@ -40,7 +40,7 @@ fn width_of(number: u32) -> Width
 // Refusals 1 to 3, or the count of rows.
 #[unsafe(no_mangle)]
 pub extern "C" fn silmezga_examine(width: u32, table: &[u8]) -> Examined
-    ensures { examined result ≡ examine (formatNumbered width) table.now }
+    ensures { examined result ≡ examine (format_numbered width) table.now }
 {
     silmezga::examine(width_of(width), table)
 }
@@ -69,7 +69,7 @@ fn no_row(number: usize, place: usize) -> LookedUp
 // Refusals 1 to 3, then 11, or where the row stands.
 #[unsafe(no_mangle)]
 pub extern "C" fn silmezga_look_up(width: u32, table: &[u8], row: usize) -> LookedUp
-    ensures { LooksUp (formatNumbered width) table.now row result }
+    ensures { LooksUp (format_numbered width) table.now row result }
 {
     let w = width_of(width);
     let e = silmezga::examine(w, table);
@@ -82,7 +82,7 @@ pub extern "C" fn silmezga_look_up(width: u32, table: &[u8], row: usize) -> Look
     if rows <= row {
         return no_row(11, row);
     }
-    let length = bytes::row_bytes(paper::format_of(w));
+    let length = octets::row_bytes(paper::format_of(w));
     LookedUp {
         number: 0,
         place: 0,
@@ -99,8 +99,8 @@ pub extern "C" fn silmezga_adorn(
     table: &[u8],
     summaries: &mut [TypeSummary],
 ) -> AdornedTypes
-    ensures result_value { adornedTypes result ≡ (adorn (formatNumbered width) table.now (map told summaries.old)).reply }
-    ensures summaries_after { map told summaries.new ≡ (adorn (formatNumbered width) table.now (map told summaries.old)).summaries }
+    ensures result_value { adorned_types result ≡ (adorn (format_numbered width) table.now (map told summaries.old)).reply }
+    ensures summaries_after { map told summaries.new ≡ (adorn (format_numbered width) table.now (map told summaries.old)).summaries }
 {
     silmezga::adorn(width_of(width), table, summaries)
 }
@@ -125,7 +125,7 @@ pub struct JudgedNumbers {
 
 // What was judged, with the verdict and the second answer in these numbers.
 fn in_numbers(j: Judged, verdict: usize, first: usize, second: usize, none: usize) -> JudgedNumbers
-    ensures { inFour result ≡ toldOf j (verdict ∷ first ∷ second ∷ none ∷ []) }
+    ensures { in_four result ≡ told_of j (verdict ∷ first ∷ second ∷ none ∷ []) }
 {
     let least_children = j.least_children;
     let greatest_children = j.greatest_children;
@@ -157,7 +157,7 @@ fn as_number(yes: bool) -> usize
 
 // What was judged, all in numbers.
 fn judged_numbers(j: Judged) -> JudgedNumbers
-    ensures { inFour result ≡ judgedNumbers j }
+    ensures { in_four result ≡ judged_numbers j }
 {
     let verdict = j.verdict;
     let none = as_number(j.none_apart);
@@ -172,7 +172,7 @@ fn judged_numbers(j: Judged) -> JudgedNumbers
 // Refusals 1 to 7, or the verdict and the second answer in numbers, and the numbers of each edge.
 #[unsafe(no_mangle)]
 pub extern "C" fn silmezga_judge(width: u32, table: &[u8], shape: &[u8]) -> JudgedNumbers
-    ensures { inFour result ≡ fourNumbers (judge (formatNumbered width) table.now shape.now) }
+    ensures { in_four result ≡ four_numbers (judge (format_numbered width) table.now shape.now) }
 {
     judged_numbers(silmezga::judge(width_of(width), table, shape))
 }
@@ -190,7 +190,7 @@ pub extern "C" fn silmezga_reshape(
     new: &mut [u8],
     sources: &mut [u32],
 ) -> Reshaped
-    ensures { Reshapes (formatNumbered width) table.now shape.now new.old sources.old result new.new sources.new }
+    ensures { Reshapes (format_numbered width) table.now shape.now new.old sources.old result new.new sources.new }
 {
     silmezga::reshape(width_of(width), table, shape, new, sources)
 }
@@ -198,7 +198,7 @@ pub extern "C" fn silmezga_reshape(
 // Refusals 1 to 8, with room for 4,096 lines, or for each of 16 entries its lines, source rows, copies and different source rows.
 #[unsafe(no_mangle)]
 pub extern "C" fn silmezga_summarise(width: u32, table: &[u8], shape: &[u8]) -> Summary
-    ensures { summarised result ≡ summarise (formatNumbered width) table.now shape.now }
+    ensures { summarised result ≡ summarise (format_numbered width) table.now shape.now }
 {
     silmezga::summarise(width_of(width), table, shape)
 }
@@ -206,7 +206,7 @@ pub extern "C" fn silmezga_summarise(width: u32, table: &[u8], shape: &[u8]) -> 
 // Refusals 1 to 3, then 29, or the count of rows, with the table of eight levels at the front of what was lent; what lies past it stays as it was.
 #[unsafe(no_mangle)]
 pub extern "C" fn silmezga_widen_table(table: &[u8], new: &mut [u8]) -> Moved
-    ensures { Moves (moveTable base eight table.now new.old) result new.new }
+    ensures { Moves (move_table base eight table.now new.old) result new.new }
 {
     silmezga::widen_table(table, new)
 }
@@ -215,7 +215,7 @@ pub extern "C" fn silmezga_widen_table(table: &[u8], new: &mut [u8]) -> Moved
 // stays as it was.
 #[unsafe(no_mangle)]
 pub extern "C" fn silmezga_narrow_table(table: &[u8], new: &mut [u8]) -> Moved
-    ensures { Moves (moveTable eight base table.now new.old) result new.new }
+    ensures { Moves (move_table eight base table.now new.old) result new.new }
 {
     silmezga::narrow_table(table, new)
 }
@@ -224,7 +224,7 @@ pub extern "C" fn silmezga_narrow_table(table: &[u8], new: &mut [u8]) -> Moved
 // it was.
 #[unsafe(no_mangle)]
 pub extern "C" fn silmezga_widen_shape(shape: &[u8], new: &mut [u8]) -> Moved
-    ensures { Moves (moveShape base eight shape.now new.old) result new.new }
+    ensures { Moves (move_shape base eight shape.now new.old) result new.new }
 {
     silmezga::widen_shape(shape, new)
 }
@@ -233,7 +233,7 @@ pub extern "C" fn silmezga_widen_shape(shape: &[u8], new: &mut [u8]) -> Moved
 // stays as it was.
 #[unsafe(no_mangle)]
 pub extern "C" fn silmezga_narrow_shape(shape: &[u8], new: &mut [u8]) -> Moved
-    ensures { Moves (moveShape eight base shape.now new.old) result new.new }
+    ensures { Moves (move_shape eight base shape.now new.old) result new.new }
 {
     silmezga::narrow_shape(shape, new)
 }
@@ -249,7 +249,7 @@ pub extern "C" fn silmezga_convert_labels(
     new_table: &mut [u8],
     new_shape: &mut [u8],
 ) -> Converted
-    ensures { let asked = convert (formatNumbered width) table.now shape.now pairs.now new_table.old new_shape.old in
+    ensures { let asked = convert (format_numbered width) table.now shape.now pairs.now new_table.old new_shape.old in
         Converts asked result new_table.new new_shape.new }
 {
     silmezga::convert_labels(width_of(width), table, shape, pairs, new_table, new_shape)
@@ -264,7 +264,7 @@ pub extern "C" fn silmezga_read_tree(
     text: &[u8],
     shape: &mut [u8],
 ) -> TreeRead
-    ensures { ReadsTree (formatNumbered width) table.now text.now shape.old result shape.new }
+    ensures { ReadsTree (format_numbered width) table.now text.now shape.old result shape.new }
 {
     silmezga::read_tree(width_of(width), table, text, shape)
 }
@@ -272,7 +272,7 @@ pub extern "C" fn silmezga_read_tree(
 // Refusals 5, 6 and 29, or the count of bytes, with the shape's line of text at the front of what was lent; what lies past it stays as it was.
 #[unsafe(no_mangle)]
 pub extern "C" fn silmezga_print_tree(width: u32, shape: &[u8], text: &mut [u8]) -> TreePrinted
-    ensures { Prints (printTree (formatNumbered width) shape.now text.old) result text.new }
+    ensures { Prints (print_tree (format_numbered width) shape.now text.old) result text.new }
 {
     silmezga::print_tree(width_of(width), shape, text)
 }
@@ -286,7 +286,7 @@ pub extern "C" fn silmezga_build_index(
     last: &mut [u16],
     next: &mut [u16],
 ) -> IndexBuilt
-    ensures { Builds (formatNumbered width) table.now last.old next.old result last.new next.new }
+    ensures { Builds (format_numbered width) table.now last.old next.old result last.new next.new }
 {
     silmezga::build_index(width_of(width), table, last, next)
 }
@@ -301,8 +301,8 @@ pub extern "C" fn silmezga_judge_with_index(
     last: &[u16],
     next: &[u16],
 ) -> JudgedNumbers
-    ensures { let asked = judgeWith (formatNumbered width) table.now shape.now last.now next.now in
-        inFour result ≡ fourNumbers asked }
+    ensures { let asked = judge_with (format_numbered width) table.now shape.now last.now next.now in
+        in_four result ≡ four_numbers asked }
 {
     judged_numbers(silmezga::judge_with_index(width_of(width), table, shape, last, next))
 }
@@ -319,7 +319,7 @@ pub extern "C" fn silmezga_reshape_with_index(
     new: &mut [u8],
     sources: &mut [u32],
 ) -> Reshaped
-    ensures { let promised = ReshapesWith (formatNumbered width) table.now shape.now last.now next.now in
+    ensures { let promised = ReshapesWith (format_numbered width) table.now shape.now last.now next.now in
         promised new.old sources.old result new.new sources.new }
 {
     silmezga::reshape_with_index(width_of(width), table, shape, last, next, new, sources)
@@ -335,7 +335,7 @@ pub extern "C" fn silmezga_summarise_with_index(
     last: &[u16],
     next: &[u16],
 ) -> Summary
-    ensures { summarised result ≡ summariseWith (formatNumbered width) table.now shape.now last.now next.now }
+    ensures { summarised result ≡ summarise_with (format_numbered width) table.now shape.now last.now next.now }
 {
     silmezga::summarise_with_index(width_of(width), table, shape, last, next)
 }

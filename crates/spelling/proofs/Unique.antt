@@ -7,8 +7,8 @@ use Rattle.grammar.specs.Typed.{Printing}
 use Rattle.spelling.specs.Printed.{Prints}
 use Rattle.spelling.specs.declared.print.TreePrinted.{TreePrinted}
 
-pub prints-unique : (p : Printing) (r q : TreePrinted) (t₁ t₂ : List ℕ) → Prints p r t₁ → Prints p q t₂ → (r ≡ q) × (t₁ ≡ t₂)
-prints-unique p r q t₁ t₂ a b = (
+pub prints_unique : (p : Printing) (r q : TreePrinted) (t₁ t₂ : List ℕ) → Prints p r t₁ → Prints p q t₂ → (r ≡ q) × (t₁ ≡ t₂)
+prints_unique p r q t₁ t₂ a b = (
   ap {B = TreePrinted} (λ (x : Reply ℕ). record { number = x.number; place = x.place; bytes = x.rest }) (a.0 ∙ sym b.0),
   a.1 ∙ sym b.1,
 )

@@ -1,7 +1,7 @@
 // The whole call: the tests of the shape, 29, then the bytes.
 ghost use Rattle.std.specs.Prelude.{◌≡◌};
-ghost use Rattle.bytes.specs.Served.{Served};
-ghost use Rattle.grammar.specs.Typed.{printTree};
+ghost use Rattle.octets.specs.Served.{Served};
+ghost use Rattle.grammar.specs.Typed.{print_tree};
 ghost use Rattle.spelling.specs.Printed.{Prints};
 
 use crate::line::put_line;
@@ -30,7 +30,7 @@ fn refused(number: usize, place: usize) -> TreePrinted
 // A shape, after refusals 5 and 6. The line is put into a buffer of its own, so that its length is tested before the first lent byte is written.
 pub fn print_tree(shape: &[u8], f: Format, text: &mut [u8]) -> TreePrinted
     requires { Served f }
-    ensures { Prints (printTree f shape.now text.old) result text.new }
+    ensures { Prints (print_tree f shape.now text.old) result text.new }
 {
     let examined = examine_shape(shape, f);
     let number = examined.number;
@@ -44,7 +44,7 @@ pub fn print_tree(shape: &[u8], f: Format, text: &mut [u8]) -> TreePrinted
     if text.len() < n {
         return refused(29, 0);
     }
-    bytes::put(text, 0, &line[..n]);
+    octets::put(text, 0, &line[..n]);
     TreePrinted {
         number: 0,
         place: 0,

@@ -8,111 +8,111 @@ use mathlib.Core.Option.{Option, none, some}
 use lib.Dec.{ltb, eqb}
 use lib.ListN.{length, take, drop}
 use borrow.Author.Tests.{lt-ltb, le-ltb, eq-eqb, ne_eqb}
-use Rattle.paper.specs.Format.{Format, mostRows, rowBytes, whole}
-use Rattle.paper.specs.Tables.{Row, rows, badRow}
-use Rattle.paper.specs.Calls.{Answer, refused, given, ◌>>=◌, refuse, refuseAt, Reply, reply, tests1-3, examine, lookUp}
-use Rattle.paper.proofs.Calls.{Past, count-rows, past1-3, pass1-3, examine-given, bind-past, reply-given, bind-given, passed1-3}
+use Rattle.paper.specs.Format.{Format, most_rows, row_bytes, whole}
+use Rattle.paper.specs.Tables.{Row, rows, bad_row}
+use Rattle.paper.specs.Calls.{Answer, refused, given, ◌>>=◌, refuse, refuse_at, Reply, reply, tests1_3, examine, look_up}
+use Rattle.paper.proofs.Calls.{Past, count-rows, past1_3, pass1_3, examine-given, bind_past, reply-given, bind_given, passed1_3}
 use Rattle.tables.specs.Place.{place_of}
 
 -- the tests, from what each finds
 abbrev tested : Bool → Bool → Option ℕ → List Row → Answer (List Row)
-tested long ragged bad rs = refuse 1 long >>= (λ _. refuse 2 ragged >>= (λ _. refuseAt 3 bad >>= (λ _. given rs)))
+tested long ragged bad rs = refuse 1 long >>= (λ _. refuse 2 ragged >>= (λ _. refuse_at 3 bad >>= (λ _. given rs)))
 
 module _ (f : Format) (t : List ℕ) where
   abbrev long : Bool
-  long = ltb (mostRows * rowBytes f) (length t)
+  long = ltb (most_rows * row_bytes f) (length t)
 
   abbrev ragged : Bool
-  ragged = not (eqb (length t % rowBytes f) 0)
+  ragged = not (eqb (length t % row_bytes f) 0)
 
-  same : tests1-3 f t ≡ tested long ragged (badRow f (rows f t)) (rows f t)
-  unfolding tests1-3
+  same : tests1_3 f t ≡ tested long ragged (bad_row f (rows f t)) (rows f t)
+  unfolding tests1_3
   same = refl
 
-  pub refused-1 : mostRows * rowBytes f < length t → tests1-3 f t ≡ refused 1 0
-  refused-1 lt = same ∙ ap (λ b. tested b ragged (badRow f (rows f t)) (rows f t)) (lt-ltb (mostRows * rowBytes f) (length t) lt)
+  pub refused_1 : most_rows * row_bytes f < length t → tests1_3 f t ≡ refused 1 0
+  refused_1 lt = same ∙ ap (λ b. tested b ragged (bad_row f (rows f t)) (rows f t)) (lt-ltb (most_rows * row_bytes f) (length t) lt)
 
-  module _ (le : length t ≤ mostRows * rowBytes f) where
+  module _ (le : length t ≤ most_rows * row_bytes f) where
     short : long ≡ false
-    short = le-ltb (mostRows * rowBytes f) (length t) le
+    short = le-ltb (most_rows * row_bytes f) (length t) le
 
-    pub refused-2 : (length t % rowBytes f ≡ 0 → ⊥) → tests1-3 f t ≡ refused 2 0
-    refused-2 ne =
-        same ∙ ap₂ (λ a b. tested a b (badRow f (rows f t)) (rows f t)) short (ap not (ne_eqb (length t % rowBytes f) 0 ne))
+    pub refused_2 : (length t % row_bytes f ≡ 0 → ⊥) → tests1_3 f t ≡ refused 2 0
+    refused_2 ne =
+        same ∙ ap₂ (λ a b. tested a b (bad_row f (rows f t)) (rows f t)) short (ap not (ne_eqb (length t % row_bytes f) 0 ne))
 
-    module _ (z : length t % rowBytes f ≡ 0) where
+    module _ (z : length t % row_bytes f ≡ 0) where
       whole-rows : ragged ≡ false
-      whole-rows = ap not (eq-eqb (length t % rowBytes f) 0 z)
+      whole-rows = ap not (eq-eqb (length t % row_bytes f) 0 z)
 
-      pub refused-3 : (p n : ℕ) → badRow f (rows f t) ≡ place_of p n → p < n → tests1-3 f t ≡ refused 3 p
+      pub refused_3 : (p n : ℕ) → bad_row f (rows f t) ≡ place_of p n → p < n → tests1_3 f t ≡ refused 3 p
       unfolding place_of
-      refused-3 p n e lt =
-          same ∙ ap₂ (λ a b. tested a b (badRow f (rows f t)) (rows f t)) short whole-rows
+      refused_3 p n e lt =
+          same ∙ ap₂ (λ a b. tested a b (bad_row f (rows f t)) (rows f t)) short whole-rows
           ∙ ap (λ o. tested false false o (rows f t)) (e ∙ ap (λ b. elim b as (λ _. Option ℕ) [ true ↦ some p | false ↦ none ]) (lt-ltb p n lt))
 
-      pub accepted : (p n : ℕ) → badRow f (rows f t) ≡ place_of p n → n ≤ p → tests1-3 f t ≡ given (rows f t)
+      pub accepted : (p n : ℕ) → bad_row f (rows f t) ≡ place_of p n → n ≤ p → tests1_3 f t ≡ given (rows f t)
       unfolding place_of
-      accepted p n e more = pass1-3 f t le z (e ∙ ap (λ b. elim b as (λ _. Option ℕ) [ true ↦ some p | false ↦ none ]) (le-ltb p n more))
+      accepted p n e more = pass1_3 f t le z (e ∙ ap (λ b. elim b as (λ _. Option ℕ) [ true ↦ some p | false ↦ none ]) (le-ltb p n more))
 
 -- ---- examining
 abbrev told : Answer (List Row) → Reply ℕ
 told a = reply 0 (a >>= (λ (rs : List Row). given (length rs)))
 
-pub examine-refused : (f : Format) (t : List ℕ) (k p : ℕ) → tests1-3 f t ≡ refused k p → record { number = k; place = p; rest = 0 } ≡ examine f t
+pub examine-refused : (f : Format) (t : List ℕ) (k p : ℕ) → tests1_3 f t ≡ refused k p → record { number = k; place = p; rest = 0 } ≡ examine f t
 unfolding examine
 examine-refused f t k p e = sym (ap told e)
 
-pub examine-accepted : (f : Format) (t : List ℕ) → tests1-3 f t ≡ given (rows f t) → record { number = 0; place = 0; rest = whole (rowBytes f) t } ≡ examine f t
+pub examine-accepted : (f : Format) (t : List ℕ) → tests1_3 f t ≡ given (rows f t) → record { number = 0; place = 0; rest = whole (row_bytes f) t } ≡ examine f t
 examine-accepted f t e = ap (λ n. record { number = 0; place = 0; rest = n }) (sym (count-rows f t)) ∙ sym (examine-given f t e)
 
 -- ---- what examining tells of the tests
-tells-refused : (a : Answer (List Row)) → Past 0 a → ((told a).number ≡ 0 → ⊥) → a ≡ refused (told a).number (told a).place
-tells-refused (refused k p) n ne = refl
-tells-refused (given rs) n ne = absurd (ne refl)
+tells_refused : (a : Answer (List Row)) → Past 0 a → ((told a).number ≡ 0 → ⊥) → a ≡ refused (told a).number (told a).place
+tells_refused (refused k p) n ne = refl
+tells_refused (given rs) n ne = absurd (ne refl)
 
 module _ (f : Format) (t : List ℕ) (k p c : ℕ) (e : ◌≡◌ {A = Reply ℕ} (record { number = k; place = p; rest = c }) (examine f t)) where
-  number : k ≡ (told (tests1-3 f t)).number
+  number : k ≡ (told (tests1_3 f t)).number
   unfolding examine
   number = ap (λ (r : Reply ℕ). r.number) e
 
-  pub examined-refused : (k ≡ 0 → ⊥) → tests1-3 f t ≡ refused k p
+  pub examined-refused : (k ≡ 0 → ⊥) → tests1_3 f t ≡ refused k p
   unfolding examine
   examined-refused ne =
-      tells-refused (tests1-3 f t) (past1-3 f t) (λ q. ne (number ∙ q))
+      tells_refused (tests1_3 f t) (past1_3 f t) (λ q. ne (number ∙ q))
       ∙ ap₂ {C = Answer (List Row)} (λ a b. refused a b) (sym number) (sym (ap (λ (r : Reply ℕ). r.place) e))
 
-  pub examined-given : k ≡ 0 → (tests1-3 f t ≡ given (rows f t)) × (c ≡ whole (rowBytes f) t)
+  pub examined-given : k ≡ 0 → (tests1_3 f t ≡ given (rows f t)) × (c ≡ whole (row_bytes f) t)
   unfolding examine
   examined-given z =
-      let (n, q, r) = reply-given 0 (tests1-3 f t >>= (λ (rs : List Row). given (length rs)))
-      (bind-past 0 (tests1-3 f t) (λ (rs : List Row). given (length rs)) (past1-3 f t) (λ rs. tt)) (sym number ∙ z) in
-      let (rs, h, g) = bind-given (tests1-3 f t) (λ (rs : List Row). given (length rs)) n q in
-      let same = (passed1-3 f t rs h).0 in
-      let a : tests1-3 f t ≡ given (rows f t) = h ∙ ap {B = Answer (List Row)} given (sym same) in
+      let (n, q, r) = reply-given 0 (tests1_3 f t >>= (λ (rs : List Row). given (length rs)))
+      (bind_past 0 (tests1_3 f t) (λ (rs : List Row). given (length rs)) (past1_3 f t) (λ rs. tt)) (sym number ∙ z) in
+      let (rs, h, g) = bind_given (tests1_3 f t) (λ (rs : List Row). given (length rs)) n q in
+      let same = (passed1_3 f t rs h).0 in
+      let a : tests1_3 f t ≡ given (rows f t) = h ∙ ap {B = Answer (List Row)} given (sym same) in
       (a, ap (λ (r : Reply ℕ). r.rest) e ∙ ap (λ x. (told x).rest) a ∙ count-rows f t)
 
 -- ---- look-up
 abbrev found : Format → List ℕ → ℕ → Answer (List Row) → Reply (List ℕ)
 found f t i a =
-    reply [] (a >>= (λ (rs : List Row). refuseAt 11 (elim (ltb i (length rs)) [ true ↦ none | false ↦ some i ])
-    >>= (λ _. given (take (rowBytes f) (drop (rowBytes f * i) t)))))
+    reply [] (a >>= (λ (rs : List Row). refuse_at 11 (elim (ltb i (length rs)) [ true ↦ none | false ↦ some i ])
+    >>= (λ _. given (take (row_bytes f) (drop (row_bytes f * i) t)))))
 
 module _ (f : Format) (t : List ℕ) (i : ℕ) where
-  same-found : lookUp f t i ≡ found f t i (tests1-3 f t)
-  unfolding lookUp
-  same-found = refl
+  same_found : look_up f t i ≡ found f t i (tests1_3 f t)
+  unfolding look_up
+  same_found = refl
 
-  pub lookUp-refused : (k p : ℕ) → tests1-3 f t ≡ refused k p → lookUp f t i ≡ record { number = k; place = p; rest = [] }
-  lookUp-refused k p e = same-found ∙ ap (found f t i) e
+  pub look_up-refused : (k p : ℕ) → tests1_3 f t ≡ refused k p → look_up f t i ≡ record { number = k; place = p; rest = [] }
+  look_up-refused k p e = same_found ∙ ap (found f t i) e
 
   picked : Bool → Reply (List ℕ)
-  picked b = reply [] (refuseAt 11 (elim b [ true ↦ none | false ↦ some i ]) >>= (λ _. given (take (rowBytes f) (drop (rowBytes f * i) t))))
+  picked b = reply [] (refuse_at 11 (elim b [ true ↦ none | false ↦ some i ]) >>= (λ _. given (take (row_bytes f) (drop (row_bytes f * i) t))))
 
-  pub lookUp-past : tests1-3 f t ≡ given (rows f t) → whole (rowBytes f) t ≤ i → lookUp f t i ≡ record { number = 11; place = i; rest = [] }
+  pub look_up_past : tests1_3 f t ≡ given (rows f t) → whole (row_bytes f) t ≤ i → look_up f t i ≡ record { number = 11; place = i; rest = [] }
   unfolding picked
-  lookUp-past e le = same-found ∙ ap (found f t i) e ∙ ap picked (le-ltb i (length (rows f t)) (omega (arith, count-rows f t)))
+  look_up_past e le = same_found ∙ ap (found f t i) e ∙ ap picked (le-ltb i (length (rows f t)) (omega (arith, count-rows f t)))
 
-  pub lookUp-row : tests1-3 f t ≡ given (rows f t) → i < whole (rowBytes f) t
-      → lookUp f t i ≡ record { number = 0; place = 0; rest = take (rowBytes f) (drop (rowBytes f * i) t) }
+  pub look_up-row : tests1_3 f t ≡ given (rows f t) → i < whole (row_bytes f) t
+      → look_up f t i ≡ record { number = 0; place = 0; rest = take (row_bytes f) (drop (row_bytes f * i) t) }
   unfolding picked
-  lookUp-row e lt = same-found ∙ ap (found f t i) e ∙ ap picked (lt-ltb i (length (rows f t)) (omega (arith, count-rows f t)))
+  look_up-row e lt = same_found ∙ ap (found f t i) e ∙ ap picked (lt-ltb i (length (rows f t)) (omega (arith, count-rows f t)))

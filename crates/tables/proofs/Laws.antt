@@ -12,7 +12,7 @@ use lib.Seq.{drop-cons, get_or-take}
 use borrow.Author.Tests.{eq-eqb, ne_eqb, le-leb, lt-leb}
 use Rattle.paper.specs.Lists.{all, between}
 use Rattle.paper.specs.Format.{Format, byte, word, words}
-use Rattle.paper.specs.Tables.{row_of, dewey, fieldsKept}
+use Rattle.paper.specs.Tables.{row_of, dewey, fields_kept}
 use Rattle.paper.specs.Closeness.{shared}
 use Rattle.paper.proofs.Lists.{and}
 use Rattle.paper.proofs.Tables.{length-words}
@@ -33,8 +33,8 @@ zeros-step l k x lt e z =
     ap (all (eqb 0)) (drop-cons l k 0 lt) ∙ ap (λ b. b && all (eqb 0) (drop (suc k) l)) (eq-eqb 0 (get_or l k 0) (sym z ∙ e))
     ∙ ap (λ n. all (eqb 0) (drop n l)) (sym (add-one k))
 
-pub zeros-end : (l : List ℕ) (k : ℕ) → length l ≤ k → all (eqb 0) (drop k l) ≡ true
-zeros-end l k le = ap (all (eqb 0)) (drop_of_length-le l {i = k} le)
+pub zeros_end : (l : List ℕ) (k : ℕ) → length l ≤ k → all (eqb 0) (drop k l) ≡ true
+zeros_end l k le = ap (all (eqb 0)) (drop_of_length-le l {i = k} le)
 
 -- ---- a row's Dewey number
 module _ (f : Format) (b : List ℕ) (fits : byte b 0 ≤ f.levels) where
@@ -56,18 +56,18 @@ pub shared-stop : (a b : List ℕ) (k : ℕ) → k < length a → k < length b �
 shared-stop a b k la lb ne =
     ap₂ shared (drop-cons a k 0 la) (drop-cons b k 0 lb) ∙ rw (ne_eqb (get_or a k 0) (get_or b k 0) ne, shared) refl
 
-shared-nil : (a : List ℕ) → shared a [] ≡ 0
-shared-nil [] = refl
-shared-nil (x ∷ a) = refl
+shared_nil : (a : List ℕ) → shared a [] ≡ 0
+shared_nil [] = refl
+shared_nil (x ∷ a) = refl
 
-pub shared-end : (a b : List ℕ) (k : ℕ) → min (length a) (length b) ≤ k → shared (drop k a) (drop k b) ≡ 0
-shared-end a b k le = go (leb (length a) k) refl
+pub shared_end : (a b : List ℕ) (k : ℕ) → min (length a) (length b) ≤ k → shared (drop k a) (drop k b) ≡ 0
+shared_end a b k le = go (leb (length a) k) refl
   where
     go : (t : Bool) → leb (length a) k ≡ t → shared (drop k a) (drop k b) ≡ 0
     go true e = ap (λ l. shared l (drop k b)) (drop_of_length-le a {i = k} (borrow.Author.Tests.leb-true (length a) k e))
     go false e =
         let lt = borrow.Author.Tests.leb-false (length a) k e in
-        ap (λ l. shared (drop k a) l) (drop_of_length-le b {i = k} (omega arith)) ∙ shared-nil (drop k a)
+        ap (λ l. shared (drop k a) l) (drop_of_length-le b {i = k} (omega arith)) ∙ shared_nil (drop k a)
 
 -- where two rows meet
 abbrev pub met : Format → List ℕ → List ℕ → ℕ
@@ -89,19 +89,19 @@ module _ (f : Format) (x y : List ℕ) (fx : byte x 0 ≤ f.levels) (fy : byte y
     at_y : get_or (dewey (row_of f y)) k 0 ≡ b
     at_y = dewey-at f y fy k (omega (arith, i.2)) ∙ sym eb
 
-    in-x : k < length (dewey (row_of f x))
-    in-x = omega (arith, i.1, dewey-length f x fx)
+    in_x : k < length (dewey (row_of f x))
+    in_x = omega (arith, i.1, dewey-length f x fx)
 
-    in-y : k < length (dewey (row_of f y))
-    in-y = omega (arith, i.2, dewey-length f y fy)
+    in_y : k < length (dewey (row_of f y))
+    in_y = omega (arith, i.2, dewey-length f y fy)
 
     pub walk_step : a ≡ b → Walk f x y n (k + 1)
     walk_step e =
-        (omega arith, i.1, i.2, omega (arith, i.3, shared_step (dewey (row_of f x)) (dewey (row_of f y)) k in-x in-y (at_x ∙ e ∙ sym at_y)))
+        (omega arith, i.1, i.2, omega (arith, i.3, shared_step (dewey (row_of f x)) (dewey (row_of f y)) k in_x in_y (at_x ∙ e ∙ sym at_y)))
 
     pub walk-stop : (a ≡ b → ⊥) → false ≡ leb n (met f x y)
     walk-stop ne =
-        let e = shared-stop (dewey (row_of f x)) (dewey (row_of f y)) k in-x in-y (λ q. ne (sym at_x ∙ q ∙ at_y)) in
+        let e = shared-stop (dewey (row_of f x)) (dewey (row_of f y)) k in_x in_y (λ q. ne (sym at_x ∙ q ∙ at_y)) in
         sym (lt-leb n (met f x y) (omega (arith, i.3, e)))
 
   pub walk_end : (n k : ℕ) → Walk f x y n k → n ≤ k → true ≡ leb n (met f x y)
@@ -117,7 +117,7 @@ and_right false e = refl
 
 module _ (f : Format) (b : List ℕ) where
   abbrev kept : Bool
-  kept = fieldsKept f (row_of f b)
+  kept = fields_kept f (row_of f b)
 
   abbrev low : Bool
   low = between 1 (byte b 0) f.levels
@@ -131,33 +131,33 @@ module _ (f : Format) (b : List ℕ) where
   abbrev zeros : Bool
   zeros = all (eqb 0) (drop (byte b 0) (words f.levels b 4))
 
-  pub no-level : byte b 0 < 1 → fieldsKept f (row_of f b) ≡ false
-  unfolding fieldsKept row_of
-  no-level lt = and_left zeros (and_left labelled (and_left spare (and_left (leb (byte b 0) f.levels) (lt-leb 1 (byte b 0) lt))))
+  pub no_level : byte b 0 < 1 → fields_kept f (row_of f b) ≡ false
+  unfolding fields_kept row_of
+  no_level lt = and_left zeros (and_left labelled (and_left spare (and_left (leb (byte b 0) f.levels) (lt-leb 1 (byte b 0) lt))))
 
-  pub too-deep : f.levels < byte b 0 → fieldsKept f (row_of f b) ≡ false
-  unfolding fieldsKept row_of
-  too-deep lt = and_left zeros (and_left labelled (and_left spare (and_right (leb 1 (byte b 0)) (lt-leb (byte b 0) f.levels lt))))
+  pub too_deep : f.levels < byte b 0 → fields_kept f (row_of f b) ≡ false
+  unfolding fields_kept row_of
+  too_deep lt = and_left zeros (and_left labelled (and_left spare (and_right (leb 1 (byte b 0)) (lt-leb (byte b 0) f.levels lt))))
 
-  pub spare-set : (byte b 1 ≡ 0 → ⊥) → fieldsKept f (row_of f b) ≡ false
-  unfolding fieldsKept row_of
-  spare-set ne = and_left zeros (and_left labelled (and_right low (ne_eqb (byte b 1) 0 ne)))
+  pub spare_set : (byte b 1 ≡ 0 → ⊥) → fields_kept f (row_of f b) ≡ false
+  unfolding fields_kept row_of
+  spare_set ne = and_left zeros (and_left labelled (and_right low (ne_eqb (byte b 1) 0 ne)))
 
-  pub no_label : word b 2 < 1 → fieldsKept f (row_of f b) ≡ false
-  unfolding fieldsKept row_of
+  pub no_label : word b 2 < 1 → fields_kept f (row_of f b) ≡ false
+  unfolding fields_kept row_of
   no_label lt = and_left zeros (and_right (low && spare) (and_left (leb (word b 2) f.labels) (lt-leb 1 (word b 2) lt)))
 
-  pub no-such-label : f.labels < word b 2 → fieldsKept f (row_of f b) ≡ false
-  unfolding fieldsKept row_of
-  no-such-label lt = and_left zeros (and_right (low && spare) (and_right (leb 1 (word b 2)) (lt-leb (word b 2) f.labels lt)))
+  pub no_such_label : f.labels < word b 2 → fields_kept f (row_of f b) ≡ false
+  unfolding fields_kept row_of
+  no_such_label lt = and_left zeros (and_right (low && spare) (and_right (leb 1 (word b 2)) (lt-leb (word b 2) f.labels lt)))
 
-  pub zeros-decide : 1 ≤ byte b 0 → byte b 0 ≤ f.levels → byte b 1 ≡ 0 → 1 ≤ word b 2 → word b 2 ≤ f.labels
-      → fieldsKept f (row_of f b) ≡ all (eqb 0) (drop (byte b 0) (words f.levels b 4))
-  unfolding fieldsKept row_of
-  zeros-decide a c s l m =
+  pub zeros_decide : 1 ≤ byte b 0 → byte b 0 ≤ f.levels → byte b 1 ≡ 0 → 1 ≤ word b 2 → word b 2 ≤ f.labels
+      → fields_kept f (row_of f b) ≡ all (eqb 0) (drop (byte b 0) (words f.levels b 4))
+  unfolding fields_kept row_of
+  zeros_decide a c s l m =
       ap (λ x. x && zeros) (and (and (and (le-leb 1 (byte b 0) a) (le-leb (byte b 0) f.levels c)) (eq-eqb (byte b 1) 0 s))
       (and (le-leb 1 (word b 2) l) (le-leb (word b 2) f.labels m)))
 
-pub fields-level : (f : Format) (b : List ℕ) → fieldsKept f (row_of f b) ≡ true → (1 ≤ byte b 0) × (byte b 0 ≤ f.levels)
+pub fields_level : (f : Format) (b : List ℕ) → fields_kept f (row_of f b) ≡ true → (1 ≤ byte b 0) × (byte b 0 ≤ f.levels)
 unfolding row_of
-fields-level f b e = Rattle.paper.proofs.Tables.fields-level f (row_of f b) e
+fields_level f b e = Rattle.paper.proofs.Tables.fields_level f (row_of f b) e

@@ -9,22 +9,22 @@ use mathlib.Core.Bool.{Bool, true, false, ◌||◌}
 use mathlib.Core.List.{List, ◌∷◌, map, []}
 use lib.ListN.{length, take, drop, length-append, length-drop, drop_of_length-le}
 use lib.Seq.{sets, drop-nil, length-take-le}
-use Rattle.paper.specs.Lists.{any, place, joined, joinMap}
+use Rattle.paper.specs.Lists.{any, place, joined, join_map}
 use Rattle.paper.specs.Format.{records}
-use Rattle.paper.proofs.Lists.{joined-map}
-use Rattle.bytes.proofs.Writing.{Writing, all_left, all-written, part-written}
+use Rattle.paper.proofs.Lists.{joined_map}
+use Rattle.octets.proofs.Writing.{Writing, all_left, all_written, part_written}
 use Rattle.tables.proofs.Rows.{rec, drop-records}
 
 -- ---- the first that passes a test
 module _ {A : Type 0} (p : A → Bool) where
-  first-here : (x : A) (xs : List A) → p x ≡ true → place p (x ∷ xs) ≡ 0
-  first-here x xs e = ap (λ t. elim t as (λ _. ℕ) [ true ↦ 0 | false ↦ suc (place p xs) ]) e
+  first_here : (x : A) (xs : List A) → p x ≡ true → place p (x ∷ xs) ≡ 0
+  first_here x xs e = ap (λ t. elim t as (λ _. ℕ) [ true ↦ 0 | false ↦ suc (place p xs) ]) e
 
   first-later : (x : A) (xs : List A) → p x ≡ false → place p (x ∷ xs) ≡ suc (place p xs)
   first-later x xs e = ap (λ t. elim t as (λ _. ℕ) [ true ↦ 0 | false ↦ suc (place p xs) ]) e
 
-  some-here : (x : A) (xs : List A) → p x ≡ true → any p (x ∷ xs) ≡ true
-  some-here x xs e = ap (λ t. t || any p xs) e
+  some_here : (x : A) (xs : List A) → p x ≡ true → any p (x ∷ xs) ≡ true
+  some_here x xs e = ap (λ t. t || any p xs) e
 
   some-later : (x : A) (xs : List A) → p x ≡ false → any p (x ∷ xs) ≡ any p xs
   some-later x xs e = ap (λ t. t || any p xs) e
@@ -34,20 +34,20 @@ module _ {A : Type 0} (p : A → Bool) where
     abbrev pub Looking : ℕ → Type 0
     Looking i = (i ≤ n) × (i + place p (drop i xs) ≡ place p xs) × (any p (drop i xs) ≡ any p xs)
 
-    pub looking-start : Looking 0
-    looking-start = (omega arith, omega arith, refl)
+    pub looking_start : Looking 0
+    looking_start = (omega arith, omega arith, refl)
 
     module _ (i : ℕ) (looking : Looking i) where
       -- the next element
       module _ (lt : i < n) (x : A) (next : drop i xs ≡ x ∷ drop (suc i) xs) where
-        pub looking-stop : p x ≡ true → i ≡ place p xs
-        looking-stop e = omega (arith, looking.1, ap (place p) next ∙ first-here x (drop (suc i) xs) e)
+        pub looking_stop : p x ≡ true → i ≡ place p xs
+        looking_stop e = omega (arith, looking.1, ap (place p) next ∙ first_here x (drop (suc i) xs) e)
 
-        pub looking-found : p x ≡ true → true ≡ any p xs
-        looking-found e = sym (ap (any p) next ∙ some-here x (drop (suc i) xs) e) ∙ looking.2
+        pub looking_found : p x ≡ true → true ≡ any p xs
+        looking_found e = sym (ap (any p) next ∙ some_here x (drop (suc i) xs) e) ∙ looking.2
 
-        pub looking-on : p x ≡ false → Looking (i + 1)
-        looking-on e = (
+        pub looking_on : p x ≡ false → Looking (i + 1)
+        looking_on e = (
           omega arith,
           omega (arith, looking.1, ap (place p) next ∙ first-later x (drop (suc i) xs) e, ap (λ k. place p (drop k xs)) (add-one i)),
           ap (λ k. any p (drop k xs)) (add-one i) ∙ sym (ap (any p) next ∙ some-later x (drop (suc i) xs) e) ∙ looking.2,
@@ -58,11 +58,11 @@ module _ {A : Type 0} (p : A → Bool) where
         nothing : drop i xs ≡ []
         nothing = drop_of_length-le xs {i = i} (omega (arith, long))
 
-        pub looking-end : n ≡ place p xs
-        looking-end = omega (arith, looking.0, looking.1, ap (place p) nothing)
+        pub looking_end : n ≡ place p xs
+        looking_end = omega (arith, looking.0, looking.1, ap (place p) nothing)
 
-        pub looking-none : false ≡ any p xs
-        looking-none = sym (ap (any p) nothing) ∙ looking.2
+        pub looking_none : false ≡ any p xs
+        looking_none = sym (ap (any p) nothing) ∙ looking.2
 
 -- ---- records
 pub count-records : (w n : ℕ) (b : List ℕ) → length (records w n b) ≡ n
@@ -70,8 +70,8 @@ count-records w zero b = refl
 count-records w (suc n) b = ap suc (count-records w n (drop w b))
 
 -- each of them from its place on
-pub next-record : (w n : ℕ) (b : List ℕ) (i : ℕ) → i < n → drop i (records w n b) ≡ rec w i b ∷ drop (suc i) (records w n b)
-next-record w n b i lt = subst (λ (l : List (List ℕ)). drop i l ≡ rec w i b ∷ drop (suc i) l) (map_same (records w n b)) (drop-records (λ r. r) w n b i lt)
+pub next_record : (w n : ℕ) (b : List ℕ) (i : ℕ) → i < n → drop i (records w n b) ≡ rec w i b ∷ drop (suc i) (records w n b)
+next_record w n b i lt = subst (λ (l : List (List ℕ)). drop i l ≡ rec w i b ∷ drop (suc i) l) (map_same (records w n b)) (drop-records (λ r. r) w n b i lt)
   where
     map_same : (l : List (List ℕ)) → map (λ r. r) l ≡ l
     map_same [] = refl
@@ -79,10 +79,10 @@ next-record w n b i lt = subst (λ (l : List (List ℕ)). drop i l ≡ rec w i b
 
 -- ---- records written one after the other, each as m bytes
 -- past the last record nothing is left
-pub records-end : {A : Type 0} (h : List ℕ → A) (w n : ℕ) (b : List ℕ) (i : ℕ) → n ≤ i → drop i (map h (records w n b)) ≡ []
-records-end h w zero b i le = drop-nil i
-records-end h w (suc n) b zero le = absurd (not-suc-le-zero le)
-records-end h w (suc n) b (suc i) le = records-end h w n (drop w b) i (le_of_suc-le-suc le)
+pub records_end : {A : Type 0} (h : List ℕ → A) (w n : ℕ) (b : List ℕ) (i : ℕ) → n ≤ i → drop i (map h (records w n b)) ≡ []
+records_end h w zero b i le = drop-nil i
+records_end h w (suc n) b zero le = absurd (not-suc-le-zero le)
+records_end h w (suc n) b (suc i) le = records_end h w n (drop w b) i (le_of_suc-le-suc le)
 
 -- Each of w bytes becomes one of m bytes.
 abbrev pub Each : (List ℕ → List ℕ) → ℕ → ℕ → Type 0
@@ -90,14 +90,14 @@ Each h w m = (r : List ℕ) → length r ≡ w → length (h r) ≡ m
 
 module _ (h : List ℕ → List ℕ) (w m : ℕ) where
   -- n records that lie within the bytes have so many in all
-  pub joined_length : Each h w m → (n : ℕ) (b : List ℕ) → w * n ≤ length b → length (joinMap h (records w n b)) ≡ m * n
+  pub joined_length : Each h w m → (n : ℕ) (b : List ℕ) → w * n ≤ length b → length (join_map h (records w n b)) ≡ m * n
   joined_length each zero b le = sym (mul-zero m)
   joined_length each (suc n) b le =
       let more = mul-suc w n in
       let long = length-take-le w b (omega (arith, le, more)) in
       omega (
         arith,
-        length-append (h (take w b)) (joinMap h (records w n (drop w b))),
+        length-append (h (take w b)) (join_map h (records w n (drop w b))),
         each (take w b) long,
         joined_length each n (drop w b) (omega (arith, le, more, length-drop w b)),
         mul-suc m n,
@@ -109,7 +109,7 @@ module _ (h : List ℕ → List ℕ) (w m : ℕ) where
     parts = map h (records w n b)
 
     abbrev wanted : List ℕ
-    wanted = joinMap h (records w n b)
+    wanted = join_map h (records w n b)
 
     -- the records from i on are still to be written
     abbrev pub Going : List ℕ → List ℕ → ℕ → Type 0
@@ -117,14 +117,14 @@ module _ (h : List ℕ → List ℕ) (w m : ℕ) where
 
     pub going_start : (l : List ℕ) → Going l l 0
     going_start l =
-        subst (λ (vs : List ℕ). Writing l 0 wanted l (m * 0) vs) (sym (joined-map h (records w n b))) (all_left l 0 wanted (m * 0) (mul-zero m))
+        subst (λ (vs : List ℕ). Writing l 0 wanted l (m * 0) vs) (sym (joined_map h (records w n b))) (all_left l 0 wanted (m * 0) (mul-zero m))
 
     module _ (before new : List ℕ) (i : ℕ) (going : Going before new i) where
       pub going_on : Each h w m → i < n → length (rec w i b) ≡ w → (new' : List ℕ) → new' ≡ sets new (m * i) (h (rec w i b)) → Going before new' (i + 1)
       going_on each lt long new' e =
-          part-written going (h (rec w i b)) (joined (drop (i + 1) parts))
+          part_written going (h (rec w i b)) (joined (drop (i + 1) parts))
           (ap joined (drop-records h w n b i lt ∙ ap (λ k. h (rec w i b) ∷ drop k parts) (sym (add-one i))))
           new' e (m * (i + 1)) (omega (arith, each (rec w i b) long, mul-add m i 1, mul-one m))
 
       pub going_end : n ≤ i → new ≡ sets before 0 wanted
-      going_end le = all-written going (ap joined (records-end h w n b i le))
+      going_end le = all_written going (ap joined (records_end h w n b i le))

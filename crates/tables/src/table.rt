@@ -1,10 +1,10 @@
 // A whole table: the first row that breaks a rule, examining, and look-up.
 ghost use Rattle.std.specs.Prelude.{◌≡◌, [], ◌*◌, ◌≤◌, ◌<◌, length};
-ghost use Rattle.paper.specs.Format.{rowBytes, whole, byte};
+ghost use Rattle.paper.specs.Format.{row_bytes, whole, byte};
 ghost use Rattle.paper.specs.Tables as Tables;
-ghost use Rattle.paper.specs.Tables.{row_of, dewey, rowKept, badRow};
-ghost use Rattle.paper.specs.Calls.{examine, lookUp};
-ghost use Rattle.bytes.specs.Served.{Served};
+ghost use Rattle.paper.specs.Tables.{row_of, dewey, row_kept, bad_row};
+ghost use Rattle.paper.specs.Calls.{examine, look_up};
+ghost use Rattle.octets.specs.Served.{Served};
 ghost use Rattle.tables.specs.Place.{place_of};
 ghost use Rattle.tables.specs.Reply.{examined, HandsBack};
 
@@ -22,13 +22,13 @@ pub struct Examined {
 
 // Does a table's first row keep the rules?
 fn first_kept(row: &[u8], f: Format) -> bool
-    requires { (length row.now ≡ rowBytes f) × (f.levels ≤ 255) }
-    ensures { result ≡ rowKept f [] (row_of f row.now) }
+    requires { (length row.now ≡ row_bytes f) × (f.levels ≤ 255) }
+    ensures { result ≡ row_kept f [] (row_of f row.now) }
 {
     if !fields_kept(row, f) {
         return false;
     }
-    if bytes::wide(row[0]) != 1 {
+    if octets::wide(row[0]) != 1 {
         return false;
     }
     component(row, f, 0) == 1
@@ -36,8 +36,8 @@ fn first_kept(row: &[u8], f: Format) -> bool
 
 // Does a later row keep the rules after the row before it?
 fn row_kept(before: &[u8], row: &[u8], f: Format) -> bool
-    requires { (length before.now ≡ rowBytes f) × (length row.now ≡ rowBytes f) × (f.levels ≤ 255) × (byte before.now 0 ≤ f.levels) }
-    ensures { result ≡ rowKept f (dewey (row_of f before.now)) (row_of f row.now) }
+    requires { (length before.now ≡ row_bytes f) × (length row.now ≡ row_bytes f) × (f.levels ≤ 255) × (byte before.now 0 ≤ f.levels) }
+    ensures { result ≡ row_kept f (dewey (row_of f before.now)) (row_of f row.now) }
 {
     if !fields_kept(row, f) {
         return false;
@@ -47,21 +47,21 @@ fn row_kept(before: &[u8], row: &[u8], f: Format) -> bool
 
 // The first row that breaks a rule, the number of rows for none.
 pub fn bad_row(table: &[u8], f: Format, rows: usize) -> usize
-    requires { (rows ≡ whole (rowBytes f) table.now) × (f.levels ≤ 255) }
-    ensures { (badRow f (Tables.rows f table.now) ≡ place_of result rows) × (result ≤ rows) }
+    requires { (rows ≡ whole (row_bytes f) table.now) × (f.levels ≤ 255) }
+    ensures { (bad_row f (Tables.rows f table.now) ≡ place_of result rows) × (result ≤ rows) }
 {
-    let w = bytes::row_bytes(f);
+    let w = octets::row_bytes(f);
     if rows == 0 {
         return 0;
     }
-    if !first_kept(bytes::record(table, w, 0), f) {
+    if !first_kept(octets::record(table, w, 0), f) {
         return 0;
     }
     let mut i = 1;
     while i < rows {
         if !row_kept(
-            bytes::record(table, w, i - 1),
-            bytes::record(table, w, i),
+            octets::record(table, w, i - 1),
+            octets::record(table, w, i),
             f,
         ) {
             return i;
@@ -76,7 +76,7 @@ pub fn examine(table: &[u8], f: Format) -> Examined
     requires { Served f }
     ensures { examined result ≡ examine f table.now }
 {
-    let w = bytes::row_bytes(f);
+    let w = octets::row_bytes(f);
     if 1024 * w < table.len() {
         return Examined {
             number: 1,
@@ -117,7 +117,7 @@ pub struct Refusal {
 // The number and place of a look-up.
 pub fn look_up_refusal(table: &[u8], f: Format, i: usize) -> Refusal
     requires { Served f }
-    ensures { (result.number ≡ (lookUp f table.now i).number) × (result.place ≡ (lookUp f table.now i).place) }
+    ensures { (result.number ≡ (look_up f table.now i).number) × (result.place ≡ (look_up f table.now i).place) }
 {
     let examined = examine(table, f);
     let number = examined.number;
@@ -153,7 +153,7 @@ pub fn look_up(table: &[u8], f: Format, i: usize) -> &[u8]
         return &table[none..none];
     }
     if i < rows {
-        return bytes::record(table, bytes::row_bytes(f), i);
+        return octets::record(table, octets::row_bytes(f), i);
     }
     &table[none..none]
 }

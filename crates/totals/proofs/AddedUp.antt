@@ -7,32 +7,32 @@ use mathlib.Core.List.{List, [], ◌∷◌, map}
 use lib.IntN.{ℤ, ◌+ℤ◌, +ℤ_idr, +ℤ_assoc}
 use Rattle.paper.specs.Lists.{Has, keep}
 use Rattle.paper.specs.Closeness.{Node}
-use Rattle.paper.specs.Calls.{given, refuseAt, Reply, reply, ◌>>=◌}
+use Rattle.paper.specs.Calls.{given, refuse_at, Reply, reply, ◌>>=◌}
 use Rattle.totals.specs.Sums.{sum_of, within}
-use Rattle.totals.specs.Tape.{mostValue, first_of, Sums, noSums}
-use Rattle.totals.specs.Rows.{addedUp}
-use Rattle.totals.proofs.Lists.{putIf}
+use Rattle.totals.specs.Tape.{most_value, first_of, Sums, no_sums}
+use Rattle.totals.specs.Rows.{added_up}
+use Rattle.totals.proofs.Lists.{put_if}
 
 -- refused with 17 at the first of the rows out of range, or both sums
 abbrev answer : List Node → ℤ → ℤ → Reply Sums
-answer out a b = reply noSums do
-  _ ← refuseAt 17 (first_of out)
+answer out a b = reply no_sums do
+  _ ← refuse_at 17 (first_of out)
   given (record { shown = a; unshown = b })
 
 module _ (value : ℕ → ℤ) (shows : ℕ → Bool) (v : Node → ℤ) (p : Node → Bool) where
   -- A walk that reads each row's value, and whether it is shown, off the row's place adds up the rows shown and those not shown.
-  pub added-up-lem : (ns : List Node) (a b : ℤ) → ((r : Node) → Has r ns → (value r.place ≡ v r) × (shows r.place ≡ p r))
-      → addedUp value shows (map (λ (r : Node). r.place) ns) a b ≡ reply noSums (do
-        _ ← refuseAt 17 (first_of (keep (λ r. not (within mostValue (v r))) ns))
+  pub added_up_lem : (ns : List Node) (a b : ℤ) → ((r : Node) → Has r ns → (value r.place ≡ v r) × (shows r.place ≡ p r))
+      → added_up value shows (map (λ (r : Node). r.place) ns) a b ≡ reply no_sums (do
+        _ ← refuse_at 17 (first_of (keep (λ r. not (within most_value (v r))) ns))
         given (record { shown = a +ℤ sum_of v (keep p ns); unshown = b +ℤ sum_of v (keep (λ r. not (p r)) ns) }))
-  added-up-lem [] a b each = λ j. answer [] (sym (+ℤ_idr a) j) (sym (+ℤ_idr b) j)
-  added-up-lem (r ∷ ns) a b each =
+  added_up_lem [] a b each = λ j. answer [] (sym (+ℤ_idr a) j) (sym (+ℤ_idr b) j)
+  added_up_lem (r ∷ ns) a b each =
       let (same-value, same_test) = each r (inl refl) in
-      (λ j. walk (same-value j) (within mostValue (same-value j)) (same_test j))
-      ∙ step (within mostValue (v r)) (p r) (λ a b. added-up-lem ns a b (λ q h. each q (inr h)))
+      (λ j. walk (same-value j) (within most_value (same-value j)) (same_test j))
+      ∙ step (within most_value (v r)) (p r) (λ a b. added_up_lem ns a b (λ q h. each q (inr h)))
     where
       out : List Node
-      out = keep (λ q. not (within mostValue (v q))) ns
+      out = keep (λ q. not (within most_value (v q))) ns
 
       shown : List Node
       shown = keep p ns
@@ -47,12 +47,12 @@ module _ (value : ℕ → ℤ) (shows : ℕ → Bool) (v : Node → ℤ) (p : No
       walk : ℤ → Bool → Bool → Reply Sums
       walk z t s =
           elim t [
-            | true ↦ elim s [ true ↦ addedUp value shows places (a +ℤ z) b | false ↦ addedUp value shows places a (b +ℤ z) ]
-            | false ↦ record { number = 17; place = r.place; rest = noSums }
+            | true ↦ elim s [ true ↦ added_up value shows places (a +ℤ z) b | false ↦ added_up value shows places a (b +ℤ z) ]
+            | false ↦ record { number = 17; place = r.place; rest = no_sums }
           ]
 
-      step : (t s : Bool) → ((a b : ℤ) → addedUp value shows places a b ≡ answer out (a +ℤ sum_of v shown) (b +ℤ sum_of v unshown))
-          → walk (v r) t s ≡ answer (putIf (not t) r out) (a +ℤ sum_of v (putIf s r shown)) (b +ℤ sum_of v (putIf (not s) r unshown))
+      step : (t s : Bool) → ((a b : ℤ) → added_up value shows places a b ≡ answer out (a +ℤ sum_of v shown) (b +ℤ sum_of v unshown))
+          → walk (v r) t s ≡ answer (put_if (not t) r out) (a +ℤ sum_of v (put_if s r shown)) (b +ℤ sum_of v (put_if (not s) r unshown))
       step false s later = refl
       step true true later =
           later (a +ℤ v r) b ∙ ap (λ c. answer out c (b +ℤ sum_of v unshown)) (+ℤ_assoc a (v r) (sum_of v shown))

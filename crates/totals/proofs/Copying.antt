@@ -29,7 +29,7 @@ module _ (s : List ℕ) (i : ℕ) where
   set_first : (l : List ℕ) (a : ℕ) → 0 < length l → set l 0 a ≡ a ∷ drop 1 l
   set_first (x ∷ l) a h = refl
 
-  pub copied-first : {n : ℕ} (l : List ℕ) (k a : ℕ) → 0 < k → i + k ≤ length s → Copied n l k → take k (set l 0 a) ≡ a ∷ drop 1 (take k (drop i s))
-  copied-first l k a h f c =
+  pub copied_first : {n : ℕ} (l : List ℕ) (k a : ℕ) → 0 < k → i + k ≤ length s → Copied n l k → take k (set l 0 a) ≡ a ∷ drop 1 (take k (drop i s))
+  copied_first l k a h f c =
       take-set-lt k l 0 a h ∙ ap (λ x. set x 0 a) c.same
       ∙ set_first (take k (drop i s)) a (omega (arith, h, length-take-le k (drop i s) (omega (arith, length-drop i s, f))))

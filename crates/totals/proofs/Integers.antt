@@ -25,26 +25,26 @@ within-size (suc n) (negsuc a) = and-true (leb a n) ∙ sym (leb-suc-suc a n)
     and-true true = refl
     and-true false = refl
 
-pub within-le : (n : ℕ) (v : ℤ) → within n v ≡ true → nat_abs v ≤ n
-within-le n v h = leb-true (nat_abs v) n (sym (within-size n v) ∙ h)
+pub within_le : (n : ℕ) (v : ℤ) → within n v ≡ true → nat_abs v ≤ n
+within_le n v h = leb-true (nat_abs v) n (sym (within-size n v) ∙ h)
 
-pub le-within : (n : ℕ) (v : ℤ) → nat_abs v ≤ n → within n v ≡ true
-le-within n v h = within-size n v ∙ le-leb (nat_abs v) n h
+pub le_within : (n : ℕ) (v : ℤ) → nat_abs v ≤ n → within n v ≡ true
+le_within n v h = within-size n v ∙ le-leb (nat_abs v) n h
 
 -- A difference is no larger than both numbers together.
-size-difference : (a b : ℕ) → nat_abs (sub_ℕ a b) ≤ a + b
-size-difference a b = go (ltb a b) refl
+size_difference : (a b : ℕ) → nat_abs (sub_ℕ a b) ≤ a + b
+size_difference a b = go (ltb a b) refl
   where
     go : (c : Bool) → ltb a b ≡ c → nat_abs (cond c (negsuc (b - suc a)) (pos (a - b))) ≤ a + b
     go true e = omega (arith, ltb-true a b e)
     go false e = omega arith
 
 -- A sum is no larger than the sizes together.
-pub size-sum : (a b : ℤ) → nat_abs (a +ℤ b) ≤ nat_abs a + nat_abs b
-size-sum (pos a) (pos b) = omega arith
-size-sum (pos a) (negsuc b) = size-difference a (suc b)
-size-sum (negsuc a) (pos b) = omega (arith, size-difference b (suc a))
-size-sum (negsuc a) (negsuc b) = omega arith
+pub size_sum : (a b : ℤ) → nat_abs (a +ℤ b) ≤ nat_abs a + nat_abs b
+size_sum (pos a) (pos b) = omega arith
+size_sum (pos a) (negsuc b) = size_difference a (suc b)
+size_sum (negsuc a) (pos b) = omega (arith, size_difference b (suc a))
+size_sum (negsuc a) (negsuc b) = omega arith
 
 -- What is no larger than 2^62 fits into 64 bits with its sign.
 pub sfits : (z : ℤ) → nat_abs z ≤ 2 ^ 62 → SFits w64 z
@@ -55,8 +55,8 @@ sfits z h = record { sfits = omega (arith, mag-size z) }
     mag-size (negsuc n) = omega arith
 
 -- In a sum of two sums the inner two change places.
-pub sum-of-four : (a b c d : ℤ) → (a +ℤ b) +ℤ (c +ℤ d) ≡ (a +ℤ c) +ℤ (b +ℤ d)
-sum-of-four a b c d =
+pub sum_of_four : (a b c d : ℤ) → (a +ℤ b) +ℤ (c +ℤ d) ≡ (a +ℤ c) +ℤ (b +ℤ d)
+sum_of_four a b c d =
     +ℤ_assoc a b (c +ℤ d)
     ∙ ap (λ x. a +ℤ x) (sym (+ℤ_assoc b c d) ∙ ap (λ x. x +ℤ d) (+ℤ_comm b c) ∙ +ℤ_assoc c b d)
     ∙ sym (+ℤ_assoc a c (b +ℤ d))

@@ -9,7 +9,7 @@ use mathlib.Core.List.{List, [], ◌∷◌, ◌++◌, map}
 use mathlib.Core.Option.{Option, none, some}
 use lib.ListN.{length, get_or}
 use borrow.Author.Tests.{lt-ltb}
-use Rattle.paper.specs.Lists.{Has, keep, any, place, firstPlace, joined, firstBreak}
+use Rattle.paper.specs.Lists.{Has, keep, any, place, first_place, joined, first_break}
 
 -- ---- tests
 pub both : (a b : Bool) → a && b ≡ true → (a ≡ true) × (b ≡ true)
@@ -31,20 +31,20 @@ same_test false false to from = refl
 
 module _ {A : Type 0} where
   -- ---- what is one of a list
-  pub has-append : (x : A) (xs ys : List A) → Has x (xs ++ ys) → Has x xs ⊎ Has x ys
-  has-append x [] ys h = inr h
-  has-append x (z ∷ xs) ys (inl e) = inl (inl e)
-  has-append x (z ∷ xs) ys (inr h) = ⊎_elim (λ i. inl (inr i)) (λ i. inr i) (has-append x xs ys h)
+  pub has_append : (x : A) (xs ys : List A) → Has x (xs ++ ys) → Has x xs ⊎ Has x ys
+  has_append x [] ys h = inr h
+  has_append x (z ∷ xs) ys (inl e) = inl (inl e)
+  has_append x (z ∷ xs) ys (inr h) = ⊎_elim (λ i. inl (inr i)) (λ i. inr i) (has_append x xs ys h)
 
   -- the element stands first where it passes
-  abbrev pub putIf : Bool → A → List A → List A
-  putIf b x l = elim b [ true ↦ x ∷ l | false ↦ l ]
+  abbrev pub put_if : Bool → A → List A → List A
+  put_if b x l = elim b [ true ↦ x ∷ l | false ↦ l ]
 
   pub keep-has : (p : A → Bool) (x : A) (xs : List A) → Has x (keep p xs) → Has x xs × (p x ≡ true)
   keep-has p x [] h = absurd h
   keep-has p x (z ∷ zs) h = go (p z) refl h (keep-has p x zs)
     where
-      go : (b : Bool) → p z ≡ b → Has x (putIf b z (keep p zs)) → (Has x (keep p zs) → Has x zs × (p x ≡ true)) → Has x (z ∷ zs) × (p x ≡ true)
+      go : (b : Bool) → p z ≡ b → Has x (put_if b z (keep p zs)) → (Has x (keep p zs) → Has x zs × (p x ≡ true)) → Has x (z ∷ zs) × (p x ≡ true)
       go true e (inl q) ih = (inl q, ap p q ∙ e)
       go true e (inr i) ih = let r = ih i in (inr r.0, r.1)
       go false e i ih = let r = ih i in (inr r.0, r.1)
@@ -53,21 +53,21 @@ module _ {A : Type 0} where
   has-keep p x [] h e = absurd h
   has-keep p x (z ∷ zs) h e = go (p z) refl h (λ i. has-keep p x zs i e)
     where
-      go : (b : Bool) → p z ≡ b → Has x (z ∷ zs) → (Has x zs → Has x (keep p zs)) → Has x (putIf b z (keep p zs))
+      go : (b : Bool) → p z ≡ b → Has x (z ∷ zs) → (Has x zs → Has x (keep p zs)) → Has x (put_if b z (keep p zs))
       go true q (inl s) ih = inl s
       go true q (inr i) ih = inr (ih i)
       go false q (inl s) ih = absurd (false≢true (sym q ∙ sym (ap p s) ∙ e))
       go false q (inr i) ih = ih i
 
-  pub any-has : (p : A → Bool) (xs : List A) → any p xs ≡ true → (x : A) × Has x xs × (p x ≡ true)
-  any-has p [] e = absurd (false≢true e)
-  any-has p (z ∷ zs) e =
-      ⊎_elim (λ q. (z, inl refl, q)) (λ q. let (x, i, r) = any-has p zs q in (x, inr i, r)) (either (p z) (any p zs) e)
+  pub any_has : (p : A → Bool) (xs : List A) → any p xs ≡ true → (x : A) × Has x xs × (p x ≡ true)
+  any_has p [] e = absurd (false≢true e)
+  any_has p (z ∷ zs) e =
+      ⊎_elim (λ q. (z, inl refl, q)) (λ q. let (x, i, r) = any_has p zs q in (x, inr i, r)) (either (p z) (any p zs) e)
 
-  pub has-any : (p : A → Bool) (x : A) (xs : List A) → Has x xs → p x ≡ true → any p xs ≡ true
-  has-any p x [] h e = absurd h
-  has-any p x (z ∷ zs) (inl q) e = ap (λ b. b || any p zs) (sym (ap p q) ∙ e)
-  has-any p x (z ∷ zs) (inr h) e = go (p z) (has-any p x zs h e)
+  pub has_any : (p : A → Bool) (x : A) (xs : List A) → Has x xs → p x ≡ true → any p xs ≡ true
+  has_any p x [] h e = absurd h
+  has_any p x (z ∷ zs) (inl q) e = ap (λ b. b || any p zs) (sym (ap p q) ∙ e)
+  has_any p x (z ∷ zs) (inr h) e = go (p z) (has_any p x zs h e)
     where
       go : (b : Bool) → any p zs ≡ true → b || any p zs ≡ true
       go true i = refl
@@ -77,7 +77,7 @@ module _ {A : Type 0} where
   -- tests that agree on the list keep the same
   pub keep_same : (p q : A → Bool) (xs : List A) → ((x : A) → Has x xs → p x ≡ q x) → keep p xs ≡ keep q xs
   keep_same p q [] h = refl
-  keep_same p q (x ∷ xs) h = ap₂ (λ b l. putIf b x l) (h x (inl refl)) (keep_same p q xs (λ y k. h y (inr k)))
+  keep_same p q (x ∷ xs) h = ap₂ (λ b l. put_if b x l) (h x (inl refl)) (keep_same p q xs (λ y k. h y (inr k)))
 
   -- a test that is passed only where the second is keeps the same of what the second keeps
   pub keep-keep : (p q : A → Bool) (xs : List A) → ((x : A) → Has x xs → p x ≡ true → q x ≡ true) → keep p xs ≡ keep p (keep q xs)
@@ -85,7 +85,7 @@ module _ {A : Type 0} where
   keep-keep p q (x ∷ xs) h = go (p x) (q x) refl refl (h x (inl refl)) (keep-keep p q xs (λ y k. h y (inr k)))
     where
       go : (a b : Bool) → p x ≡ a → q x ≡ b → (p x ≡ true → q x ≡ true) → keep p xs ≡ keep p (keep q xs)
-          → putIf a x (keep p xs) ≡ keep p (putIf b x (keep q xs))
+          → put_if a x (keep p xs) ≡ keep p (put_if b x (keep q xs))
       go true true ea eb i ih = rw (ea, keep) (ap {B = List A} (λ l. x ∷ l) ih)
       go true false ea eb i ih = absurd (false≢true (sym eb ∙ i ea))
       go false true ea eb i ih = rw (ea, keep) ih
@@ -95,15 +95,15 @@ module _ {A : Type 0} where
   length-keep p [] = zero-le
   length-keep p (x ∷ xs) = go (p x) (length-keep p xs)
     where
-      go : (b : Bool) → length (keep p xs) ≤ length xs → length (putIf b x (keep p xs)) ≤ length (x ∷ xs)
+      go : (b : Bool) → length (keep p xs) ≤ length xs → length (put_if b x (keep p xs)) ≤ length (x ∷ xs)
       go true le = omega arith
       go false le = omega arith
 
   -- ---- what stands at a place
-  pub getD-has : (d : A) (l : List A) (j : ℕ) → j < length l → Has (get_or l j d) l
-  getD-has d [] j lt = absurd (not-suc-le-zero lt)
-  getD-has d (x ∷ l) zero lt = inl refl
-  getD-has d (x ∷ l) (suc j) lt = inr (getD-has d l j (le_of_suc-le-suc lt))
+  pub get_d_has : (d : A) (l : List A) (j : ℕ) → j < length l → Has (get_or l j d) l
+  get_d_has d [] j lt = absurd (not-suc-le-zero lt)
+  get_d_has d (x ∷ l) zero lt = inl refl
+  get_d_has d (x ∷ l) (suc j) lt = inr (get_d_has d l j (le_of_suc-le-suc lt))
 
 -- ---- through a map
 module _ {A B : Type 0} where
@@ -118,14 +118,14 @@ module _ {A B : Type 0} where
   map_same f g (x ∷ xs) e = ap₂ {C = List B} (λ a l. a ∷ l) (e x (inl refl)) (map_same f g xs (λ y i. e y (inr i)))
 
   -- what is joined of a mapped list is of what one element gives
-  pub joined-has : (f : A → List B) (y : B) (xs : List A) → Has y (joined (map f xs)) → (x : A) × Has x xs × Has y (f x)
-  joined-has f y [] h = absurd h
-  joined-has f y (z ∷ zs) h =
-      ⊎_elim (λ i. (z, inl refl, i)) (λ i. let r = joined-has f y zs i in (r.0, inr r.1, r.2)) (has-append y (f z) (joined (map f zs)) h)
+  pub joined_has : (f : A → List B) (y : B) (xs : List A) → Has y (joined (map f xs)) → (x : A) × Has x xs × Has y (f x)
+  joined_has f y [] h = absurd h
+  joined_has f y (z ∷ zs) h =
+      ⊎_elim (λ i. (z, inl refl, i)) (λ i. let r = joined_has f y zs i in (r.0, inr r.1, r.2)) (has_append y (f z) (joined (map f zs)) h)
 
-  pub any-map : (p : B → Bool) (f : A → B) (xs : List A) → any p (map f xs) ≡ any (λ x. p (f x)) xs
-  any-map p f [] = refl
-  any-map p f (x ∷ xs) = ap (λ b. p (f x) || b) (any-map p f xs)
+  pub any_map : (p : B → Bool) (f : A → B) (xs : List A) → any p (map f xs) ≡ any (λ x. p (f x)) xs
+  any_map p f [] = refl
+  any_map p f (x ∷ xs) = ap (λ b. p (f x) || b) (any_map p f xs)
 
   -- what stands at a place of a mapped list
   pub get_d_map : (f : A → B) (xs : List A) (i : ℕ) (d : A) (c : B) → i < length xs → get_or (map f xs) i c ≡ f (get_or xs i d)
@@ -139,12 +139,12 @@ module _ {A B : Type 0} (rule : B → A → Bool) (leaves : A → B) where
   abbrev Kept : List A → Type 0
   Kept xs = (x : A) → Has x xs → (c : B) × (rule c x ≡ true)
 
-  pub unbroken : (i : ℕ) (b : B) (xs : List A) → firstBreak rule leaves i b xs ≡ none → Kept xs
+  pub unbroken : (i : ℕ) (b : B) (xs : List A) → first_break rule leaves i b xs ≡ none → Kept xs
   unbroken i b [] e x h = absurd h
   unbroken i b (y ∷ ys) e x h = go (rule b y) refl e h (unbroken (suc i) (leaves y) ys)
     where
       next : Option ℕ
-      next = firstBreak rule leaves (suc i) (leaves y) ys
+      next = first_break rule leaves (suc i) (leaves y) ys
 
       go : (t : Bool) → rule b y ≡ t → ◌≡◌ {A = Option ℕ} (elim t [ true ↦ next | false ↦ some i ]) none → Has x (y ∷ ys)
           → (next ≡ none → Kept ys) → (c : B) × (rule c x ≡ true)
@@ -164,11 +164,11 @@ module _ {A : Type 0} (p : A → Bool) where
       go false q (inr i) ih = omega (arith, ih i)
 
   -- where none is found, none passes
-  pub none_passes : (xs : List A) → firstPlace p xs ≡ none → (x : A) → Has x xs → p x ≡ false
+  pub none_passes : (xs : List A) → first_place p xs ≡ none → (x : A) → Has x xs → p x ≡ false
   none_passes xs e x h = go (p x) refl
     where
       go : (t : Bool) → p x ≡ t → t ≡ false
       go true q =
-          let found : ◌≡◌ {A = Option ℕ} (some (place p xs)) none = rw (lt-ltb (place p xs) (length xs) (place_in x xs h q), firstPlace) at e in
+          let found : ◌≡◌ {A = Option ℕ} (some (place p xs)) none = rw (lt-ltb (place p xs) (length xs) (place_in x xs h q), first_place) at e in
           let z : ◌≡◌ {A = ℕ} 0 1 = cc in let w : ⊥ = omega arith in absurd w
       go false q = refl

@@ -9,47 +9,47 @@ use lib.Dec.{T, leb}
 use borrow.Author.Tests.{leb-true}
 use Rattle.paper.specs.Lists.{between}
 use Rattle.paper.specs.Format.{Format}
-use Rattle.paper.specs.Calls.{Answer, refused, given, ◌>>=◌, refuse, refuseAt, tests1-3, tests1-4, tests5-6, tests5-7, test8, Work, tests1-7}
-use Rattle.totals.specs.Tape.{Tape, sumsOf}
+use Rattle.paper.specs.Calls.{Answer, refused, given, ◌>>=◌, refuse, refuse_at, tests1_3, tests1_4, tests5_6, tests5_7, test8, Work, tests1_7}
+use Rattle.totals.specs.Tape.{Tape, sums_of}
 
 -- a refusal has a number from 1 to 17
 abbrev pub Numbered : {A : Type 0} → Answer A → Type 0
 Numbered (refused k p) = T (between 1 k 17)
 Numbered (given a) = Unit
 
-next-numbered : {A B : Type 0} (a : Answer A) (next : A → Answer B) → Numbered a → ((x : A) → Numbered (next x)) → Numbered (a >>= next)
-next-numbered (refused k p) next n after = n
-next-numbered (given x) next n after = after x
+next_numbered : {A B : Type 0} (a : Answer A) (next : A → Answer B) → Numbered a → ((x : A) → Numbered (next x)) → Numbered (a >>= next)
+next_numbered (refused k p) next n after = n
+next_numbered (given x) next n after = after x
 
-refuse-numbered : (k : ℕ) (b : Bool) → T (between 1 k 17) → Numbered (refuse k b)
-refuse-numbered k true n = n
-refuse-numbered k false n = tt
+refuse_numbered : (k : ℕ) (b : Bool) → T (between 1 k 17) → Numbered (refuse k b)
+refuse_numbered k true n = n
+refuse_numbered k false n = tt
 
-refuseAt-numbered : (k : ℕ) (o : Option ℕ) → T (between 1 k 17) → Numbered (refuseAt k o)
-refuseAt-numbered k none n = tt
-refuseAt-numbered k (some p) n = n
+refuse_at_numbered : (k : ℕ) (o : Option ℕ) → T (between 1 k 17) → Numbered (refuse_at k o)
+refuse_at_numbered k none n = tt
+refuse_at_numbered k (some p) n = n
 
-ruleset steps = (next-numbered, refuse-numbered, refuseAt-numbered)
+ruleset steps = (next_numbered, refuse_numbered, refuse_at_numbered)
 
-numbered1-3 : (f : Format) (b : List ℕ) → Numbered (tests1-3 f b)
-unfolding tests1-3
-numbered1-3 f b = search steps
+numbered1_3 : (f : Format) (b : List ℕ) → Numbered (tests1_3 f b)
+unfolding tests1_3
+numbered1_3 f b = search steps
 
-pub numbered1-7 : (f : Format) (b sb : List ℕ) → Numbered (tests1-7 f b sb)
-unfolding tests1-4 tests5-6 tests5-7
-numbered1-7 f b sb = search (steps, numbered1-3)
+pub numbered1_7 : (f : Format) (b sb : List ℕ) → Numbered (tests1_7 f b sb)
+unfolding tests1_4 tests5_6 tests5_7
+numbered1_7 f b sb = search (steps, numbered1_3)
 
 pub numbered8 : (f : Format) (w : Work) (room : ℕ) → Numbered (test8 f w room)
 unfolding test8
 numbered8 f w room = search steps
 
 -- Every refusal of a tape has such a number.
-pub numbered : (t : Tape) → Numbered (sumsOf t)
-unfolding sumsOf
-numbered t = search (steps, numbered1-7, numbered8)
+pub numbered : (t : Tape) → Numbered (sums_of t)
+unfolding sums_of
+numbered t = search (steps, numbered1_7, numbered8)
 
-pub is-numbered : (k : ℕ) → T (between 1 k 17) → (0 < k) × (k < 18)
-is-numbered k n = go (leb 1 k) (leb k 17) refl refl n
+pub is_numbered : (k : ℕ) → T (between 1 k 17) → (0 < k) × (k < 18)
+is_numbered k n = go (leb 1 k) (leb k 17) refl refl n
   where
     go : (a b : Bool) → leb 1 k ≡ a → leb k 17 ≡ b → T (a && b) → (0 < k) × (k < 18)
     go true true lo hi n = (leb-true 1 k lo, omega (arith, leb-true k 17 hi))

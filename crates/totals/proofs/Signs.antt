@@ -13,7 +13,7 @@ use mir.Facts.{to_z_pos, to_z-of_z}
 use borrow.Author.Tests.{ltb-true, ltb-false, lt-leb, le-leb, lt-ltb, le-ltb}
 use Rattle.paper.specs.Format.{number, signed}
 use Rattle.totals.specs.Sums.{within}
-use Rattle.totals.specs.Rows.{signedBits}
+use Rattle.totals.specs.Rows.{signed_bits}
 
 -- ---- from 64 bits
 minus_one : (k : ℕ) → negsuc 0 -ℤ pos k ≡ negsuc k
@@ -24,16 +24,16 @@ minus_one (suc k) = ap (λ n. negsuc (suc n)) (omega arith)
 pub lacks : (k : ℕ) → k < 2 ^ 63 → negsuc 0 -ℤ to_z w64 k ≡ negsuc k
 lacks k h = ap (λ z. negsuc 0 -ℤ z) (to_z_pos w64 h) ∙ minus_one k
 
-pub lacks-fits : (k : ℕ) → k < 2 ^ 63 → SFits w64 (negsuc 0 -ℤ to_z w64 k)
-lacks-fits k h = subst (SFits w64) (sym (lacks k h)) (record { sfits = h })
+pub lacks_fits : (k : ℕ) → k < 2 ^ 63 → SFits w64 (negsuc 0 -ℤ to_z w64 k)
+lacks_fits k h = subst (SFits w64) (sym (lacks k h)) (record { sfits = h })
 
-pub low_bits : (x : ℕ) → x < 2 ^ 63 → to_z w64 x ≡ signedBits x
+pub low_bits : (x : ℕ) → x < 2 ^ 63 → to_z w64 x ≡ signed_bits x
 low_bits x h = to_z_pos w64 h ∙ ap (λ b. elim b as (λ _. ℤ) [ true ↦ pos x | false ↦ negsuc (2 ^ 64 - 1 - x) ]) (sym (lt-ltb x (2 ^ 63) h))
 
-pub high_bits : (x : ℕ) → 2 ^ 63 ≤ x → x < 2 ^ 64 → to_z w64 (of_z w64 (negsuc 0 -ℤ to_z w64 (18446744073709551615 - x))) ≡ signedBits x
+pub high_bits : (x : ℕ) → 2 ^ 63 ≤ x → x < 2 ^ 64 → to_z w64 (of_z w64 (negsuc 0 -ℤ to_z w64 (18446744073709551615 - x))) ≡ signed_bits x
 high_bits x h f =
     let k : 18446744073709551615 - x < 2 ^ 63 = omega (arith, h, f) in
-    to_z-of_z {w = w64} (lacks-fits (18446744073709551615 - x) k) ∙ lacks (18446744073709551615 - x) k
+    to_z-of_z {w = w64} (lacks_fits (18446744073709551615 - x) k) ∙ lacks (18446744073709551615 - x) k
     ∙ ap (λ b. elim b as (λ _. ℤ) [ true ↦ pos x | false ↦ negsuc (2 ^ 64 - 1 - x) ]) (sym (le-ltb x (2 ^ 63) h))
 
 -- ---- the tests of a range
@@ -55,28 +55,28 @@ lt_not_le (negsuc a) (negsuc b) = go (ltb b a) refl
 down : (n : ℕ) → n < 2 ^ 63 → pos 0 -ℤ to_z w64 n ≡ neg_ℤ (pos n)
 down n h = ap (λ z. pos 0 -ℤ z) (to_z_pos w64 h) ∙ +ℤ_idl (neg_ℤ (pos n))
 
-neg-fits : (n : ℕ) → n < 2 ^ 63 → SFits w64 (neg_ℤ (pos n))
-neg-fits zero h = record { sfits = h }
-neg-fits (suc n) h = record { sfits = omega (arith, h) }
+neg_fits : (n : ℕ) → n < 2 ^ 63 → SFits w64 (neg_ℤ (pos n))
+neg_fits zero h = record { sfits = h }
+neg_fits (suc n) h = record { sfits = omega (arith, h) }
 
 pub down_fits : (n : ℕ) → n < 2 ^ 63 → SFits w64 (pos 0 -ℤ to_z w64 n)
-down_fits n h = subst (SFits w64) (sym (down n h)) (neg-fits n h)
+down_fits n h = subst (SFits w64) (sym (down n h)) (neg_fits n h)
 
 module _ (n : ℕ) (v : ℤ) (h : n < 2 ^ 63) (f : SFits w64 v) where
   tested : lt_z (to_z w64 (of_z w64 v)) (to_z w64 (of_z w64 (pos 0 -ℤ to_z w64 n))) ≡ lt_z v (neg_ℤ (pos n))
   tested i = lt_z (to_z-of_z {w = w64} f i) ((to_z-of_z {w = w64} (down_fits n h) ∙ down n h) i)
 
-  pub too-low : lt_z (to_z w64 (of_z w64 v)) (to_z w64 (of_z w64 (pos 0 -ℤ to_z w64 n))) ≡ true → false ≡ within n v
+  pub too_low : lt_z (to_z w64 (of_z w64 v)) (to_z w64 (of_z w64 (pos 0 -ℤ to_z w64 n))) ≡ true → false ≡ within n v
   unfolding within
-  too-low e = sym (ap (λ b. b && le_z v (pos n)) (lt_not_le v (neg_ℤ (pos n)) ∙ ap not (sym tested ∙ e)))
+  too_low e = sym (ap (λ b. b && le_z v (pos n)) (lt_not_le v (neg_ℤ (pos n)) ∙ ap not (sym tested ∙ e)))
 
-  pub not-too-low : lt_z (to_z w64 (of_z w64 v)) (to_z w64 (of_z w64 (pos 0 -ℤ to_z w64 n))) ≡ false → le_z (to_z w64 (of_z w64 v)) (to_z w64 n) ≡ within n v
+  pub not_too_low : lt_z (to_z w64 (of_z w64 v)) (to_z w64 (of_z w64 (pos 0 -ℤ to_z w64 n))) ≡ false → le_z (to_z w64 (of_z w64 v)) (to_z w64 n) ≡ within n v
   unfolding within
-  not-too-low e =
+  not_too_low e =
       ap (λ z. le_z z (to_z w64 n)) (to_z-of_z {w = w64} f) ∙ ap (le_z v) (to_z_pos w64 h)
       ∙ sym (ap (λ b. b && le_z v (pos n)) (lt_not_le v (neg_ℤ (pos n)) ∙ ap not (sym tested ∙ e)))
 
 -- eight bytes read as one number, with its sign
-pub signed-bits-lem : (b : List ℕ) → signedBits (number b) ≡ signed b
+pub signed_bits_lem : (b : List ℕ) → signed_bits (number b) ≡ signed b
 unfolding signed
-signed-bits-lem b = refl
+signed_bits_lem b = refl

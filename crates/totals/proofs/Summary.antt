@@ -9,33 +9,33 @@ use mathlib.Core.List.{List, [], ◌∷◌, ◌++◌, map}
 use lib.ListN.{length, get_or, replicate, length-map, get_or-append}
 use lib.Seq.{get_or-take}
 use Rattle.paper.specs.Lists.{Has, keep, count, padded}
-use Rattle.paper.specs.Format.{Format, mostEntries, mostLines}
-use Rattle.paper.specs.Closeness.{Node, ofKind}
+use Rattle.paper.specs.Format.{Format, most_entries, most_lines}
+use Rattle.paper.specs.Closeness.{Node, of_kind}
 use Rattle.paper.specs.Shapes.{Shape, kind}
 use Rattle.paper.specs.NewTable.{Line}
-use Rattle.paper.specs.Figures.{entryLines, differentRows, figures, noFigures}
-use Rattle.paper.specs.Calls.{Answer, refused, given, Work, tests1-7, test8, summariseRows, summarise}
-use Rattle.totals.proofs.Lists.{putIf, length-keep}
-use Rattle.totals.proofs.Refusals.{Numbered, numbered1-7, numbered8, is-numbered}
-use Rattle.totals.proofs.Reshaped.{tests1-8}
+use Rattle.paper.specs.Figures.{entry_lines, different_rows, figures, no_figures}
+use Rattle.paper.specs.Calls.{Answer, refused, given, Work, tests1_7, test8, summarise_rows, summarise}
+use Rattle.totals.proofs.Lists.{put_if, length-keep}
+use Rattle.totals.proofs.Refusals.{Numbered, numbered1_7, numbered8, is_numbered}
+use Rattle.totals.proofs.Reshaped.{tests1_8}
 
 -- ---- refused, or the figures
 pub data Outcome (f : Format) (b sb : List ℕ) : Type 0 where
-  refusal : (k p : ℕ) → 0 < k → tests1-8 f b sb mostLines ≡ refused k p → summarise f b sb ≡ record { number = k; place = p; rest = noFigures } → Outcome f b sb
-  figured : (w : Work) (ls : List Line) → tests1-7 f b sb ≡ given w → test8 f w mostLines ≡ given ls
+  refusal : (k p : ℕ) → 0 < k → tests1_8 f b sb most_lines ≡ refused k p → summarise f b sb ≡ record { number = k; place = p; rest = no_figures } → Outcome f b sb
+  figured : (w : Work) (ls : List Line) → tests1_7 f b sb ≡ given w → test8 f w most_lines ≡ given ls
       → summarise f b sb ≡ record { number = 0; place = 0; rest = figures w.nodes w.shape ls } → Outcome f b sb
 
 pub outcome : (f : Format) (b sb : List ℕ) → Outcome f b sb
-unfolding summarise summariseRows
-outcome f b sb = first (tests1-7 f b sb) refl
+unfolding summarise summarise_rows
+outcome f b sb = first (tests1_7 f b sb) refl
   where
-    second : (w : Work) → tests1-7 f b sb ≡ given w → (a : Answer (List Line)) → test8 f w mostLines ≡ a → Outcome f b sb
-    second w past (refused k p) e = refusal k p (is-numbered k (subst Numbered e (numbered8 f w mostLines))).0 (rw (past, e)) (rw (past, e))
+    second : (w : Work) → tests1_7 f b sb ≡ given w → (a : Answer (List Line)) → test8 f w most_lines ≡ a → Outcome f b sb
+    second w past (refused k p) e = refusal k p (is_numbered k (subst Numbered e (numbered8 f w most_lines))).0 (rw (past, e)) (rw (past, e))
     second w past (given ls) e = figured w ls past e (rw (past, e))
 
-    first : (a : Answer Work) → tests1-7 f b sb ≡ a → Outcome f b sb
-    first (refused k p) e = refusal k p (is-numbered k (subst Numbered e (numbered1-7 f b sb))).0 (rw e) (rw e)
-    first (given w) e = second w e (test8 f w mostLines) refl
+    first : (a : Answer Work) → tests1_7 f b sb ≡ a → Outcome f b sb
+    first (refused k p) e = refusal k p (is_numbered k (subst Numbered e (numbered1_7 f b sb))).0 (rw e) (rw e)
+    first (given w) e = second w e (test8 f w most_lines) refl
 
 -- ---- the figure of an entry
 counted : (g : ℕ → ℕ) (i n e : ℕ) → e < n → get_or (map g (count i n)) e 0 ≡ g (i + e)
@@ -47,29 +47,29 @@ length-count : (i n : ℕ) → length (count i n) ≡ n
 length-count i zero = refl
 length-count i (suc n) = ap suc (length-count (suc i) n)
 
-figure-at : (g : ℕ → ℕ) (n e : ℕ) → e < n → n ≤ mostEntries → get_or (padded mostEntries (map g (count 0 n))) e 0 ≡ g e
-figure-at g n e h few =
+figure_at : (g : ℕ → ℕ) (n e : ℕ) → e < n → n ≤ most_entries → get_or (padded most_entries (map g (count 0 n))) e 0 ≡ g e
+figure_at g n e h few =
     let long : length (map g (count 0 n)) ≡ n = length-map (count 0 n) g ∙ length-count 0 n in
-    get_or-take mostEntries (map g (count 0 n) ++ replicate mostEntries 0) e 0 (omega (arith, h, few))
-    ∙ get_or-append (map g (count 0 n)) (replicate mostEntries 0) 0 e (omega (arith, h, long))
+    get_or-take most_entries (map g (count 0 n) ++ replicate most_entries 0) e 0 (omega (arith, h, few))
+    ∙ get_or-append (map g (count 0 n)) (replicate most_entries 0) 0 e (omega (arith, h, long))
     ∙ counted g 0 n e h ∙ ap g (omega arith)
 
-module _ (t : List Node) (s : Shape) (ls : List Line) (e : ℕ) (lt : e < length s.ways) (few : length s.ways ≤ mostEntries) where
-  pub rows-figure : get_or (figures t s ls).rows e 0 ≡ length (ofKind t (kind s e))
+module _ (t : List Node) (s : Shape) (ls : List Line) (e : ℕ) (lt : e < length s.ways) (few : length s.ways ≤ most_entries) where
+  pub rows_figure : get_or (figures t s ls).rows e 0 ≡ length (of_kind t (kind s e))
   unfolding figures
-  rows-figure = figure-at (λ c. length (ofKind t (kind s c))) (length s.ways) e lt few
+  rows_figure = figure_at (λ c. length (of_kind t (kind s c))) (length s.ways) e lt few
 
-  pub different-figure : get_or (figures t s ls).different e 0 ≡ length (differentRows t (entryLines ls e))
+  pub different_figure : get_or (figures t s ls).different e 0 ≡ length (different_rows t (entry_lines ls e))
   unfolding figures
-  different-figure = figure-at (λ c. length (differentRows t (entryLines ls c))) (length s.ways) e lt few
+  different_figure = figure_at (λ c. length (different_rows t (entry_lines ls c))) (length s.ways) e lt few
 
 -- ---- all of a list is kept, or none
 module _ {A : Type 0} (p : A → Bool) where
-  pub all-kept-lem : (xs : List A) → length (keep p xs) ≡ length xs → (x : A) → Has x xs → p x ≡ true
-  all-kept-lem [] e x h = absurd h
-  all-kept-lem (y ∷ ys) e x h = go (p y) refl e h (λ l k. all-kept-lem ys l x k)
+  pub all_kept_lem : (xs : List A) → length (keep p xs) ≡ length xs → (x : A) → Has x xs → p x ≡ true
+  all_kept_lem [] e x h = absurd h
+  all_kept_lem (y ∷ ys) e x h = go (p y) refl e h (λ l k. all_kept_lem ys l x k)
     where
-      go : (b : Bool) → p y ≡ b → length (putIf b y (keep p ys)) ≡ suc (length ys) → Has x (y ∷ ys)
+      go : (b : Bool) → p y ≡ b → length (put_if b y (keep p ys)) ≡ suc (length ys) → Has x (y ∷ ys)
           → (length (keep p ys) ≡ length ys → Has x ys → p x ≡ true) → p x ≡ true
       go true q l (inl same) rest = ap p same ∙ q
       go true q l (inr later) rest = rest (omega (arith, l)) later
@@ -79,13 +79,13 @@ module _ {A : Type 0} (p : A → Bool) where
   none_kept [] e x h = absurd h
   none_kept (y ∷ ys) e x h = go (p y) refl e h (λ l k. none_kept ys l x k)
     where
-      go : (b : Bool) → p y ≡ b → length (putIf b y (keep p ys)) ≡ 0 → Has x (y ∷ ys) → (length (keep p ys) ≡ 0 → Has x ys → p x ≡ false) → p x ≡ false
+      go : (b : Bool) → p y ≡ b → length (put_if b y (keep p ys)) ≡ 0 → Has x (y ∷ ys) → (length (keep p ys) ≡ 0 → Has x ys → p x ≡ false) → p x ≡ false
       go true q l k rest = let z : ⊥ = omega (arith, l) in absurd z
       go false q l (inl same) rest = ap p same ∙ q
       go false q l (inr later) rest = rest l later
 
 -- ---- what it says of a tape that passes
-pub figures-are : (f : Format) (b sb : List ℕ) (w : Work) (ls : List Line) → tests1-7 f b sb ≡ given w → test8 f w mostLines ≡ given ls
+pub figures_are : (f : Format) (b sb : List ℕ) (w : Work) (ls : List Line) → tests1_7 f b sb ≡ given w → test8 f w most_lines ≡ given ls
     → summarise f b sb ≡ record { number = 0; place = 0; rest = figures w.nodes w.shape ls }
-unfolding summarise summariseRows
-figures-are f b sb w ls past past8 = rw (past, past8)
+unfolding summarise summarise_rows
+figures_are f b sb w ls past past8 = rw (past, past8)

@@ -5,8 +5,8 @@ use mathlib.Core.List.{List, ◌∷◌}
 use lib.IntN.{◌+ℤ◌}
 use Rattle.paper.specs.Widths.{format_of}
 use Rattle.settling.proofs.Settles.{Settled, Promises}
-use Rattle.totals.specs.Tape.{Tape, sumOfType}
-use Rattle.totals.specs.History.{afterAll}
+use Rattle.totals.specs.Tape.{Tape, sum_of_type}
+use Rattle.totals.specs.History.{after_all}
 use Rattle.totals.specs.Told.{tape, summed, taken}
 use Rattle.totals.specs.declared.TapeSums.{TapeSums}
 use Rattle.totals.specs.declared.TakenIn.{TakenIn}
@@ -20,19 +20,19 @@ sums_same r s e i = record { number = (e i).number; place = (e i).place; shown =
 taken-same : (r s : TakenIn) → taken r ≡ taken s → r ≡ s
 taken-same r s e i = record { number = (e i).number; place = (e i).place; total = (e i).rest }
 
-pub sum-tape-settled : Settled sum-tape.Asked sum-tape.Learnt (λ κs r e. r)
-sum-tape-settled = ((λ κs a. tt), λ κs a r s e f x y. sums_same r s (x.0 ∙ sym y.0))
+pub sum_tape_settled : Settled sum-tape.Asked sum-tape.Learnt (λ κs r e. r)
+sum_tape_settled = ((λ κs a. tt), λ κs a r s e f x y. sums_same r s (x.0 ∙ sym y.0))
 
-pub take-in-settled : Settled take_in.Asked take_in.Learnt (λ κs r e. r)
-take-in-settled = ((λ κs a. tt), λ κs a r s e f x y. taken-same r s (x ∙ sym y))
+pub take_in_settled : Settled take_in.Asked take_in.Learnt (λ κs r e. r)
+take_in_settled = ((λ κs a. tt), λ κs a r s e f x y. taken-same r s (x ∙ sym y))
 
 -- Both sums that a caller is told, together, are the sum over all rows of the type.
-pub sum-tape-together : Promises sum-tape.Learnt (λ κs a r e.
-    r.number ≡ 0 → r.shown +ℤ r.unshown ≡ sumOfType (tape (format_of a.0) a.1.0.now a.1.1.0.now a.1.1.1.0))
-sum-tape-together κs a r e x = x.1
+pub sum_tape_together : Promises sum-tape.Learnt (λ κs a r e.
+    r.number ≡ 0 → r.shown +ℤ r.unshown ≡ sum_of_type (tape (format_of a.0) a.1.0.now a.1.1.0.now a.1.1.1.0))
+sum_tape_together κs a r e x = x.1
 
 -- A history goes on from the answer's total as it does from the total handed in, with this tape before the others.
-pub take-in-next : Promises take_in.Learnt (λ κs a r e.
+pub take_in_next : Promises take_in.Learnt (λ κs a r e.
     (ts : List Tape)
-    → afterAll r.total ts ≡ afterAll a.0 (tape (format_of a.1.0) a.1.1.0.now a.1.1.1.0.now a.1.1.1.1.0 ∷ ts))
-take-in-next κs a r e x ts = ap (λ y. afterAll y.rest ts) x
+    → after_all r.total ts ≡ after_all a.0 (tape (format_of a.1.0) a.1.1.0.now a.1.1.1.0.now a.1.1.1.1.0 ∷ ts))
+take_in_next κs a r e x ts = ap (λ y. after_all y.rest ts) x

@@ -3,24 +3,24 @@ use Prim.Native.Nat.{ℕ, ◌/◌, ◌≤◌, min}
 use mathlib.Core.Path.{◌≡◌, ap₂}
 use lib.Dec.{lit≤}
 use lib.ListN.{replicate, length-replicate}
-use Rattle.paper.specs.Format.{base, eight, mostRows, mostLines, entryBytes}
+use Rattle.paper.specs.Format.{base, eight, most_rows, most_lines, entry_bytes}
 use Rattle.paper.specs.Widths.{format_of}
-use Rattle.paper.specs.Calls.{roomIn}
+use Rattle.paper.specs.Calls.{room_in}
 use Rattle.paper.specs.declared.Width.{Width}
 use Rattle.paper.specs.declared.Width.TheVariants.{Six, Eight}
 
-pub entry-most : (w : Width) → entryBytes (format_of w) ≤ 20
+pub entry_most : (w : Width) → entry_bytes (format_of w) ≤ 20
 unfolding base eight
-entry-most Six = lit≤ tt
-entry-most Eight = lit≤ tt
+entry_most Six = lit≤ tt
+entry_most Eight = lit≤ tt
 
 -- what is lent has room for 1,024 lines, or for 4,096, at either width
-pub room-for-rows : (w : Width) → roomIn (format_of w) (replicate 28672 0) (replicate 1024 0) ≡ mostRows
+pub room_for_rows : (w : Width) → room_in (format_of w) (replicate 28672 0) (replicate 1024 0) ≡ most_rows
 unfolding base eight
-room-for-rows Six = ap₂ (λ n m. min (n / 24) (min m mostLines)) (length-replicate {A = ℕ} 28672 0) (length-replicate {A = ℕ} 1024 0)
-room-for-rows Eight = ap₂ (λ n m. min (n / 28) (min m mostLines)) (length-replicate {A = ℕ} 28672 0) (length-replicate {A = ℕ} 1024 0)
+room_for_rows Six = ap₂ (λ n m. min (n / 24) (min m most_lines)) (length-replicate {A = ℕ} 28672 0) (length-replicate {A = ℕ} 1024 0)
+room_for_rows Eight = ap₂ (λ n m. min (n / 28) (min m most_lines)) (length-replicate {A = ℕ} 28672 0) (length-replicate {A = ℕ} 1024 0)
 
-pub room-for-lines : (w : Width) → roomIn (format_of w) (replicate 114688 0) (replicate 4096 0) ≡ mostLines
+pub room_for_lines : (w : Width) → room_in (format_of w) (replicate 114688 0) (replicate 4096 0) ≡ most_lines
 unfolding base eight
-room-for-lines Six = ap₂ (λ n m. min (n / 24) (min m mostLines)) (length-replicate {A = ℕ} 114688 0) (length-replicate {A = ℕ} 4096 0)
-room-for-lines Eight = ap₂ (λ n m. min (n / 28) (min m mostLines)) (length-replicate {A = ℕ} 114688 0) (length-replicate {A = ℕ} 4096 0)
+room_for_lines Six = ap₂ (λ n m. min (n / 24) (min m most_lines)) (length-replicate {A = ℕ} 114688 0) (length-replicate {A = ℕ} 4096 0)
+room_for_lines Eight = ap₂ (λ n m. min (n / 28) (min m most_lines)) (length-replicate {A = ℕ} 114688 0) (length-replicate {A = ℕ} 4096 0)

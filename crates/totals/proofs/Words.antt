@@ -14,7 +14,7 @@ word_bytes b i lo hi el eh =
     omega (arith, e)
 
 -- eight bytes as four words, the low one first
-pub four-words : (b : List ℕ) (i : ℕ) → number (span 8 b i) ≡ (word b i + 65536 * word b (i + 2)) + 4294967296 * (word b (i + 4) + 65536 * word b (i + 6))
-four-words b i =
+pub four_words : (b : List ℕ) (i : ℕ) → number (span 8 b i) ≡ (word b i + 65536 * word b (i + 2)) + 4294967296 * (word b (i + 4) + 65536 * word b (i + 6))
+four_words b i =
     let e : (n m : ℕ) → m ≡ i + n → word b m ≡ word b (i + n) = λ n m h. ap (word b) h in
     omega (arith, e 2 (suc (suc i)) (omega arith), e 4 (suc (suc (suc (suc i)))) (omega arith), e 6 (suc (suc (suc (suc (suc (suc i)))))) (omega arith))

@@ -6,4 +6,4 @@ pub data Reordered {A : Type 0} : List A → List A → Type 0 where
   empty : Reordered [] []
   same_first : (x : A) {xs ys : List A} → Reordered xs ys → Reordered (x ∷ xs) (x ∷ ys)
   swapped : (x y : A) (xs : List A) → Reordered (x ∷ y ∷ xs) (y ∷ x ∷ xs)
-  one-after-another : {xs ys zs : List A} → Reordered xs ys → Reordered ys zs → Reordered xs zs
+  one_after_another : {xs ys zs : List A} → Reordered xs ys → Reordered ys zs → Reordered xs zs

@@ -2,7 +2,7 @@
 use Rattle.std.specs.Prelude.{ℕ, List}
 use Rattle.paper.specs.Format.{Format}
 use Rattle.paper.specs.Calls.{Reply}
-use Rattle.totals.specs.Tape.{Tape, Sums, noSums}
+use Rattle.totals.specs.Tape.{Tape, Sums, no_sums}
 use Rattle.totals.specs.Total.{Total}
 use Rattle.totals.specs.declared.TapeSums.{TapeSums}
 use Rattle.totals.specs.declared.TakenIn.{TakenIn}
@@ -14,8 +14,8 @@ tape f table shape entry = record { format = f; table = table; shape = shape; en
 abbrev pub summed : TapeSums → Reply Sums
 summed r = record { number = r.number; place = r.place; rest = record { shown = r.shown; unshown = r.unshown } }
 
-abbrev pub refusedSums : ℕ → ℕ → Reply Sums
-refusedSums number place = record { number = number; place = place; rest = noSums }
+abbrev pub refused_sums : ℕ → ℕ → Reply Sums
+refused_sums number place = record { number = number; place = place; rest = no_sums }
 
 -- number, place, the total
 abbrev pub taken : TakenIn → Reply Total

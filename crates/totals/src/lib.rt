@@ -6,12 +6,12 @@ pub mod rows;
 pub mod value;
 
 ghost use Rattle.std.specs.Prelude.{◌≡◌, ◌+ℤ◌, length, replicate};
-ghost use Rattle.paper.specs.Format.{mostRows};
+ghost use Rattle.paper.specs.Format.{most_rows};
 ghost use Rattle.paper.specs.Widths.{format_of};
 ghost use Rattle.paper.specs.Calls.{summarise};
 ghost use Rattle.reshaping.specs.Reshaped.{summarised};
-ghost use Rattle.totals.specs.Tape.{sumTape, sumOfType};
-ghost use Rattle.totals.specs.Total.{cannotBe, takeIn};
+ghost use Rattle.totals.specs.Tape.{sum_tape, sum_of_type};
+ghost use Rattle.totals.specs.Total.{cannot_be, take_in};
 ghost use Rattle.totals.specs.Told.{tape, summed, taken};
 ghost use Rattle.totals.specs.Work.{HasEntry, MarksShown, SumsRows};
 
@@ -49,7 +49,7 @@ pub struct TakenIn {
 
 // Adds up the rows of the entry's type, which a reshape to that entry alone lists: those marked, and the others.
 fn sum_rows(width: Width, table: &[u8], shape: &[u8], entry: usize, marks: &[u8]) -> TapeSums
-    requires { HasEntry (format_of width) table.now shape.now entry × (length marks.now ≡ mostRows) }
+    requires { HasEntry (format_of width) table.now shape.now entry × (length marks.now ≡ most_rows) }
     ensures { SumsRows (format_of width) table.now shape.now entry marks.now (summed result) }
 {
     let bytes = entry_bytes(width);
@@ -64,7 +64,7 @@ fn sum_rows(width: Width, table: &[u8], shape: &[u8], entry: usize, marks: &[u8]
 
 // Marks the rows that the entry's lines show, by the source list of the tape's reshape.
 fn mark_lines(width: Width, table: &[u8], shape: &[u8], entry: usize, marks: &mut [u8])
-    requires { HasEntry (format_of width) table.now shape.now entry × (marks.old ≡ replicate mostRows 0) }
+    requires { HasEntry (format_of width) table.now shape.now entry × (marks.old ≡ replicate most_rows 0) }
     ensures { MarksShown (format_of width) table.now shape.now entry marks.new }
 {
     let mut new = [0u8; 114688];
@@ -83,7 +83,7 @@ fn mark_rows(
     summary: Summary,
     marks: &mut [u8],
 )
-    requires has_entry { HasEntry (format_of width) table.now shape.now entry × (marks.old ≡ replicate mostRows 0) }
+    requires has_entry { HasEntry (format_of width) table.now shape.now entry × (marks.old ≡ replicate most_rows 0) }
     requires summary_value { summarised summary ≡ summarise (format_of width) table.now shape.now }
     ensures { MarksShown (format_of width) table.now shape.now entry marks.new }
 {
@@ -102,8 +102,8 @@ fn mark_rows(
 // entry; 17 with the first row of the entry's type, shown or not, whose value lies beyond ±10^12; or the sum over the rows that the entry's lines show,
 // each once, and the sum over the rows of its type that they do not show. Both together are the sum over all rows of the type.
 pub fn sum_tape(width: Width, table: &[u8], shape: &[u8], entry: usize) -> TapeSums
-    ensures result_value { summed result ≡ sumTape (tape (format_of width) table.now shape.now entry) }
-    ensures unshown_value { result.number ≡ 0 → result.shown +ℤ result.unshown ≡ sumOfType (tape (format_of width) table.now shape.now entry) }
+    ensures result_value { summed result ≡ sum_tape (tape (format_of width) table.now shape.now entry) }
+    ensures unshown_value { result.number ≡ 0 → result.shown +ℤ result.unshown ≡ sum_of_type (tape (format_of width) table.now shape.now entry) }
 {
     let summary = silmezga::summarise(width, table, shape);
     let number = summary.number;
@@ -132,7 +132,7 @@ fn left(number: usize, place: usize, total: Total) -> TakenIn
 
 // Is this a total that cannot be one: of 1,000 tapes or more, or with a sum beyond ±1.024 × 10^15 a tape?
 fn cannot_be(total: Total) -> bool
-    ensures { result ≡ cannotBe total }
+    ensures { result ≡ cannot_be total }
 {
     let tapes = total.tapes;
     let shown = total.shown;
@@ -150,7 +150,7 @@ fn cannot_be(total: Total) -> bool
 // Takes a tape into a running total: the refusals of `sum_tape`; then 18 where the total handed in has 1,000 tapes or more, or a sum beyond
 // ±1.024 × 10^15 a tape; or the total with both sums of the tape added and one tape more. Refused, the total is as it was handed in.
 pub fn take_in(total: Total, width: Width, table: &[u8], shape: &[u8], entry: usize) -> TakenIn
-    ensures { taken result ≡ takeIn total (tape (format_of width) table.now shape.now entry) }
+    ensures { taken result ≡ take_in total (tape (format_of width) table.now shape.now entry) }
 {
     let sums = sum_tape(width, table, shape, entry);
     let number = sums.number;

@@ -1,9 +1,9 @@
 // The rows of an entry's type: which of them its lines show, and what their values add up to.
 ghost use Rattle.std.specs.Prelude.{◌≡◌, ◌+◌, ◌*◌, ◌≤◌, ◌<◌, ◌∷◌, pos, length, take, drop};
-ghost use Rattle.paper.specs.Format.{mostRows, mostEntries, rowBytes, entryBytes};
+ghost use Rattle.paper.specs.Format.{most_rows, most_entries, row_bytes, entry_bytes};
 ghost use Rattle.paper.specs.Widths.{format_of};
-ghost use Rattle.totals.specs.Told.{summed, refusedSums};
-ghost use Rattle.totals.specs.Rows.{Marks, AllMarked, RowsOf, value_at, isMarked, addedUp};
+ghost use Rattle.totals.specs.Told.{summed, refused_sums};
+ghost use Rattle.totals.specs.Rows.{Marks, AllMarked, RowsOf, value_at, is_marked, added_up};
 
 use crate::TapeSums;
 use crate::value::{lies_within, value_at, wide32};
@@ -11,7 +11,7 @@ use silmezga::Width;
 
 // The bytes of a row.
 pub fn row_bytes(width: Width) -> usize
-    ensures { result ≡ rowBytes (format_of width) }
+    ensures { result ≡ row_bytes (format_of width) }
 {
     match width {
         Width::Six => 24,
@@ -21,7 +21,7 @@ pub fn row_bytes(width: Width) -> usize
 
 // The bytes of an entry, which are those before the value of a row.
 pub fn entry_bytes(width: Width) -> usize
-    ensures { result ≡ entryBytes (format_of width) }
+    ensures { result ≡ entry_bytes (format_of width) }
 {
     match width {
         Width::Six => 16,
@@ -45,7 +45,7 @@ pub fn put_alone(shape: &[u8], bytes: usize, entry: usize, alone: &mut [u8])
 
 // Marks the rows that the lines of an entry show, by the source list: a row is marked once, however many lines show it.
 pub fn mark_shown(sources: &[u32], lines: usize, entry: usize, marks: &mut [u8])
-    requires { (lines ≤ length sources.now) × (entry < mostEntries) × (length marks.old ≡ mostRows) }
+    requires { (lines ≤ length sources.now) × (entry < most_entries) × (length marks.old ≡ most_rows) }
     ensures { Marks entry (take lines sources.now) marks.old marks.new }
 {
     let first = 65536 * entry;
@@ -78,7 +78,7 @@ pub fn mark_all(marks: &mut [u8])
 }
 
 pub fn refused(number: usize, place: usize) -> TapeSums
-    ensures { summed result ≡ refusedSums number place }
+    ensures { summed result ≡ refused_sums number place }
 {
     TapeSums {
         number: number,
@@ -98,10 +98,10 @@ pub fn add_up(
     count: usize,
     marks: &[u8],
 ) -> TapeSums
-    requires count_in_bounds { (count ≤ length rows.now) × (count ≤ mostRows) × (length marks.now ≡ mostRows) × (before + 8 ≤ bytes) × (bytes ≤ 255) }
+    requires count_in_bounds { (count ≤ length rows.now) × (count ≤ most_rows) × (length marks.now ≡ most_rows) × (before + 8 ≤ bytes) × (bytes ≤ 255) }
     requires rows_of { RowsOf bytes table.now (take count rows.now) }
     ensures { let value = value_at bytes before table.now in
-        summed result ≡ addedUp value (isMarked marks.now) (take count rows.now) (pos 0) (pos 0) }
+        summed result ≡ added_up value (is_marked marks.now) (take count rows.now) (pos 0) (pos 0) }
 {
     let mut shown = 0i64;
     let mut unshown = 0i64;

@@ -2,7 +2,7 @@
 ghost use Rattle.std.specs.Prelude.{◌≡◌, ◌+◌, ◌<◌, length};
 ghost use Rattle.paper.specs.Format.{word, number, span, signed};
 ghost use Rattle.totals.specs.Sums.{within};
-ghost use Rattle.totals.specs.Rows.{signedBits};
+ghost use Rattle.totals.specs.Rows.{signed_bits};
 
 // A byte as a number.
 fn wide(b: u8) -> usize
@@ -38,7 +38,7 @@ fn long(b: &[u8], i: usize) -> usize
 
 // The signed number of 64 bits.
 fn with_sign(bits: usize) -> i64
-    ensures { result ≡ signedBits bits }
+    ensures { result ≡ signed_bits bits }
 {
     if bits < 9223372036854775808 {
         bits as i64

@@ -2,7 +2,7 @@
 -- nothing, settles the answer, and has each property that is proved of Rattle's. A clause taken away or weakened is refused here. Assumes nothing.
 use Prim.Native.Nat.{ℕ}
 use Rattle.paper.specs.declared.Width.{Width}
-use Rattle.settling.proofs.Settles.{Settled-too, Holds-too, settled-too, holds-too}
+use Rattle.settling.proofs.Settles.{Settled-too, Holds-too, settled_too, holds_too}
 use Rattle.totals.specs.declared.Total.{Total}
 use Rattle.totals.proofs.Unique as rattle
 use Rattle.totals_c.specs.Numbered.{width_of}
@@ -14,17 +14,17 @@ abbrev wide : {X : Type 0} → ℕ × X → Width × X
 wide a = (width_of a.0, a.1)
 
 -- the same behind a total
-abbrev wideBehind : {X : Type 0} → Total × (ℕ × X) → Total × (Width × X)
-wideBehind a = (a.0, wide a.1)
+abbrev wide_behind : {X : Type 0} → Total × (ℕ × X) → Total × (Width × X)
+wide_behind a = (a.0, wide a.1)
 
-pub sum-tape-settled : Settled-too wide wide sum-tape.Learnt sum-tape.Asked rattle.sum-tape-settled
-sum-tape-settled = settled-too wide wide sum-tape.Learnt rattle.sum-tape-settled (λ κs a. tt) (λ κs a r e x. x)
+pub sum_tape_settled : Settled-too wide wide sum-tape.Learnt sum-tape.Asked rattle.sum_tape_settled
+sum_tape_settled = settled_too wide wide sum-tape.Learnt rattle.sum_tape_settled (λ κs a. tt) (λ κs a r e x. x)
 
-pub sum-tape-together : Holds-too wide wide sum-tape.Learnt rattle.sum-tape-together
-sum-tape-together = holds-too wide wide sum-tape.Learnt rattle.sum-tape-together (λ κs a r e x. x)
+pub sum_tape_together : Holds-too wide wide sum-tape.Learnt rattle.sum_tape_together
+sum_tape_together = holds_too wide wide sum-tape.Learnt rattle.sum_tape_together (λ κs a r e x. x)
 
-pub take-in-settled : Settled-too wideBehind wideBehind take_in.Learnt take_in.Asked rattle.take-in-settled
-take-in-settled = settled-too wideBehind wideBehind take_in.Learnt rattle.take-in-settled (λ κs a. tt) (λ κs a r e x. x)
+pub take_in_settled : Settled-too wide_behind wide_behind take_in.Learnt take_in.Asked rattle.take_in_settled
+take_in_settled = settled_too wide_behind wide_behind take_in.Learnt rattle.take_in_settled (λ κs a. tt) (λ κs a r e x. x)
 
-pub take-in-next : Holds-too wideBehind wideBehind take_in.Learnt rattle.take-in-next
-take-in-next = holds-too wideBehind wideBehind take_in.Learnt rattle.take-in-next (λ κs a r e x. x)
+pub take_in_next : Holds-too wide_behind wide_behind take_in.Learnt rattle.take_in_next
+take_in_next = holds_too wide_behind wide_behind take_in.Learnt rattle.take_in_next (λ κs a r e x. x)

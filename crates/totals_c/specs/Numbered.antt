@@ -9,5 +9,5 @@ use Rattle.paper.specs.declared.Width.TheVariants.{Six, Eight}
 abbrev pub width_of : ℕ → Width
 width_of n = elim (eqb n 8) [ true ↦ Eight | false ↦ Six ]
 
-abbrev pub formatNumbered : ℕ → Format
-formatNumbered n = format_of (width_of n)
+abbrev pub format_numbered : ℕ → Format
+format_numbered n = format_of (width_of n)

@@ -2,10 +2,10 @@
 // levels, as in `silmezga_c`: 8 is eight levels, and every other number six. `include/totals.h` declares what is exported here. Neither asks anything of its
 // caller beyond slices that are there.
 ghost use Rattle.std.specs.Prelude.{◌≡◌, ◌+ℤ◌};
-ghost use Rattle.totals.specs.Tape.{sumTape, sumOfType};
-ghost use Rattle.totals.specs.Total.{takeIn};
+ghost use Rattle.totals.specs.Tape.{sum_tape, sum_of_type};
+ghost use Rattle.totals.specs.Total.{take_in};
 ghost use Rattle.totals.specs.Told.{tape, summed, taken};
-ghost use Rattle.totals_c.specs.Numbered.{width_of, formatNumbered};
+ghost use Rattle.totals_c.specs.Numbered.{width_of, format_numbered};
 
 use silmezga::Width;
 use totals::{TakenIn, TapeSums, Total};
@@ -23,8 +23,8 @@ fn width_of(number: u32) -> Width
 // Refusals 1 to 8, 16 and 17, or both sums of the entry.
 #[unsafe(no_mangle)]
 pub extern "C" fn totals_sum_tape(width: u32, table: &[u8], shape: &[u8], entry: usize) -> TapeSums
-    ensures result_value { summed result ≡ sumTape (tape (formatNumbered width) table.now shape.now entry) }
-    ensures unshown_value { result.number ≡ 0 → result.shown +ℤ result.unshown ≡ sumOfType (tape (formatNumbered width) table.now shape.now entry) }
+    ensures result_value { summed result ≡ sum_tape (tape (format_numbered width) table.now shape.now entry) }
+    ensures unshown_value { result.number ≡ 0 → result.shown +ℤ result.unshown ≡ sum_of_type (tape (format_numbered width) table.now shape.now entry) }
 {
     totals::sum_tape(width_of(width), table, shape, entry)
 }
@@ -38,7 +38,7 @@ pub extern "C" fn totals_take_in(
     shape: &[u8],
     entry: usize,
 ) -> TakenIn
-    ensures { taken result ≡ takeIn total (tape (formatNumbered width) table.now shape.now entry) }
+    ensures { taken result ≡ take_in total (tape (format_numbered width) table.now shape.now entry) }
 {
     totals::take_in(total, width_of(width), table, shape, entry)
 }

@@ -9,15 +9,15 @@ use borrow.Author.Tests.{ne_eqb}
 use lib.ListN.{length, get_or, take, drop, drop_of_length-le}
 use lib.Seq.{drop-cons}
 use Rattle.grammar.specs.Text.{space}
-use Rattle.grammar.specs.Grammar.{openByte, closeByte, plain, run}
-use Rattle.grammar.proofs.Tokens.{run-plain, run-other}
+use Rattle.grammar.specs.Grammar.{open_byte, close_byte, plain, run}
+use Rattle.grammar.proofs.Tokens.{run-plain, run_other}
 
-pub plain_byte : (b : ℕ) → (b ≡ space → ⊥) → (b ≡ openByte → ⊥) → (b ≡ closeByte → ⊥) → plain b ≡ true
-plain_byte b no-space no-open no-close = λ i. not (ne_eqb b space no-space i) && not (ne_eqb b openByte no-open i || ne_eqb b closeByte no-close i)
+pub plain_byte : (b : ℕ) → (b ≡ space → ⊥) → (b ≡ open_byte → ⊥) → (b ≡ close_byte → ⊥) → plain b ≡ true
+plain_byte b no-space no_open no-close = λ i. not (ne_eqb b space no-space i) && not (ne_eqb b open_byte no_open i || ne_eqb b close_byte no-close i)
 
 -- A byte above the brackets is plain.
-pub plain-above : (b : ℕ) → closeByte < b → plain b ≡ true
-plain-above b above = plain_byte b (λ e. omega (arith, above, e)) (λ e. omega (arith, above, e)) (λ e. omega (arith, above, e))
+pub plain_above : (b : ℕ) → close_byte < b → plain b ≡ true
+plain_above b above = plain_byte b (λ e. omega (arith, above, e)) (λ e. omega (arith, above, e)) (λ e. omega (arith, above, e))
 
 module _ (text : List ℕ) (p : ℕ) where
   pub run_end : length text ≤ p → length (run (drop p text)) ≡ 0
@@ -25,7 +25,7 @@ module _ (text : List ℕ) (p : ℕ) where
 
   module _ (lt : p < length text) where
     pub run-stop : plain (get_or text p 0) ≡ false → length (run (drop p text)) ≡ 0
-    run-stop e = ap (λ bs. length (run bs)) (drop-cons text p 0 lt) ∙ ap length (run-other (get_or text p 0) (drop (suc p) text) e)
+    run-stop e = ap (λ bs. length (run bs)) (drop-cons text p 0 lt) ∙ ap length (run_other (get_or text p 0) (drop (suc p) text) e)
 
     pub run_on : plain (get_or text p 0) ≡ true → length (run (drop p text)) ≡ suc (length (run (drop (p + 1) text)))
     run_on e =

@@ -1,6 +1,6 @@
 // The one type of a table that a name matches. Types are told by their parents and last labels, so a name is compared from its last label upwards.
 ghost use Rattle.std.specs.Prelude.{◌≤◌, ◌<◌, length, take};
-ghost use Rattle.paper.specs.Format.{mostTypes};
+ghost use Rattle.paper.specs.Format.{most_types};
 ghost use Rattle.grammar.specs.Grammar.{Name};
 ghost use Rattle.names.specs.Word.{Holds};
 ghost use Rattle.typed.specs.Matching.{Ends, Sole};
@@ -29,7 +29,7 @@ fn type_matches<'a>(
         if labels[q] != name[j - 1] {
             return false;
         }
-        q = bytes::wide(parents[q]);
+        q = octets::wide(parents[q]);
         j -= 1;
     }
     if whole {
@@ -40,9 +40,9 @@ fn type_matches<'a>(
 
 // The number of the one type that a name matches, 64 where it matches none or several. A name of more than eight labels matches none.
 pub fn match_type<'a>(name: Word, parents: &'a [u8], labels: &'a [u16], count: usize) -> usize
-    requires { (count ≤ length parents.now) × (count ≤ length labels.now) × (count ≤ mostTypes) }
+    requires { (count ≤ length parents.now) × (count ≤ length labels.now) × (count ≤ most_types) }
     ensures sole { (n : Name) → Holds name n → Sole parents.now labels.now count n result }
-    ensures upper_bound { result ≤ mostTypes }
+    ensures upper_bound { result ≤ most_types }
 {
     let size = name.size;
     if 8 < size {

@@ -1,8 +1,8 @@
 // The entries of a shape as records, each from its level and the number of its type.
 ghost use Rattle.std.specs.Prelude.{◌*◌, ◌≤◌, ◌<◌, length};
-ghost use Rattle.paper.specs.Format.{mostTypes, entryBytes};
-ghost use Rattle.bytes.specs.Served.{Served};
-ghost use Rattle.names.specs.Word.{mostKept};
+ghost use Rattle.paper.specs.Format.{most_types, entry_bytes};
+ghost use Rattle.octets.specs.Served.{Served};
+ghost use Rattle.names.specs.Word.{most_kept};
 ghost use Rattle.typed.specs.Entries.{Sized, EntryIs, EachKnown, EntriesPut};
 
 use paper::Format;
@@ -10,7 +10,7 @@ use paper::Format;
 // How many labels a listed type has: one for each step up to a root.
 fn type_size(parents: &[u8], count: usize, k: usize) -> usize
     requires { (count ≤ length parents.now) × (k < count) }
-    ensures { (result ≤ mostKept) × Sized parents.now count k result }
+    ensures { (result ≤ most_kept) × Sized parents.now count k result }
 {
     let mut q = k;
     let mut n = 0;
@@ -18,7 +18,7 @@ fn type_size(parents: &[u8], count: usize, k: usize) -> usize
         if count <= q {
             return n;
         }
-        q = bytes::wide(parents[q]);
+        q = octets::wide(parents[q]);
         n += 1;
     }
     n
@@ -47,8 +47,8 @@ fn entry_record<'a>(
             return r;
         }
         j -= 1;
-        bytes::put_word(&mut r, 4 + 2 * j, labels[q]);
-        q = bytes::wide(parents[q]);
+        octets::put_word(&mut r, 4 + 2 * j, labels[q]);
+        q = octets::wide(parents[q]);
     }
     r
 }
@@ -64,24 +64,24 @@ pub fn put_entries<'a>(
     count: usize,
     new: &mut [u8],
 )
-    requires served { Served f × (entries ≤ length levels.now) × (entries ≤ length types.now) × (entryBytes f * entries ≤ length new.old) }
-    requires count_in_bounds { (count ≤ length parents.now) × (count ≤ length labels.now) × (count ≤ mostTypes) }
+    requires served { Served f × (entries ≤ length levels.now) × (entries ≤ length types.now) × (entry_bytes f * entries ≤ length new.old) }
+    requires count_in_bounds { (count ≤ length parents.now) × (count ≤ length labels.now) × (count ≤ most_types) }
     requires each_known { EachKnown f levels.now types.now entries count }
     ensures { EntriesPut f levels.now types.now entries parents.now labels.now count
         new.old new.new }
 {
-    let w = bytes::entry_bytes(f);
+    let w = octets::entry_bytes(f);
     let mut e = 0;
     while e < entries {
         let r = entry_record(
             f,
             levels[e] as u8,
-            bytes::wide16(types[e]),
+            octets::wide16(types[e]),
             parents,
             labels,
             count,
         );
-        bytes::put(new, w * e, &r[0..w]);
+        octets::put(new, w * e, &r[0..w]);
         e += 1;
     }
 }

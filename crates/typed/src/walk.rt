@@ -1,10 +1,10 @@
 // A text, read once from its first byte to its last.
 ghost use Rattle.std.specs.Prelude.{◌≡◌, true, false, ◌+◌, ◌≤◌, length, drop};
-ghost use Rattle.bytes.specs.Served.{Served};
+ghost use Rattle.octets.specs.Served.{Served};
 ghost use Rattle.grammar.specs.Grammar.{run};
-ghost use Rattle.grammar.specs.Typed.{mostText};
-ghost use Rattle.grammar.specs.Reader.{mayEnd};
-ghost use Rattle.typed.specs.Walk.{stageOf, mayStand, Lists, Kept, WrongAt, Walks};
+ghost use Rattle.grammar.specs.Typed.{most_text};
+ghost use Rattle.grammar.specs.Reader.{may_end};
+ghost use Rattle.typed.specs.Walk.{stage_of, may_stand, Lists, Kept, WrongAt, Walks};
 
 use crate::matching::match_type;
 use names::word::read_word;
@@ -36,7 +36,7 @@ fn no_entry(right: bool, place: usize) -> Walked
 // May the token that begins with this byte stand next? What stands just before is told by a number: 0 nothing, 1 a name, 2 an opening bracket,
 // 3 a closing one.
 fn may_stand(b: u8, stage: usize, depth: usize) -> bool
-    ensures { result ≡ mayStand b (stageOf stage) depth }
+    ensures { result ≡ may_stand b (stage_of stage) depth }
 {
     if b == b'[' {
         return stage == 1;
@@ -52,7 +52,7 @@ fn may_stand(b: u8, stage: usize, depth: usize) -> bool
 
 // What was walked, if the text may end there.
 fn ended(w: Walked, stage: usize, depth: usize, place: usize) -> Walked
-    ensures { (mayEnd (stageOf stage) depth ≡ true → result ≡ w) × (mayEnd (stageOf stage) depth ≡ false → WrongAt result place) }
+    ensures { (may_end (stage_of stage) depth ≡ true → result ≡ w) × (may_end (stage_of stage) depth ≡ false → WrongAt result place) }
 {
     if stage == 0 {
         return no_entry(false, place);
@@ -101,7 +101,7 @@ fn keep_word<'a>(
     labels: &'a [u16],
     count: usize,
 ) -> Walked
-    requires { Served f × (length word.now ≤ mostText) × (depth ≤ mostText) × (w.entries ≤ mostText) × Lists parents.now labels.now count }
+    requires { Served f × (length word.now ≤ most_text) × (depth ≤ most_text) × (w.entries ≤ most_text) × Lists parents.now labels.now count }
     ensures { Kept f word.now depth parents.now labels.now count w result }
 {
     let name = read_word(word, f);
@@ -132,7 +132,7 @@ pub fn walk_text<'a>(
     labels: &'a [u16],
     count: usize,
 ) -> Walked
-    requires { Served f × (length text.now ≤ mostText) × Lists parents.now labels.now count }
+    requires { Served f × (length text.now ≤ most_text) × Lists parents.now labels.now count }
     ensures { Walks f text.now parents.now labels.now count result }
 {
     let mut w = no_entry(true, 0);

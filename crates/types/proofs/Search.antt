@@ -15,5 +15,5 @@ pub missed_more : (parents labels : List ℕ) (p a k : ℕ) → Missed parents l
 missed_more parents labels p a k m here j lt =
     ⊎_elim (λ l. m j l) (λ e x y. here (subst (λ n. get_or parents n 0 ≡ p) e x) (subst (λ n. get_or labels n 0 ≡ a) e y)) (below j k lt)
 
-pub missed-all : (parents labels : List ℕ) (p a k n : ℕ) → n ≤ k → Missed parents labels p a k → Missed parents labels p a n
-missed-all parents labels p a k n le m j lt = m j (omega arith)
+pub missed_all : (parents labels : List ℕ) (p a k n : ℕ) → n ≤ k → Missed parents labels p a k → Missed parents labels p a n
+missed_all parents labels p a k n le m j lt = m j (omega arith)

@@ -6,24 +6,24 @@ use mathlib.Core.List.{List, [], ◌∷◌, map}
 use lib.ListN.{length, take, length-append}
 use lib.Seq.{take-length}
 use Rattle.paper.specs.Lists.{Has, ways}
-use Rattle.paper.specs.Tables.{Row, rowTypes, types}
+use Rattle.paper.specs.Tables.{Row, row_types, types}
 use Rattle.paper.proofs.Tables.{step, has-distinct, distinct-has}
 use Rattle.types.specs.Types.{Lists, Told}
 use Rattle.types.specs.declared.list.Types.{Types}
-use Rattle.types.proofs.Ways.{closed, way-whole}
-use Rattle.types.proofs.Few.{few-from}
+use Rattle.types.proofs.Ways.{closed, way_whole}
+use Rattle.types.proofs.Few.{few_from}
 
 -- no type is empty
-whole-type : (rs : List Row) (v : List ℕ) → Has v (types rs) → 0 < length v
-unfolding types rowTypes
-whole-type rs v h =
-    let (u, c, e) = way-whole [] (map step rs) v (distinct-has v (ways [] (map step rs)) h) in
+whole_type : (rs : List Row) (v : List ℕ) → Has v (types rs) → 0 < length v
+unfolding types row_types
+whole_type rs v h =
+    let (u, c, e) = way_whole [] (map step rs) v (distinct-has v (ways [] (map step rs)) h) in
     omega (arith, ap length e, length-append u (c ∷ []))
 
 -- what stands above a type is a type
-type-above : (rs : List Row) (v : List ℕ) → Has v (types rs) → (k : ℕ) → 0 < k → k ≤ length v → Has (take k v) (types rs)
-unfolding types rowTypes
-type-above rs v h k pos le =
+type_above : (rs : List Row) (v : List ℕ) → Has v (types rs) → (k : ℕ) → 0 < k → k ≤ length v → Has (take k v) (types rs)
+unfolding types row_types
+type_above rs v h k pos le =
     let ws = ways [] (map step rs) in
     let all : take (length ws) ws ≡ ws = take-length ws in
     has-distinct (take k v) ws
@@ -33,9 +33,9 @@ type-above rs v h k pos le =
 pub told : (rs : List Row) (ks : List ℕ) (ty : Types) → Lists rs ks ty → length rs ≤ ty.over → Told (types rs) ty.parents ty.labels ty.count
 told rs ks ty l le = record {
   count-is = l.count le;
-  few = omega (arith, l.count le, few-from rs ty.over (length rs) l.over le);
+  few = omega (arith, l.count le, few_from rs ty.over (length rs) l.over le);
   parent = l.parent le;
   label = l.label le;
-  whole = whole-type rs;
-  above = type-above rs;
+  whole = whole_type rs;
+  above = type_above rs;
 }

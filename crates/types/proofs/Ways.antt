@@ -8,9 +8,9 @@ use mathlib.Core.Bool.{Bool, true, false, ◌||◌, not}
 use mathlib.Core.List.{List, [], ◌∷◌, ◌++◌, map, append-nil}
 use lib.ListN.{length, get_or, take, length-take}
 use Rattle.paper.specs.Lists.{Has, keep, any, same, distinct, ways}
-use Rattle.paper.proofs.Lists.{same-eq, same_self, eq-same, has-any, any-has}
+use Rattle.paper.proofs.Lists.{same_eq, same_self, eq_same, has_any, any_has}
 use Rattle.paper.proofs.Forest.{above}
-use Rattle.paper.proofs.Shapes.{ways-kin, self}
+use Rattle.paper.proofs.Shapes.{ways_kin, self}
 use Rattle.paper.proofs.Papers.{same_test}
 
 -- ---- the way of element i
@@ -19,12 +19,12 @@ abbrev pub before : List (List ℕ) → ℕ → List ℕ
 before ws zero = []
 before ws (suc i) = get_or ws i []
 
-abbrev pub beforeOr : List ℕ → List (List ℕ) → ℕ → List ℕ
-beforeOr w ws zero = w
-beforeOr w ws (suc i) = get_or ws i []
+abbrev pub before_or : List ℕ → List (List ℕ) → ℕ → List ℕ
+before_or w ws zero = w
+before_or w ws (suc i) = get_or ws i []
 
 ways-from : (w : List ℕ) (xs : List (ℕ × ℕ)) (i : ℕ) → i < length xs
-    → get_or (ways w xs) i [] ≡ take (pred (get_or (map (λ (x : ℕ × ℕ). x.0) xs) i 0)) (beforeOr w (ways w xs) i) ++ (get_or (map (λ (x : ℕ × ℕ). x.1) xs) i 0 ∷ [])
+    → get_or (ways w xs) i [] ≡ take (pred (get_or (map (λ (x : ℕ × ℕ). x.0) xs) i 0)) (before_or w (ways w xs) i) ++ (get_or (map (λ (x : ℕ × ℕ). x.1) xs) i 0 ∷ [])
 ways-from w [] i lt = absurd (not-suc-le-zero lt)
 ways-from w (x ∷ xs) zero lt = refl
 ways-from w (x ∷ xs) (suc zero) lt = ways-from (take (pred x.0) w ++ (x.1 ∷ [])) xs zero (le_of_suc-le-suc lt)
@@ -47,13 +47,13 @@ closed xs n u h k pos le =
     let e = take-ways n [] xs in
     ⊎_elim (λ a. subst₂ (λ x l. Has x l) a.2 (sym e) a.1)
     (λ z. let b : ⊥ = omega (arith, ap length z.0, length-take k u, length-take {A = ℕ} k []) in absurd b)
-    (above self self [] [] u (ways [] (take n xs)) k (ways-kin [] (take n xs)) (subst (λ l. Has u l) e h))
+    (above self self [] [] u (ways [] (take n xs)) k (ways_kin [] (take n xs)) (subst (λ l. Has u l) e h))
 
 -- no way is empty
-pub way-whole : (w : List ℕ) (xs : List (ℕ × ℕ)) (u : List ℕ) → Has u (ways w xs) → (v : List ℕ) × (c : ℕ) × (u ≡ v ++ (c ∷ []))
-way-whole w [] u h = absurd h
-way-whole w (x ∷ xs) u (inl e) = (take (pred x.0) w, x.1, e)
-way-whole w (x ∷ xs) u (inr h) = way-whole (take (pred x.0) w ++ (x.1 ∷ [])) xs u h
+pub way_whole : (w : List ℕ) (xs : List (ℕ × ℕ)) (u : List ℕ) → Has u (ways w xs) → (v : List ℕ) × (c : ℕ) × (u ≡ v ++ (c ∷ []))
+way_whole w [] u h = absurd h
+way_whole w (x ∷ xs) u (inl e) = (take (pred x.0) w, x.1, e)
+way_whole w (x ∷ xs) u (inr h) = way_whole (take (pred x.0) w ++ (x.1 ∷ [])) xs u h
 
 -- ---- one more list among the distinct
 keep_append : (p : List ℕ → Bool) (xs ys : List (List ℕ)) → keep p (xs ++ ys) ≡ keep p xs ++ keep p ys
@@ -67,15 +67,15 @@ keep_append p (x ∷ xs) ys = go (p x) refl (keep_append p xs ys)
     go false e ih = ih
 
 -- the distinct of a longer list begin with those of the shorter
-pub distinct-prefix : (xs ys : List (List ℕ)) → (zs : List (List ℕ)) × (distinct (xs ++ ys) ≡ distinct xs ++ zs)
-distinct-prefix [] ys = (distinct ys, refl)
-distinct-prefix (x ∷ xs) ys =
-    let (zs, e) = distinct-prefix xs ys in
+pub distinct_prefix : (xs ys : List (List ℕ)) → (zs : List (List ℕ)) × (distinct (xs ++ ys) ≡ distinct xs ++ zs)
+distinct_prefix [] ys = (distinct ys, refl)
+distinct_prefix (x ∷ xs) ys =
+    let (zs, e) = distinct_prefix xs ys in
     let p : List ℕ → Bool = λ y. not (same x y) in
     (keep p zs, ap {B = List (List ℕ)} (λ l. x ∷ l) (ap (keep p) e ∙ keep_append p (distinct xs) zs))
 
 same-sym : (x y : List ℕ) → same x y ≡ same y x
-same-sym x y = same_test (same x y) (same y x) (λ e. eq-same (sym (same-eq x y e))) (λ e. eq-same (sym (same-eq y x e)))
+same-sym x y = same_test (same x y) (same y x) (λ e. eq_same (sym (same_eq x y e))) (λ e. eq_same (sym (same_eq y x e)))
 
 -- a list of v, unless it is known
 abbrev unless : Bool → List ℕ → List (List ℕ)
@@ -86,8 +86,8 @@ unless false v = v ∷ []
 abbrev extra : List (List ℕ) → List ℕ → List (List ℕ)
 extra xs v = unless (any (same v) xs) v
 
-extra-step : (x : List ℕ) (xs : List (List ℕ)) (v : List ℕ) → keep (λ y. not (same x y)) (extra xs v) ≡ extra (x ∷ xs) v
-extra-step x xs v = go (any (same v) xs) (same x v) refl
+extra_step : (x : List ℕ) (xs : List (List ℕ)) (v : List ℕ) → keep (λ y. not (same x y)) (extra xs v) ≡ extra (x ∷ xs) v
+extra_step x xs v = go (any (same v) xs) (same x v) refl
   where
     one : (c : Bool) → same x v ≡ c → keep (λ y. not (same x y)) (v ∷ []) ≡ unless c v
     one true e = rw (e, keep) refl
@@ -109,17 +109,17 @@ distinct_snoc : (xs : List (List ℕ)) (v : List ℕ) → distinct (xs ++ (v ∷
 distinct_snoc [] v = refl
 distinct_snoc (x ∷ xs) v =
     let p : List ℕ → Bool = λ y. not (same x y) in
-    ap {B = List (List ℕ)} (λ l. x ∷ l) (ap (keep p) (distinct_snoc xs v) ∙ keep_append p (distinct xs) (extra xs v) ∙ ap (λ l. keep p (distinct xs) ++ l) (extra-step x xs v))
+    ap {B = List (List ℕ)} (λ l. x ∷ l) (ap (keep p) (distinct_snoc xs v) ∙ keep_append p (distinct xs) (extra xs v) ∙ ap (λ l. keep p (distinct xs) ++ l) (extra_step x xs v))
 
-pub distinct-known : (xs : List (List ℕ)) (v : List ℕ) → Has v xs → distinct (xs ++ (v ∷ [])) ≡ distinct xs
-distinct-known xs v h =
-    distinct_snoc xs v ∙ ap (λ b. distinct xs ++ unless b v) (has-any (same v) v xs h (same_self v))
+pub distinct_known : (xs : List (List ℕ)) (v : List ℕ) → Has v xs → distinct (xs ++ (v ∷ [])) ≡ distinct xs
+distinct_known xs v h =
+    distinct_snoc xs v ∙ ap (λ b. distinct xs ++ unless b v) (has_any (same v) v xs h (same_self v))
     ∙ append-nil (distinct xs)
 
-pub distinct-new : (xs : List (List ℕ)) (v : List ℕ) → (Has v xs → ⊥) → distinct (xs ++ (v ∷ [])) ≡ distinct xs ++ (v ∷ [])
-distinct-new xs v out =
+pub distinct_new : (xs : List (List ℕ)) (v : List ℕ) → (Has v xs → ⊥) → distinct (xs ++ (v ∷ [])) ≡ distinct xs ++ (v ∷ [])
+distinct_new xs v out =
     distinct_snoc xs v ∙ ap (λ b. distinct xs ++ unless b v) (none (any (same v) xs) refl)
   where
     none : (b : Bool) → any (same v) xs ≡ b → any (same v) xs ≡ false
-    none true e = let (x, h, q) = any-has (same v) xs e in absurd (out (subst (λ z. Has z xs) (sym (same-eq v x q)) h))
+    none true e = let (x, h, q) = any_has (same v) xs e in absurd (out (subst (λ z. Has z xs) (sym (same_eq v x q)) h))
     none false e = e

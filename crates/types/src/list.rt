@@ -1,9 +1,9 @@
 // The type list of a sound table, in one pass.
 ghost use Rattle.std.specs.Prelude.{◌≡◌, ◌+◌, ◌*◌, ◌≤◌, ◌<◌, length};
 ghost use Rattle.std.proofs.Math.Option.{none};
-ghost use Rattle.paper.specs.Format.{mostRows, rowBytes, whole};
+ghost use Rattle.paper.specs.Format.{most_rows, row_bytes, whole};
 ghost use Rattle.paper.specs.Tables as Tables;
-ghost use Rattle.paper.specs.Tables.{badRow};
+ghost use Rattle.paper.specs.Tables.{bad_row};
 ghost use Rattle.types.specs.Types.{Lists, Found, FoundNear};
 
 use paper::Format;
@@ -71,8 +71,8 @@ fn find_near(
 // without a pattern this guess is mostly wrong, and a search is dear: the second guess is the last type that is listed at the place of the
 // row's parent and label in `near`.
 pub fn list_types(table: &[u8], f: Format, rows: usize, types: &mut [u8]) -> Types
-    requires rows_value { (rows ≡ whole (rowBytes f) table.now) × (rows ≤ mostRows) × (f.levels ≤ 8) }
-    requires table_value { (badRow f (Tables.rows f table.now) ≡ none) × (length types.old ≡ mostRows) }
+    requires rows_value { (rows ≡ whole (row_bytes f) table.now) × (rows ≤ most_rows) × (f.levels ≤ 8) }
+    requires table_value { (bad_row f (Tables.rows f table.now) ≡ none) × (length types.old ≡ most_rows) }
     ensures { Lists (Tables.rows f table.now) types.new result }
 {
     let mut parents = [0u8; 64];
@@ -85,13 +85,13 @@ pub fn list_types(table: &[u8], f: Format, rows: usize, types: &mut [u8]) -> Typ
     let mut count = 0;
     let mut i = 0;
     while i < rows {
-        let row = bytes::record(table, bytes::row_bytes(f), i);
-        let l = bytes::wide(row[0]);
-        let a = bytes::word(row, 2) as u16;
+        let row = octets::record(table, octets::row_bytes(f), i);
+        let l = octets::wide(row[0]);
+        let a = octets::word(row, 2) as u16;
         let p = stack[l - 1];
-        let at = (8 * bytes::wide(p) + bytes::wide16(a)) % 512;
-        let guess = bytes::wide(after[last]);
-        let other = bytes::wide(near[at]);
+        let at = (8 * octets::wide(p) + octets::wide16(a)) % 512;
+        let guess = octets::wide(after[last]);
+        let other = octets::wide(near[at]);
         let k = find_near(&parents, &labels, count, p, a, guess, other);
         if k < count {
             types[i] = k as u8;

@@ -7,8 +7,8 @@ use Rattle.paper.specs.Widths as Widths
 use Rattle.widths.specs.Answers.{Moves}
 use Rattle.widths.specs.declared.moves.Moved.{Moved}
 
-pub moves-unique : (m : Widths.Moved) (r s : Moved) (new₁ new₂ : List ℕ) → Moves m r new₁ → Moves m s new₂ → (r ≡ s) × (new₁ ≡ new₂)
-moves-unique m r s new₁ new₂ a b = (
+pub moves_unique : (m : Widths.Moved) (r s : Moved) (new₁ new₂ : List ℕ) → Moves m r new₁ → Moves m s new₂ → (r ≡ s) × (new₁ ≡ new₂)
+moves_unique m r s new₁ new₂ a b = (
   ap {B = Moved} (λ (x : Reply ℕ). record { number = x.number; place = x.place; count = x.rest }) (a.0 ∙ sym b.0),
   a.1 ∙ sym b.1,
 )

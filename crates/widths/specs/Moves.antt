@@ -8,9 +8,9 @@ abbrev pub fitted : ℕ → ℕ → List ℕ → List ℕ
 fitted from to r = padded to (take from r) ++ drop from r
 
 -- its bytes, where it has w
-abbrev pub movedBytes : ℕ → ℕ → ℕ → ℕ
-movedBytes w from to = to + (w - from)
+abbrev pub moved_bytes : ℕ → ℕ → ℕ → ℕ
+moved_bytes w from to = to + (w - from)
 
 -- The first byte, or the second, is more than the levels.
-abbrev pub recordDeep : ℕ → List ℕ → Bool
-recordDeep levels r = ltb levels (byte r 0) || ltb levels (byte r 1)
+abbrev pub record_deep : ℕ → List ℕ → Bool
+record_deep levels r = ltb levels (byte r 0) || ltb levels (byte r 1)

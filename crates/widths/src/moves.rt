@@ -1,10 +1,10 @@
 // A table and a shape of one format as those of another: the tests of the file, 24, 29, then the bytes.
 ghost use Rattle.std.specs.Prelude.{◌≡◌, ◌≤◌};
-ghost use Rattle.paper.specs.Format.{mostRows, rowBytes, entryBytes, whole};
-ghost use Rattle.paper.specs.Widths.{format_of, moveTable, moveShape};
-ghost use Rattle.bytes.specs.Served.{Served};
+ghost use Rattle.paper.specs.Format.{most_rows, row_bytes, entry_bytes, whole};
+ghost use Rattle.paper.specs.Widths.{format_of, move_table, move_shape};
+ghost use Rattle.octets.specs.Served.{Served};
 ghost use Rattle.widths.specs.Answers.{Moves};
-ghost use Rattle.widths.specs.Tested.{moveTested};
+ghost use Rattle.widths.specs.Tested.{move_tested};
 
 use crate::records::{first_deep, move_records, moved_bytes};
 use paper::{Format, Width};
@@ -22,9 +22,9 @@ pub struct Moved {
 
 // Records of w bytes that pass the tests of their file. The length is tested before the first byte is written.
 fn move_tested(b: &[u8], f: Format, g: Format, w: usize, count: usize, new: &mut [u8]) -> Moved
-    requires served { Served f × Served g × (entryBytes f ≤ w) × (w ≤ rowBytes f) }
-    requires count_value { (count ≡ whole w b.now) × (count ≤ mostRows) }
-    ensures { Moves (moveTested f g w count b.now new.old) result new.new }
+    requires served { Served f × Served g × (entry_bytes f ≤ w) × (w ≤ row_bytes f) }
+    requires count_value { (count ≡ whole w b.now) × (count ≤ most_rows) }
+    ensures { Moves (move_tested f g w count b.now new.old) result new.new }
 {
     let deep = first_deep(b, w, count, g.levels);
     if deep < count {
@@ -34,8 +34,8 @@ fn move_tested(b: &[u8], f: Format, g: Format, w: usize, count: usize, new: &mut
             count: 0,
         };
     }
-    let from = bytes::entry_bytes(f);
-    let to = bytes::entry_bytes(g);
+    let from = octets::entry_bytes(f);
+    let to = octets::entry_bytes(g);
     if new.len() < moved_bytes(w, from, to) * count {
         return Moved {
             number: 29,
@@ -54,7 +54,7 @@ fn move_tested(b: &[u8], f: Format, g: Format, w: usize, count: usize, new: &mut
 // A table, after refusals 1 to 3.
 pub fn move_table(table: &[u8], f: Format, g: Format, new: &mut [u8]) -> Moved
     requires { Served f × Served g }
-    ensures { Moves (moveTable f g table.now new.old) result new.new }
+    ensures { Moves (move_table f g table.now new.old) result new.new }
 {
     let examined = examine(table, f);
     let number = examined.number;
@@ -67,13 +67,13 @@ pub fn move_table(table: &[u8], f: Format, g: Format, new: &mut [u8]) -> Moved
             count: 0,
         };
     }
-    move_tested(table, f, g, bytes::row_bytes(f), rows, new)
+    move_tested(table, f, g, octets::row_bytes(f), rows, new)
 }
 
 // A shape, after refusals 5 and 6.
 pub fn move_shape(shape: &[u8], f: Format, g: Format, new: &mut [u8]) -> Moved
     requires { Served f × Served g }
-    ensures { Moves (moveShape f g shape.now new.old) result new.new }
+    ensures { Moves (move_shape f g shape.now new.old) result new.new }
 {
     let examined = examine_shape(shape, f);
     let number = examined.number;
@@ -86,19 +86,19 @@ pub fn move_shape(shape: &[u8], f: Format, g: Format, new: &mut [u8]) -> Moved
             count: 0,
         };
     }
-    move_tested(shape, f, g, bytes::entry_bytes(f), entries, new)
+    move_tested(shape, f, g, octets::entry_bytes(f), entries, new)
 }
 
 // A table of one width as one of another.
 pub fn table_between(table: &[u8], from: Width, to: Width, new: &mut [u8]) -> Moved
-    ensures { Moves (moveTable (format_of from) (format_of to) table.now new.old) result new.new }
+    ensures { Moves (move_table (format_of from) (format_of to) table.now new.old) result new.new }
 {
     move_table(table, paper::format_of(from), paper::format_of(to), new)
 }
 
 // A shape of one width as one of another.
 pub fn shape_between(shape: &[u8], from: Width, to: Width, new: &mut [u8]) -> Moved
-    ensures { Moves (moveShape (format_of from) (format_of to) shape.now new.old) result new.new }
+    ensures { Moves (move_shape (format_of from) (format_of to) shape.now new.old) result new.new }
 {
     move_shape(shape, paper::format_of(from), paper::format_of(to), new)
 }

@@ -2,10 +2,10 @@
 // it stays.
 ghost use Rattle.std.specs.Prelude.{◌≡◌, ◌+◌, ◌*◌, ◌-◌, ◌≤◌, length, get_or, take};
 ghost use Rattle.std.proofs.lemmas.List.Edits.{sets};
-ghost use Rattle.paper.specs.Lists.{place, joinMap, padded};
+ghost use Rattle.paper.specs.Lists.{place, join_map, padded};
 ghost use Rattle.paper.specs.Format.{records, whole};
-ghost use Rattle.bytes.specs.Served.{mostBytes};
-ghost use Rattle.widths.specs.Moves.{fitted, movedBytes, recordDeep};
+ghost use Rattle.octets.specs.Served.{most_bytes};
+ghost use Rattle.widths.specs.Moves.{fitted, moved_bytes, record_deep};
 
 // Byte k of the first `from` bytes of a record, zero past them.
 fn byte_of(r: &[u8], from: usize, k: usize) -> u8
@@ -36,27 +36,27 @@ fn move_record(r: &[u8], from: usize, to: usize, new: &mut [u8], at: usize)
     ensures { new.new ≡ sets new.old at (fitted from to r.now) }
 {
     put_list(r, from, to, new, at);
-    bytes::put(new, at + to, &r[from..r.len()]);
+    octets::put(new, at + to, &r[from..r.len()]);
 }
 
 // The bytes that a record of w bytes has once it is moved.
 pub fn moved_bytes(w: usize, from: usize, to: usize) -> usize
-    requires { (from ≤ w) × (w ≤ mostBytes) × (to ≤ mostBytes) }
-    ensures { result ≡ movedBytes w from to }
+    requires { (from ≤ w) × (w ≤ most_bytes) × (to ≤ most_bytes) }
+    ensures { result ≡ moved_bytes w from to }
 {
     to + (w - from)
 }
 
 // The records of w bytes, one after the other, at the front of new.
 pub fn move_records(b: &[u8], w: usize, count: usize, from: usize, to: usize, new: &mut [u8])
-    requires from_le_w { (from ≤ w) × (w ≤ mostBytes) × (to ≤ mostBytes) }
-    requires count_value { (count ≡ whole w b.now) × (movedBytes w from to * count ≤ length new.old) }
-    ensures { new.new ≡ sets new.old 0 (joinMap (fitted from to) (records w count b.now)) }
+    requires from_le_w { (from ≤ w) × (w ≤ most_bytes) × (to ≤ most_bytes) }
+    requires count_value { (count ≡ whole w b.now) × (moved_bytes w from to * count ≤ length new.old) }
+    ensures { new.new ≡ sets new.old 0 (join_map (fitted from to) (records w count b.now)) }
 {
     let each = moved_bytes(w, from, to);
     let mut i = 0;
     while i < count {
-        move_record(bytes::record(b, w, i), from, to, new, each * i);
+        move_record(octets::record(b, w, i), from, to, new, each * i);
         i += 1;
     }
 }
@@ -64,22 +64,22 @@ pub fn move_records(b: &[u8], w: usize, count: usize, from: usize, to: usize, ne
 // Is a record too deep for so many levels? Its first two bytes are an entry's level and the length of its type; in a row the second is zero.
 fn is_deep(r: &[u8], levels: usize) -> bool
     requires { 2 ≤ length r.now }
-    ensures { result ≡ recordDeep levels r.now }
+    ensures { result ≡ record_deep levels r.now }
 {
-    if levels < bytes::wide(r[0]) {
+    if levels < octets::wide(r[0]) {
         return true;
     }
-    levels < bytes::wide(r[1])
+    levels < octets::wide(r[1])
 }
 
 // The first record of w bytes that is too deep, count for none.
 pub fn first_deep(b: &[u8], w: usize, count: usize, levels: usize) -> usize
     requires { (2 ≤ w) × (count ≡ whole w b.now) }
-    ensures { result ≡ place (recordDeep levels) (records w count b.now) }
+    ensures { result ≡ place (record_deep levels) (records w count b.now) }
 {
     let mut i = 0;
     while i < count {
-        if is_deep(bytes::record(b, w, i), levels) {
+        if is_deep(octets::record(b, w, i), levels) {
             return i;
         }
         i += 1;

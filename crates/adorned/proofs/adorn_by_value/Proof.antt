@@ -3,7 +3,7 @@ use native.Mathlib.Omega.{arith}
 use mathlib.Core.Path.{refl, sym, ◌∙◌}
 use Rattle.paper.specs.Tables as Tables
 use Rattle.adorned.proofs.All.{adorned-length}
-use Rattle.adorned.proofs.Calls.{says-refused, says-short, says-given}
+use Rattle.adorned.proofs.Calls.{says-refused, says_short, says-given}
 use borrow.Author.Rules.{rules}
 use Rattle.adorned.proofs.adorn_by_value.Statement.{statement}
 use Rattle.adorned.proofs.adorn_by_value.Tie as tie
@@ -26,7 +26,7 @@ returns-2 c =
     let s : tie.Start = search in
     let a = s.args in
     let read = x.read-rows.ensures.read u.if1.left in
-    says-short a.f a.table.now a.lent c.refused2.result read.given_is (omega (arith, v.if2.taken, read.told.count-is))
+    says_short a.f a.table.now a.lent c.refused2.result read.given_is (omega (arith, v.if2.taken, read.told.count-is))
     c.refused2.ensures
 
 summaries-of-requires : tie.Need-summaries-of-requires
@@ -50,7 +50,7 @@ returns-3 c =
       number_is = refl;
       place_is = refl;
       count-is = count ∙ sym (adorned-length (Tables.rows a.f a.table.now));
-      summaries-are = c.summaries-of.ensures a.f a.table.now read;
+      summaries_are = c.summaries-of.ensures a.f a.table.now read;
     }
 
 pub adorn-by-value-spec : {M : Type 1} → statement M

@@ -5,7 +5,7 @@ use mathlib.Core.List.{List}
 use mathlib.Core.Path.{◌≡◌, sym, ◌∙◌, subst}
 use lib.ListN.{length, get_or, take, length-take}
 use lib.Seq.{get_or-take}
-use Rattle.adorned.proofs.Walks.{Walk, walk_start, walk-close, walk-open, walk-child, walk-other, walk-last, walk_none}
+use Rattle.adorned.proofs.Walks.{Walk, walk_start, walk_close, walk_open, walk_child, walk_other, walk_last, walk_none}
 use native.Mathlib.Omega.{arith}
 use borrow.Author.Rules.{rules}
 use Rattle.adorned.proofs.children_range.Statement.{statement}
@@ -33,8 +33,8 @@ here x =
     let s = begun (turn x) in
     omega (arith, length-take s.args.rows s.args.types.now, s.pre, x.before.before.loop-test.true)
 
-type-is : (x : tie.After-wide invariant-loop decreases-loop) → x.wide.result ≡ get_or (types_of (turn x)) (turn x).loop.i 0
-type-is x =
+type_is : (x : tie.After-wide invariant-loop decreases-loop) → x.wide.result ≡ get_or (types_of (turn x)) (turn x).loop.i 0
+type_is x =
     let l = turn x in
     let a = (begun l).args in
     x.wide.ensures.0 ∙ sym (get_or-take a.rows a.types.now l.loop.i 0 x.before.before.loop-test.true)
@@ -72,7 +72,7 @@ loop-again c =
     let seen : v.seen ≡ true = cc in (
       omega arith,
       subst (λ b. Walk (types_of l) a.p a.k r.result.least r.result.greatest b (v.counts + 1) 0 (v.i + 1)) (sym seen)
-          (walk-close (types_of l) a.p a.k v.r.least v.r.greatest v.counts v.c v.i x.wide.result (here x) (type-is x)
+          (walk_close (types_of l) a.p a.k v.r.least v.r.greatest v.counts v.c v.i x.wide.result (here x) (type_is x)
           (walk l true seen) c.before.before.if1.true r.result.least r.result.greatest r.ensures.0 r.ensures.1),
     )
 
@@ -83,7 +83,7 @@ loop-again-2 c =
     let a = (begun l).args in
     let v = l.loop in (
       omega arith,
-      walk-open (types_of l) a.p a.k v.r.least v.r.greatest v.counts v.c v.i x.wide.result (here x) (type-is x)
+      walk_open (types_of l) a.p a.k v.r.least v.r.greatest v.counts v.c v.i x.wide.result (here x) (type_is x)
           (walk l false c.if2.false) c.before.if1.true,
     )
 
@@ -99,7 +99,7 @@ loop-again-3 c =
     let a = (begun l).args in
     let v = l.loop in (
       omega arith,
-      walk-child (types_of l) a.p a.k v.r.least v.r.greatest v.counts v.c v.i x.wide.result (here x) (type-is x)
+      walk_child (types_of l) a.p a.k v.r.least v.r.greatest v.counts v.c v.i x.wide.result (here x) (type_is x)
           c.before.if1.false v.seen v.inv.1 c.if3.true,
     )
 
@@ -110,7 +110,7 @@ loop-again-4 c =
     let a = (begun l).args in
     let v = l.loop in (
       omega arith,
-      walk-other (types_of l) a.p a.k v.r.least v.r.greatest v.counts v.c v.i x.wide.result (here x) (type-is x)
+      walk_other (types_of l) a.p a.k v.r.least v.r.greatest v.counts v.c v.i x.wide.result (here x) (type_is x)
           c.before.if1.false v.seen v.inv.1 c.if3.false,
     )
 
@@ -121,7 +121,7 @@ returns c =
     let a = (begun l).args in
     let v = l.loop in
     let r = c.with-count2.ensures in
-    let w = walk-last (types_of l) a.p a.k v.r.least v.r.greatest v.counts v.c v.i (walk l true c.before.if4.true) (past e) in
+    let w = walk_last (types_of l) a.p a.k v.r.least v.r.greatest v.counts v.c v.i (walk l true c.before.if4.true) (past e) in
     (r.0 ∙ w.0, r.1 ∙ w.1)
 
 returns-2 : tie.Need-returns-2 invariant-loop decreases-loop

@@ -4,20 +4,20 @@ use native.Mathlib.Omega.{arith}
 use mathlib.Core.Path.{◌≡◌, refl, ◌∙◌}
 use mathlib.Core.List.{List}
 use lib.ListN.{length, take, replicate, length-set}
-use Rattle.paper.specs.Format.{Format, mostTypes}
+use Rattle.paper.specs.Format.{Format, most_types}
 use Rattle.paper.specs.Tables as Tables
 use Rattle.paper.specs.Adorned.{adorned}
 use Rattle.closest.specs.Rows.{RowsIn}
-use Rattle.adorned.specs.Told.{noSummary}
-use Rattle.adorned.proofs.All.{toldFirst, toldFrom, rest-step, start-length, listed, fill_step, fill_end}
+use Rattle.adorned.specs.Told.{no_summary}
+use Rattle.adorned.proofs.All.{told_first, told_from, rest-step, start_length, listed, fill_step, fill_end}
 use borrow.Author.Rules.{rules}
 use Rattle.adorned.proofs.summaries_of.Statement.{statement}
 use Rattle.adorned.proofs.summaries_of.Tie as tie
 
 abbrev invariant-loop : tie.invariant-loop
 invariant-loop levels types read rows count depths all₀ k₀ all k =
-    (k ≤ count) × (count ≤ mostTypes) × (length all ≡ 64) × (toldFrom k all ≡ replicate (64 - k) noSummary)
-    × ((f : Format) (t : List ℕ) → RowsIn f t read levels types → toldFirst k all ≡ take k (adorned (Tables.rows f t)))
+    (k ≤ count) × (count ≤ most_types) × (length all ≡ 64) × (told_from k all ≡ replicate (64 - k) no_summary)
+    × ((f : Format) (t : List ℕ) → RowsIn f t read levels types → told_first k all ≡ take k (adorned (Tables.rows f t)))
 
 abbrev decreases-loop : tie.decreases-loop
 decreases-loop levels types read rows count depths all₀ k₀ all k = count - k
@@ -26,7 +26,7 @@ loop-holds : tie.Need-loop-init invariant-loop decreases-loop
 loop-holds c =
     let s : tie.Start invariant-loop decreases-loop = search in
     let r = c.no-summaries in
-    (omega arith, s.pre.1, start-length r.result r.ensures, r.ensures, λ f t read. refl)
+    (omega arith, s.pre.1, start_length r.result r.ensures, r.ensures, λ f t read. refl)
 
 loop-again : tie.Need-loop-preserved invariant-loop decreases-loop
 loop-again c =

@@ -4,7 +4,7 @@ use mathlib.Core.Path.{◌≡◌, sym, ◌∙◌}
 use mathlib.Core.List.{List}
 use lib.ListN.{length, get_or, take, length-take}
 use lib.Seq.{get_or-take}
-use Rattle.closest.proofs.Counts.{Counting, counting_more, counting-same, counting-end}
+use Rattle.closest.proofs.Counts.{Counting, counting_more, counting_same, counting_end}
 use native.Mathlib.Omega.{arith}
 use borrow.Author.Rules.{rules}
 use Rattle.closest.proofs.count_rows.Statement.{statement}
@@ -32,8 +32,8 @@ here x =
     let s = begun (turn x) in
     omega (arith, length-take s.args.rows s.args.types.now, s.pre, x.before.before.loop-test.true)
 
-type-is : (x : tie.After-wide invariant-loop decreases-loop) → x.wide.result ≡ get_or (types_of (turn x)) (turn x).loop.i 0
-type-is x =
+type_is : (x : tie.After-wide invariant-loop decreases-loop) → x.wide.result ≡ get_or (types_of (turn x)) (turn x).loop.i 0
+type_is x =
     let l = turn x in
     let a = (begun l).args in
     x.wide.ensures.0 ∙ sym (get_or-take a.rows a.types.now l.loop.i 0 x.before.before.loop-test.true)
@@ -49,21 +49,21 @@ loop-again c =
     let x = c.before in
     let l = turn x in
     let v = l.loop in
-    (omega arith, counting_more (types_of l) (begun l).args.k v.c v.i x.wide.result v.inv.1 (here x) (type-is x) c.if1.true)
+    (omega arith, counting_more (types_of l) (begun l).args.k v.c v.i x.wide.result v.inv.1 (here x) (type_is x) c.if1.true)
 
 loop-again-2 : tie.Need-loop-preserved-2 invariant-loop decreases-loop
 loop-again-2 c =
     let x = c.before in
     let l = turn x in
     let v = l.loop in
-    (omega arith, counting-same (types_of l) (begun l).args.k v.c v.i x.wide.result v.inv.1 (here x) (type-is x) c.if1.false)
+    (omega arith, counting_same (types_of l) (begun l).args.k v.c v.i x.wide.result v.inv.1 (here x) (type_is x) c.if1.false)
 
 returns : tie.Need-returns invariant-loop decreases-loop
 returns c =
     let l = c.before in
     let a = (begun l).args in
     let v = l.loop in (
-      counting-end (types_of l) a.k v.c v.i v.invariant.1 (omega (arith, length-take a.rows a.types.now, c.loop-test.false)),
+      counting_end (types_of l) a.k v.c v.i v.invariant.1 (omega (arith, length-take a.rows a.types.now, c.loop-test.false)),
       omega (arith, v.invariant.0, v.invariant.1.counted),
     )
 

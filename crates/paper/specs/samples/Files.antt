@@ -1,8 +1,8 @@
 -- Sample files: the tables, types and shapes of document 01, and the words that write such files. Assumes nothing.
 use Rattle.std.specs.Prelude.{ℕ, zero, suc, ◌*◌, List, [], ◌∷◌, ◌++◌, length, replicate}
-use Rattle.paper.specs.Lists.{joinMap, padded}
-use Rattle.paper.specs.Format.{base, valueBytes, bytes}
-use Rattle.paper.specs.Tables.{rowBack}
+use Rattle.paper.specs.Lists.{join_map, padded}
+use Rattle.paper.specs.Format.{base, value_bytes, bytes}
+use Rattle.paper.specs.Tables.{row_back}
 use Rattle.paper.specs.Opened.{opened}
 
 -- ---- tables
@@ -10,7 +10,7 @@ use Rattle.paper.specs.Opened.{opened}
 unfoldable pub row : List ℕ → ℕ → ℕ → List ℕ
 unfolding opened
 row d l v =
-    rowBack (record { level = length d; spare = 0; label = l; components = padded base.levels d; value = bytes valueBytes v })
+    row_back (record { level = length d; spare = 0; label = l; components = padded base.levels d; value = bytes value_bytes v })
 
 -- number:label, row by row from row k; row k has value 100 × k
 unfoldable pub table : ℕ → List (List ℕ × ℕ) → List ℕ
@@ -45,7 +45,7 @@ typed n = row (1 ∷ []) 1 0 ++ trees 1 n
 -- an entry with its level and its type
 unfoldable pub entry : ℕ → List ℕ → List ℕ
 unfolding opened
-entry l k = l ∷ length k ∷ 0 ∷ 0 ∷ joinMap (bytes 2) (padded base.levels k)
+entry l k = l ∷ length k ∷ 0 ∷ 0 ∷ join_map (bytes 2) (padded base.levels k)
 
 -- the types of A
 unfoldable pub portfolio : List ℕ

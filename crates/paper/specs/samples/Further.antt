@@ -3,11 +3,11 @@
 -- beside the next in document 01's order, but 1 and 4, which take a long table (crates/limits). Assumes nothing.
 use Rattle.std.specs.Prelude.{ℕ, zero, suc, ◌*◌, ◌≡◌, refl, true, false, List, [], ◌∷◌, ◌++◌, map, take, replicate}
 use Rattle.paper.specs.Lists.{joined, padded}
-use Rattle.paper.specs.Format.{base, rowBytes}
-use Rattle.paper.specs.Calls.{lookUp, judge, reshape, summarise}
+use Rattle.paper.specs.Format.{base, row_bytes}
+use Rattle.paper.specs.Calls.{look_up, judge, reshape, summarise}
 use Rattle.paper.specs.Opened.{opened}
 use Rattle.paper.specs.samples.Files.{row, table, A, table7, table10, entry, portfolio, lessee, lease, asset, shape4, shape5, new4, sources4, lent, files}
-use Rattle.paper.specs.samples.Told.{examined, filled, adornedInto, adornedOver, judged, reshaped, rewritten, said}
+use Rattle.paper.specs.samples.Told.{examined, filled, adorned_into, adorned_over, judged, reshaped, rewritten, said}
 
 -- ---- sample files
 -- n bytes of zeros
@@ -20,8 +20,8 @@ chain zero = []
 chain (suc n) = chain n ++ row (replicate (suc n) 1) 1 0
 
 -- a 3 of entries 0 and 2 comes before a 2 of entries 0 and 3
-abbrev laterApart : List ℕ × List ℕ
-laterApart = (
+abbrev later_apart : List ℕ × List ℕ
+later_apart = (
   table 0 ((1 ∷ [], 1) ∷ (1 ∷ 1 ∷ [], 2) ∷ (1 ∷ 1 ∷ 1 ∷ [], 3) ∷ (1 ∷ 2 ∷ [], 2) ∷ []),
   entry 1 (1 ∷ 2 ∷ []) ++ entry 2 (1 ∷ 2 ∷ 3 ∷ []) ++ entry 3 (1 ∷ []) ++ entry 4 (1 ∷ 2 ∷ 3 ∷ []),
 )
@@ -42,8 +42,8 @@ unfoldable roots : List ℕ
 roots = table 0 ((1 ∷ [], 1) ∷ (1 ∷ 1 ∷ [], 2) ∷ (2 ∷ [], 1) ∷ (2 ∷ 1 ∷ [], 2) ∷ (2 ∷ 2 ∷ [], 2) ∷ (3 ∷ [], 1) ∷ [])
 
 -- those portfolios beneath their lessees
-unfoldable upsideDown : List ℕ
-upsideDown =
+unfoldable upside_down : List ℕ
+upside_down =
     row (1 ∷ []) 2 100 ++ row (1 ∷ 1 ∷ []) 1 0 ++ row (2 ∷ []) 2 300 ++ row (2 ∷ 1 ∷ []) 1 200 ++ row (3 ∷ []) 2 400 ++ row (3 ∷ 1 ∷ []) 1 200
 
 -- an entry whose type no table here has
@@ -52,31 +52,31 @@ stranger l = entry l (99 ∷ [])
 
 -- ---- what the definitions say, as lists of figures
 -- number, place, and the part
-lookedUp : List ℕ → ℕ → List (List ℕ)
+looked_up : List ℕ → ℕ → List (List ℕ)
 unfolding opened
-lookedUp b i = let r = lookUp base b i in (r.number ∷ r.place ∷ []) ∷ r.rest ∷ []
+looked_up b i = let r = look_up base b i in (r.number ∷ r.place ∷ []) ∷ r.rest ∷ []
 
 -- number and second answer, yes as 1
 second : List ℕ → List ℕ → List (List ℕ)
 unfolding opened
-second b sb = let r = judge base b sb in (r.number ∷ elim r.rest.noneApart [ true ↦ 1 | false ↦ 0 ] ∷ []) ∷ []
+second b sb = let r = judge base b sb in (r.number ∷ elim r.rest.none_apart [ true ↦ 1 | false ↦ 0 ] ∷ []) ∷ []
 
 -- number, place and count of lines, with so many bytes and places lent
-linedInto : ℕ → ℕ → List ℕ → List ℕ → List (List ℕ)
+lined_into : ℕ → ℕ → List ℕ → List ℕ → List (List ℕ)
 unfolding opened
-linedInto bytes places b sb = let r = (reshape base b sb (zeros bytes) (zeros places)).reply in (r.number ∷ r.place ∷ r.rest ∷ []) ∷ []
+lined_into bytes places b sb = let r = (reshape base b sb (zeros bytes) (zeros places)).reply in (r.number ∷ r.place ∷ r.rest ∷ []) ∷ []
 
 -- number, place and count of lines, and the lent bytes and places afterwards
-leftIn : ℕ → ℕ → List ℕ → List ℕ → List (List ℕ)
+left_in : ℕ → ℕ → List ℕ → List ℕ → List (List ℕ)
 unfolding opened
-leftIn bytes places b sb =
+left_in bytes places b sb =
     let r = reshape base b sb (lent bytes) (lent places) in
     (r.reply.number ∷ r.reply.place ∷ r.reply.rest ∷ []) ∷ r.table ∷ r.sources ∷ []
 
 -- the new table
 written : List ℕ → List ℕ → List ℕ
 unfolding opened
-written b sb = let r = reshaped b sb in take (r.reply.rest * rowBytes base) r.table
+written b sb = let r = reshaped b sb in take (r.reply.rest * row_bytes base) r.table
 
 -- number and place; lines, source rows, copies and different source rows of 16 entries
 summed : List ℕ → List ℕ → List (List ℕ)
@@ -90,24 +90,24 @@ further =
     (rewritten base A shape4 (λ b. b), (0 ∷ 0 ∷ []) ∷ new4 ∷ sources4 ∷ [])
     -- that new table is a sound source of 9 rows and 3 types; reshaped again, by lessee, it has 9 lines
     ∷ (examined base new4, (0 ∷ 0 ∷ 9 ∷ []) ∷ [])
-    ∷ (adornedInto 3 new4, (0 ∷ 0 ∷ 3 ∷ []) ∷ [])
-    ∷ (linedInto 216 9 new4 (entry 1 (3 ∷ 2 ∷ []) ++ entry 2 (3 ∷ []) ++ entry 3 (3 ∷ 4 ∷ [])), (0 ∷ 0 ∷ 9 ∷ []) ∷ [])
+    ∷ (adorned_into 3 new4, (0 ∷ 0 ∷ 3 ∷ []) ∷ [])
+    ∷ (lined_into 216 9 new4 (entry 1 (3 ∷ 2 ∷ []) ++ entry 2 (3 ∷ []) ++ entry 3 (3 ∷ 4 ∷ [])), (0 ∷ 0 ∷ 9 ∷ []) ∷ [])
     -- two entries of one type beneath one entry are one type of the new table: portfolio[lease lease] has 2
-    ∷ (adornedInto 2 (written A (entry 1 portfolio ++ entry 2 lease ++ entry 2 lease)), (0 ∷ 0 ∷ 2 ∷ []) ∷ [])
+    ∷ (adorned_into 2 (written A (entry 1 portfolio ++ entry 2 lease ++ entry 2 lease)), (0 ∷ 0 ∷ 2 ∷ []) ∷ [])
     -- bytes and places past the last line stay as they were, whatever they hold; where there is no room, all do
-    ∷ (leftIn 240 12 A shape4, (0 ∷ 0 ∷ 9 ∷ []) ∷ (new4 ++ lent 24) ∷ (sources4 ++ lent 3) ∷ [])
-    ∷ (leftIn 30 3 A (entry 1 portfolio), (0 ∷ 0 ∷ 1 ∷ []) ∷ (row (1 ∷ []) 1 0 ++ lent 6) ∷ (0 ∷ lent 2) ∷ [])
-    ∷ (leftIn 23 1 A (entry 1 portfolio), (8 ∷ 0 ∷ 0 ∷ []) ∷ lent 23 ∷ lent 1 ∷ [])
+    ∷ (left_in 240 12 A shape4, (0 ∷ 0 ∷ 9 ∷ []) ∷ (new4 ++ lent 24) ∷ (sources4 ++ lent 3) ∷ [])
+    ∷ (left_in 30 3 A (entry 1 portfolio), (0 ∷ 0 ∷ 1 ∷ []) ∷ (row (1 ∷ []) 1 0 ++ lent 6) ∷ (0 ∷ lent 2) ∷ [])
+    ∷ (left_in 23 1 A (entry 1 portfolio), (8 ∷ 0 ∷ 0 ∷ []) ∷ lent 23 ∷ lent 1 ∷ [])
     -- a root type of several rows has their number as both figures; a lent summary past the types stays as it was
     ∷ (
-      adornedOver (replicate 3 (filled 7)) roots,
+      adorned_over (replicate 3 (filled 7)) roots,
       (0 ∷ 0 ∷ 2 ∷ []) ∷ (64 ∷ 1 ∷ 1 ∷ 3 ∷ 3 ∷ 3 ∷ []) ∷ (0 ∷ 2 ∷ 2 ∷ 3 ∷ 0 ∷ 2 ∷ []) ∷ lent 6 ∷ [],
     )
     -- each of its rows has its own lessees beneath it; beneath the lessees the third is not shown
     ∷ (judged base roots (entry 1 portfolio ++ entry 2 lessee), (0 ∷ 0 ∷ []) ∷ (0 ∷ []) ∷ [])
     ∷ (rewritten base roots (entry 1 portfolio ++ entry 2 lessee) (λ b. b), (0 ∷ 0 ∷ []) ∷ roots ∷ (0 ∷ 65537 ∷ 2 ∷ 65539 ∷ 65540 ∷ 5 ∷ []) ∷ [])
     ∷ (judged base roots (entry 1 lessee ++ entry 2 portfolio), (0 ∷ 0 ∷ []) ∷ (1 ∷ 1 ∷ 5 ∷ []) ∷ [])
-    ∷ (leftIn 144 6 roots (entry 1 lessee ++ entry 2 portfolio), (0 ∷ 0 ∷ 6 ∷ []) ∷ upsideDown ∷ (1 ∷ 65536 ∷ 3 ∷ 65538 ∷ 4 ∷ 65538 ∷ []) ∷ [])
+    ∷ (left_in 144 6 roots (entry 1 lessee ++ entry 2 portfolio), (0 ∷ 0 ∷ 6 ∷ []) ∷ upside_down ∷ (1 ∷ 65536 ∷ 3 ∷ 65538 ∷ 4 ∷ 65538 ∷ []) ∷ [])
     -- the summary of P4: the lessee of two leases is copied once
     ∷ (
       summed A shape4,
@@ -139,7 +139,7 @@ further =
       (0 ∷ 0 ∷ []) ∷ (2 ∷ 0 ∷ 3 ∷ []) ∷ [],
     )
     -- the first pair decides, whatever it earns: entries 0 and 2 earn a 3, and 0 and 3 a 2
-    ∷ (judged base laterApart.0 laterApart.1, (0 ∷ 0 ∷ []) ∷ (3 ∷ 0 ∷ 2 ∷ []) ∷ [])
+    ∷ (judged base later_apart.0 later_apart.1, (0 ∷ 0 ∷ []) ∷ (3 ∷ 0 ∷ 2 ∷ []) ∷ [])
     -- the second answer: yes in P4, in P5 beside verdict 1, in P7 beside verdict 3 and in P10; no in P6, in P9 and, refused, in P1
     ∷ (second A shape4, (0 ∷ 1 ∷ []) ∷ [])
     ∷ (second A shape5, (0 ∷ 1 ∷ []) ∷ [])
@@ -149,7 +149,7 @@ further =
     ∷ (second table10 (entry 1 (2 ∷ []) ++ entry 2 (3 ∷ [])), (0 ∷ 1 ∷ []) ∷ [])
     ∷ (second [] (entry 1 (3 ∷ []) ++ entry 2 (2 ∷ []) ++ entry 2 (4 ∷ [])), (7 ∷ 0 ∷ []) ∷ [])
     -- no, for a 2 that comes later than the pair that the verdict names
-    ∷ (second laterApart.0 laterApart.1, (0 ∷ 0 ∷ []) ∷ [])
+    ∷ (second later_apart.0 later_apart.1, (0 ∷ 0 ∷ []) ∷ [])
     -- no, for a 2 that comes after a verdict 1
     ∷ (judged base orphaned.0 orphaned.1, (0 ∷ 0 ∷ []) ∷ (1 ∷ 3 ∷ 3 ∷ []) ∷ [])
     ∷ (second orphaned.0 orphaned.1, (0 ∷ 0 ∷ []) ∷ [])
@@ -165,7 +165,7 @@ further =
     ∷ (examined base (row (1 ∷ []) 100 0), (3 ∷ 0 ∷ 0 ∷ []) ∷ [])
     ∷ (examined base (chain 6), (0 ∷ 0 ∷ 6 ∷ []) ∷ [])
     ∷ (examined base (chain 6 ++ row (1 ∷ 1 ∷ 1 ∷ 1 ∷ 1 ∷ 2 ∷ 0 ∷ []) 1 0), (3 ∷ 6 ∷ 0 ∷ []) ∷ [])
-    ∷ (lookedUp (zeros 24) 1, (3 ∷ 0 ∷ []) ∷ [] ∷ [])
+    ∷ (looked_up (zeros 24) 1, (3 ∷ 0 ∷ []) ∷ [] ∷ [])
     -- 5: no entry, 17 entries, 16 pass; beside 6
     ∷ (judged base (row (1 ∷ []) 1 0) (entry 1 portfolio ++ joined (replicate 15 (entry 2 portfolio))), (0 ∷ 0 ∷ []) ∷ (0 ∷ []) ∷ [])
     ∷ (judged base [] [], (5 ∷ 0 ∷ []) ∷ (0 ∷ []) ∷ [])
@@ -176,21 +176,21 @@ further =
     ∷ (judged base A (stranger 1 ++ zeros 16), (6 ∷ 1 ∷ []) ∷ (0 ∷ []) ∷ [])
     -- 7 at the first entry without a row; beside 8
     ∷ (judged base A (entry 1 lease ++ stranger 2 ++ stranger 2), (7 ∷ 1 ∷ []) ∷ (0 ∷ []) ∷ [])
-    ∷ (linedInto 0 0 A (entry 1 lease ++ stranger 2), (7 ∷ 1 ∷ 0 ∷ []) ∷ [])
+    ∷ (lined_into 0 0 A (entry 1 lease ++ stranger 2), (7 ∷ 1 ∷ 0 ∷ []) ∷ [])
     -- 8: a byte short, a place short; just enough
-    ∷ (linedInto 23 1 A (entry 1 portfolio), (8 ∷ 0 ∷ 0 ∷ []) ∷ [])
-    ∷ (linedInto 24 0 A (entry 1 portfolio), (8 ∷ 0 ∷ 0 ∷ []) ∷ [])
-    ∷ (linedInto 24 1 A (entry 1 portfolio), (0 ∷ 0 ∷ 1 ∷ []) ∷ [])
+    ∷ (lined_into 23 1 A (entry 1 portfolio), (8 ∷ 0 ∷ 0 ∷ []) ∷ [])
+    ∷ (lined_into 24 0 A (entry 1 portfolio), (8 ∷ 0 ∷ 0 ∷ []) ∷ [])
+    ∷ (lined_into 24 1 A (entry 1 portfolio), (0 ∷ 0 ∷ 1 ∷ []) ∷ [])
     -- 10: a summary short; just enough
-    ∷ (adornedInto 3 A, (10 ∷ 0 ∷ 0 ∷ []) ∷ [])
-    ∷ (adornedInto 4 A, (0 ∷ 0 ∷ 4 ∷ []) ∷ [])
+    ∷ (adorned_into 3 A, (10 ∷ 0 ∷ 0 ∷ []) ∷ [])
+    ∷ (adorned_into 4 A, (0 ∷ 0 ∷ 4 ∷ []) ∷ [])
     -- 11 at the row asked for; the last row there is
-    ∷ (lookedUp A 9, (11 ∷ 9 ∷ []) ∷ [] ∷ [])
-    ∷ (lookedUp A 300, (11 ∷ 300 ∷ []) ∷ [] ∷ [])
-    ∷ (lookedUp A 8, (0 ∷ 0 ∷ []) ∷ row (1 ∷ 2 ∷ 1 ∷ []) 3 800 ∷ [])
+    ∷ (looked_up A 9, (11 ∷ 9 ∷ []) ∷ [] ∷ [])
+    ∷ (looked_up A 300, (11 ∷ 300 ∷ []) ∷ [] ∷ [])
+    ∷ (looked_up A 8, (0 ∷ 0 ∷ []) ∷ row (1 ∷ 2 ∷ 1 ∷ []) 3 800 ∷ [])
     ∷ []
 
 -- every sample says what document 01 says
-pub further-hold : map (λ (p : List (List ℕ) × List (List ℕ)). p.0) further ≡ map (λ (p : List (List ℕ) × List (List ℕ)). p.1) further
-unfolding opened files said further lookedUp second linedInto leftIn written summed roots upsideDown
-further-hold = refl
+pub further_hold : map (λ (p : List (List ℕ) × List (List ℕ)). p.0) further ≡ map (λ (p : List (List ℕ) × List (List ℕ)). p.1) further
+unfolding opened files said further looked_up second lined_into left_in written summed roots upside_down
+further_hold = refl

@@ -2,8 +2,8 @@
 -- both widths, and each refusal with its place, alone and beside the next. Assumes nothing.
 use Rattle.std.specs.Prelude.{ℕ, ◌*◌, ◌≡◌, refl, List, [], ◌∷◌, ◌++◌, map}
 use Rattle.paper.specs.Format.{base, eight}
-use Rattle.paper.specs.Widths.{tableTo, shapeTo}
-use Rattle.paper.specs.Labels.{oldRange, pairs, tableWith, Converting, convert}
+use Rattle.paper.specs.Widths.{table_to, shape_to}
+use Rattle.paper.specs.Labels.{old_range, pairs, table_with, Converting, convert}
 use Rattle.paper.specs.Opened.{opened}
 use Rattle.paper.specs.samples.Files.{row, table, entry, lent, files}
 use Rattle.paper.specs.samples.Told.{added, examined, judged, rewritten, said}
@@ -51,19 +51,19 @@ labels =
     ∷ (told_in 7 3 (tape 100 999) (wanted 100 999) three, (0 ∷ 0 ∷ 6 ∷ 2 ∷ []) ∷ (tape 21 99 ++ lent 24) ∷ (wanted 21 99 ++ lent 16) ∷ [])
     -- so at the wide width
     ∷ (
-      told (convert eight (tableTo base eight (tape 100 999)) (shapeTo base eight (wanted 100 999)) three (lent 168) (lent 40)),
-      (0 ∷ 0 ∷ 6 ∷ 2 ∷ []) ∷ tableTo base eight (tape 21 99) ∷ shapeTo base eight (wanted 21 99) ∷ [],
+      told (convert eight (table_to base eight (tape 100 999)) (shape_to base eight (wanted 100 999)) three (lent 168) (lent 40)),
+      (0 ∷ 0 ∷ 6 ∷ 2 ∷ []) ∷ table_to base eight (tape 21 99) ∷ shape_to base eight (wanted 21 99) ∷ [],
     )
     -- before it the table is sound on the old range and breaks a rule on the new one; after it, it is sound on the new one
-    ∷ (examined (oldRange base) (tape 100 999), (0 ∷ 0 ∷ 6 ∷ []) ∷ [])
+    ∷ (examined (old_range base) (tape 100 999), (0 ∷ 0 ∷ 6 ∷ []) ∷ [])
     ∷ (examined base (tape 100 999), (3 ∷ 1 ∷ 0 ∷ []) ∷ [])
     ∷ (examined base (tape 21 99), (0 ∷ 0 ∷ 6 ∷ []) ∷ [])
-    ∷ (examined (oldRange base) (one 1000), (3 ∷ 0 ∷ 0 ∷ []) ∷ [])
+    ∷ (examined (old_range base) (one 1000), (3 ∷ 0 ∷ 0 ∷ []) ∷ [])
     -- it is judged and reshaped as before, and the new table's labels are the converted ones
-    ∷ (judged base (tape 21 99) (wanted 21 99), judged (oldRange base) (tape 100 999) (wanted 100 999))
+    ∷ (judged base (tape 21 99) (wanted 21 99), judged (old_range base) (tape 100 999) (wanted 100 999))
     ∷ (
       rewritten base (tape 21 99) (wanted 21 99) (λ b. b),
-      rewritten (oldRange base) (tape 100 999) (wanted 100 999) (tableWith base (pairs three)),
+      rewritten (old_range base) (tape 100 999) (wanted 100 999) (table_with base (pairs three)),
     )
     -- a table without rows; labels to 99 need no list
     ∷ (told_in 0 1 [] (only 100) (100 ∷ 1 ∷ []), (0 ∷ 0 ∷ 0 ∷ 1 ∷ []) ∷ [] ∷ only 1 ∷ [])
@@ -100,6 +100,6 @@ labels =
     ∷ []
 
 -- every sample says what request 10 says
-pub labels-hold : map (λ (p : List (List ℕ) × List (List ℕ)). p.0) labels ≡ map (λ (p : List (List ℕ) × List (List ℕ)). p.1) labels
+pub labels_hold : map (λ (p : List (List ℕ) × List (List ℕ)). p.0) labels ≡ map (λ (p : List (List ℕ) × List (List ℕ)). p.1) labels
 unfolding opened added files said labels told refusal
-labels-hold = refl
+labels_hold = refl

@@ -1,7 +1,7 @@
 -- Samples of request 5, one list under one statement like the marked ones: the numbers of each edge, both ways. Assumes nothing.
 use Rattle.std.specs.Prelude.{ℕ, ◌≡◌, refl, List, [], ◌∷◌, ◌++◌, map, length, get_or, replicate}
 use Rattle.paper.specs.Lists.{count}
-use Rattle.paper.specs.Format.{base, mostEntries}
+use Rattle.paper.specs.Format.{base, most_entries}
 use Rattle.paper.specs.Partners.{EdgeNumbers}
 use Rattle.paper.specs.Calls.{judge}
 use Rattle.paper.specs.Opened.{opened}
@@ -12,14 +12,14 @@ edged : List ℕ → List ℕ → ℕ → List (List ℕ)
 unfolding opened
 edged b sb n =
     let x : EdgeNumbers = (judge base b sb).rest.edges in
-    map (λ e. get_or x.leastChildren e 0 ∷ get_or x.greatestChildren e 0 ∷ get_or x.leastParents e 0 ∷ get_or x.greatestParents e 0 ∷ []) (count 0 n)
+    map (λ e. get_or x.least_children e 0 ∷ get_or x.greatest_children e 0 ∷ get_or x.least_parents e 0 ∷ get_or x.greatest_parents e 0 ∷ []) (count 0 n)
 
 -- how many places each list has
 places : List ℕ → List ℕ → List (List ℕ)
 unfolding opened
 places b sb =
     let x : EdgeNumbers = (judge base b sb).rest.edges in
-    (length x.leastChildren ∷ length x.greatestChildren ∷ length x.leastParents ∷ length x.greatestParents ∷ []) ∷ []
+    (length x.least_children ∷ length x.greatest_children ∷ length x.least_parents ∷ length x.greatest_parents ∷ []) ∷ []
 
 -- no numbers
 none : List ℕ
@@ -29,7 +29,7 @@ pub samples : List (List (List ℕ) × List (List ℕ))
 samples =
     -- P4: `edge 1 1 1 1 2` and `edge 2 0 2 1 1`: lease 8 has no asset; entry 0 and entries past the last hold zeros
     (
-      edged A shape4 mostEntries,
+      edged A shape4 most_entries,
       none ∷ (1 ∷ 1 ∷ 1 ∷ 2 ∷ []) ∷ (0 ∷ 2 ∷ 1 ∷ 1 ∷ []) ∷ replicate 13 none,
     )
     ∷ (places A shape4, (16 ∷ 16 ∷ 16 ∷ 16 ∷ []) ∷ [])
@@ -44,10 +44,10 @@ samples =
     -- P10: types that do not meet
     ∷ (edged table10 (entry 1 (2 ∷ []) ++ entry 2 (3 ∷ [])) 2, none ∷ none ∷ [])
     -- P1, refused: zeros
-    ∷ (edged [] (entry 1 (3 ∷ []) ++ entry 2 (2 ∷ []) ++ entry 2 (4 ∷ [])) mostEntries, replicate 16 none)
+    ∷ (edged [] (entry 1 (3 ∷ []) ++ entry 2 (2 ∷ []) ++ entry 2 (4 ∷ [])) most_entries, replicate 16 none)
     ∷ []
 
 -- every sample says what document 02 says
-pub samples-hold : map (λ (p : List (List ℕ) × List (List ℕ)). p.0) samples ≡ map (λ (p : List (List ℕ) × List (List ℕ)). p.1) samples
+pub samples_hold : map (λ (p : List (List ℕ) × List (List ℕ)). p.0) samples ≡ map (λ (p : List (List ℕ) × List (List ℕ)). p.1) samples
 unfolding opened files samples edged places none
-samples-hold = refl
+samples_hold = refl

@@ -2,14 +2,14 @@
 -- these statements are here so that a wrong definition is refused by the case that it breaks. Assumes nothing.
 use Rattle.std.specs.Prelude.{ℕ, ◌*◌, ◌≡◌, refl, Bool, true, false, ◌&&◌, ◌||◌, not, List, [], ◌∷◌, ◌++◌, eqb, leb, length, take, replicate}
 use Rattle.paper.specs.Lists.{all, any, count, same}
-use Rattle.paper.specs.Format.{base, rowBytes}
+use Rattle.paper.specs.Format.{base, row_bytes}
 use Rattle.paper.specs.Tables.{rows, types}
 use Rattle.paper.specs.Closeness.{Node}
 use Rattle.paper.specs.Shapes.{entries}
 use Rattle.paper.specs.Verdict.{Verdict, kept, missing, apart, unsure}
 use Rattle.paper.specs.Calls.{examine, judge, reshape, Reshaping}
-use Rattle.paper.specs.Links.{newNodes, sourceRow, shownPairs, sourcePairs}
-use Rattle.paper.specs.MadeUp.{forkEntry, unshown}
+use Rattle.paper.specs.Links.{new_nodes, source_row, shown_pairs, source_pairs}
+use Rattle.paper.specs.MadeUp.{fork_entry, unshown}
 use Rattle.paper.specs.Opened.{opened}
 use Rattle.paper.specs.samples.Files.{table, entry, A, table7, table8, table10, portfolio, lessee, lease, asset, shape4, shape5, files}
 use Rattle.paper.specs.samples.Further.{orphaned}
@@ -18,35 +18,35 @@ use Rattle.paper.specs.samples.Further.{orphaned}
 abbrev pub among : ℕ × ℕ → List (ℕ × ℕ) → Bool
 among p l = any (λ (q : ℕ × ℕ). eqb p.0 q.0 && eqb p.1 q.1) l
 
-abbrev isKept : Verdict → Bool
-isKept kept = true
-isKept (missing e r) = false
-isKept (apart e f) = false
-isKept (unsure e f) = false
+abbrev is_kept : Verdict → Bool
+is_kept kept = true
+is_kept (missing e r) = false
+is_kept (apart e f) = false
+is_kept (unsure e f) = false
 
 -- for any two entries the pairs shown are exactly the closest pairs of source rows
-linksHold : List ℕ → List ℕ → List ℕ → List ℕ → Bool
+links_hold : List ℕ → List ℕ → List ℕ → List ℕ → Bool
 unfolding opened
-linksHold b sb new sources =
+links_hold b sb new sources =
     let es = count 0 (length (entries base sb)) in
     all (λ e. all (λ g.
-    let shown = shownPairs base new sources e g in
-    let wanted = sourcePairs base b sb e g in
+    let shown = shown_pairs base new sources e g in
+    let wanted = source_pairs base b sb e g in
     all (λ p. among p wanted) shown && all (λ p. among p shown) wanted) es) es
 
 -- a reshape with room for twelve lines
 abbrev roomy : List ℕ × List ℕ → Reshaping
-roomy c = reshape base c.0 c.1 (replicate (12 * rowBytes base) 0) (replicate 12 0)
+roomy c = reshape base c.0 c.1 (replicate (12 * row_bytes base) 0) (replicate 12 0)
 
 -- where the verdict is 0, a reshape with room is accepted and keeps the links
 pub holds : List ℕ × List ℕ → Bool
-unfolding opened linksHold
+unfolding opened links_hold
 holds c =
     let b = c.0 in
     let sb = c.1 in
     let r = roomy c in
     let n = r.reply.rest in
-    not (isKept (judge base b sb).rest.verdict) || (eqb r.reply.number 0 && linksHold b sb (take (n * rowBytes base) r.table) (take n r.sources))
+    not (is_kept (judge base b sb).rest.verdict) || (eqb r.reply.number 0 && links_hold b sb (take (n * row_bytes base) r.table) (take n r.sources))
 
 -- two leases, of which the second has an asset
 later : List ℕ
@@ -81,17 +81,17 @@ unfolding opened
 sound c =
     let r = roomy c in
     let n = r.reply.rest in
-    let new = take (n * rowBytes base) r.table in
+    let new = take (n * row_bytes base) r.table in
     let x = examine base new in
     eqb r.reply.number 0 && eqb x.number 0 && eqb x.rest n && leb (length (types (rows base new))) (length (entries base c.1))
 
-pub sound-tried : all sound cases ≡ true
+pub sound_tried : all sound cases ≡ true
 unfolding opened sound later cases files
-sound-tried = refl
+sound_tried = refl
 
-pub demand3-tried : all holds cases ≡ true
-unfolding opened holds linksHold later cases files
-demand3-tried = refl
+pub demand3_tried : all holds cases ≡ true
+unfolding opened holds links_hold later cases files
+demand3_tried = refl
 
 -- ---- what is not made up
 -- line x hangs under line z, or is z
@@ -101,7 +101,7 @@ under z x = same (take (length z.dewey) x.dewey) z.dewey
 module _ (b sb new sources : List ℕ) where
   -- two lines hang under, or are, one line of their fork entry
   unfoldable pub forked : Node → Node → Bool
-  forked x y = any (λ (z : Node). eqb z.kind (forkEntry base b sb x.kind y.kind) && under z x && under z y) (newNodes base new sources)
+  forked x y = any (λ (z : Node). eqb z.kind (fork_entry base b sb x.kind y.kind) && under z x && under z y) (new_nodes base new sources)
 
   -- if they do, and are of different entries, their source rows are a closest pair
   unfoldable pub justified : Node → Node → Bool
@@ -109,34 +109,34 @@ module _ (b sb new sources : List ℕ) where
     | true ↦ true
     | false ↦ elim (forked x y) [
       | false ↦ true
-      | true ↦ among (sourceRow sources x, sourceRow sources y) (sourcePairs base b sb x.kind y.kind)
+      | true ↦ among (source_row sources x, source_row sources y) (source_pairs base b sb x.kind y.kind)
     ]
   ]
 
-  unfoldable pub noneMadeUp : Bool
-  noneMadeUp = let lines = newNodes base new sources in all (λ x. all (justified x) lines) lines
+  unfoldable pub none_made_up : Bool
+  none_made_up = let lines = new_nodes base new sources in all (λ x. all (justified x) lines) lines
 
 -- the row that verdict 1 names is not shown
-namedUnshown : Verdict → List ℕ → Bool
+named_unshown : Verdict → List ℕ → Bool
 unfolding opened
-namedUnshown kept sources = true
-namedUnshown (missing e r) sources = unshown e r sources
-namedUnshown (apart e f) sources = true
-namedUnshown (unsure e f) sources = true
+named_unshown kept sources = true
+named_unshown (missing e r) sources = unshown e r sources
+named_unshown (apart e f) sources = true
+named_unshown (unsure e f) sources = true
 
 -- a reshape with room is accepted, a row that verdict 1 names is not shown, and where the second answer is yes nothing is made up
-pub madeUp : List ℕ × List ℕ → Bool
-unfolding opened forked justified noneMadeUp namedUnshown
-madeUp c =
+pub made_up : List ℕ × List ℕ → Bool
+unfolding opened forked justified none_made_up named_unshown
+made_up c =
     let b = c.0 in
     let sb = c.1 in
     let j = (judge base b sb).rest in
     let r = roomy c in
     let n = r.reply.rest in
     let sources = take n r.sources in
-    eqb r.reply.number 0 && namedUnshown j.verdict sources
-    && elim j.noneApart [ false ↦ true | true ↦ noneMadeUp b sb (take (n * rowBytes base) r.table) sources ]
+    eqb r.reply.number 0 && named_unshown j.verdict sources
+    && elim j.none_apart [ false ↦ true | true ↦ none_made_up b sb (take (n * row_bytes base) r.table) sources ]
 
-pub made-up-tried : all madeUp cases ≡ true
-unfolding opened madeUp forked justified noneMadeUp namedUnshown later cases files
-made-up-tried = refl
+pub made_up_tried : all made_up cases ≡ true
+unfolding opened made_up forked justified none_made_up named_unshown later cases files
+made_up_tried = refl

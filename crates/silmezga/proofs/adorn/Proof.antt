@@ -43,13 +43,13 @@ use Rattle.paper.specs.declared.Width.{Width}
 use Rattle.paper.specs.contracts.Width as E
 use Rattle.paper.proofs.Width.TheLaws as E'
 use Rattle.silmezga.proofs.Clauses.{says_both}
-use Rattle.adorned.specs.Told.{told, Says, adornFigures}
+use Rattle.adorned.specs.Told.{told, Says, adorn_figures}
 use Rattle.adorned.specs.declared.TypeSummary.{TypeSummary}
 use Rattle.adorned.specs.declared.Adorned.{Adorned}
 use Rattle.adorned.specs.declared.lent.AdornedTypes.{AdornedTypes}
 use Rattle.adorned.proofs.Fronts.{front}
-use Rattle.silmezga.proofs.Held.{summaries-out}
-use Rattle.adorned.proofs.Answers.{fits-lent, fits-placed, answer, left}
+use Rattle.silmezga.proofs.Held.{summaries_out}
+use Rattle.adorned.proofs.Answers.{fits_lent, fits_placed, answer, left}
 use Rattle.adorned.specs.contracts.TypeSummary as S
 use Rattle.adorned.proofs.TypeSummary.TheLaws as S'
 use Rattle.adorned.specs.contracts.Adorned as D
@@ -86,8 +86,8 @@ module _ {M : Type 1} {𝓤 : Ura M} (𝓛 : Logic 𝓤) (mem : Memory → SProp
 
   module _ (κ : Lft) (w : Width) (x : Bor (List ℕ)) (n : ℕ) (r : Adorned) where
     -- of what the figures' contract ensures, the clause alone: it has no last value
-    figured : ent 𝓤 (ensured 𝓛 by_value.ended (by_value.clauses 𝓛 mem run) (κ, tt) (w, (x, (n, tt))) tt r) (fact 𝓤 (Says (adornFigures (format_of w) x.now n) r))
-    figured = ex_e 𝓤 _ (λ ws. snd∗ 𝓤 (sem 𝓛 (lasts by_value.ended (κ, tt) (w, (x, (n, tt))) ws)) (fact 𝓤 (Says (adornFigures (format_of w) x.now n) r)))
+    figured : ent 𝓤 (ensured 𝓛 by_value.ended (by_value.clauses 𝓛 mem run) (κ, tt) (w, (x, (n, tt))) tt r) (fact 𝓤 (Says (adorn_figures (format_of w) x.now n) r))
+    figured = ex_e 𝓤 _ (λ ws. snd∗ 𝓤 (sem 𝓛 (lasts by_value.ended (κ, tt) (w, (x, (n, tt))) ws)) (fact 𝓤 (Says (adorn_figures (format_of w) x.now n) r)))
 
 module _ {M : Type 1} {𝓤 : Ura M} (𝓛 : Logic 𝓤) (mem : Memory → SProp 𝓤) (run : Routine → Fun 𝓤) (κ κ' : Lft) (q q' : Share) (w : Width) (w-is : Is E.the_row w (EL.vals E.the_type E'.the_laws w)) (x : Bor (List ℕ)) (z : Bor (List TypeSummary)) where
   -- the machine values: the width's, the table's slice, the summaries', and the number lent
@@ -132,25 +132,25 @@ module _ {M : Type 1} {𝓤 : Ura M} (𝓛 : Logic 𝓤) (mem : Memory → SProp
       qed 𝓛 (‵ (flft κ q) ∷ ‵ Table ∷ []) ∵ nothing ! $ owned ! usize (Is usize) (uint_Makes 𝓛 w64) n _ (refl, fits) $ fjoin ! $ move ! (2 ∷ 0 ∷ []) $ fjoin ! $ owned ! E.the_row (Is E.the_row) (EL.makes E.the_type E'.the_plain 𝓛) w _ w-is $ fjoin ! $
       nothing ! $ move ! (2 ∷ 0 ∷ []) $ join ! $ nothing ! $ move ! (1 ∷ 2 ∷ 0 ∷ []) $ join ! $ done !
 
-  module _ (r : Adorned) (vs : List Val) (is : Is D.the_row r vs) (figured : Says (adornFigures (format_of w) x.now n) r) where
+  module _ (r : Adorned) (vs : List Val) (is : Is D.the_row r vs) (figured : Says (adorn_figures (format_of w) x.now n) r) where
     abbrev all : List Val
     all = array_val (map S'.lowered r.summaries) ∷ []
 
     all-is : Is (Array S.the_row 64) r.summaries all
-    all-is = summaries-out 64 r.summaries _ (LL.owed D.the_type D'.the_laws r vs is).1.1.1.0
+    all-is = summaries_out 64 r.summaries _ (LL.owed D.the_type D'.the_laws r vs is).1.1.1.0
 
     count_fits : r.count < 2 ^ 64
     count_fits = (LL.owed D.the_type D'.the_laws r vs is).1.1.0.1
 
-    answer-is : Is R.the_row (answered r) (R'.lowered (answered r) ∷ [])
-    answer-is = let o = LL.owed D.the_type D'.the_laws r vs is in LL.owes R.the_type R'.the_laws (answered r) (o.0, (o.1.0, (o.1.1.0, tt)))
+    answer_is : Is R.the_row (answered r) (R'.lowered (answered r) ∷ [])
+    answer_is = let o = LL.owed D.the_type D'.the_laws r vs is in LL.owes R.the_type R'.the_laws (answered r) (o.0, (o.1.0, (o.1.1.0, tt)))
 
     abbrev to-store : (Store 𝓛 mem run).Ghost
     to-store = (((κ', tt), (q', tt), tt, (z, (r.summaries, (r.count, tt))), (s' ∷ [], (all, (vint w64 r.count ∷ [], tt)))), tt)
 
     goes-store : ent 𝓤 (sep 𝓤 (sep 𝓤 (A.lft κ' q') (sem 𝓛 ftrue)) (sem 𝓛 ((MutSlice (named 1) κ' S.the_row).own_val z (s' ∷ [])))) ((Store 𝓛 mem run).pre to-store)
     goes-store =
-        qed 𝓛 ((‵ (flft κ' q') ⊛ ‵ ftrue) ∷ ‵ ((MutSlice (named 1) κ' S.the_row).own_val z (s' ∷ [])) ∷ []) ∵ says ! (fits-lent (format_of w) x.now z.now r all-is.1.0.1 figured, fits-placed (format_of w) x.now z.now r all-is.1.0.1 figured) $ frame ! $
+        qed 𝓛 ((‵ (flft κ' q') ⊛ ‵ ftrue) ∷ ‵ ((MutSlice (named 1) κ' S.the_row).own_val z (s' ∷ [])) ∷ []) ∵ says ! (fits_lent (format_of w) x.now z.now r all-is.1.0.1 figured, fits_placed (format_of w) x.now z.now r all-is.1.0.1 figured) $ frame ! $
         nothing ! $ owned ! usize (Is usize) (uint_Makes 𝓛 w64) r.count _ (refl, count_fits) $ fjoin ! $
         owned ! (Array S.the_row 64) (Is (Array S.the_row 64)) (Array-Makes 𝓛 S.the_row (LL.makes S.the_type S'.the_plain 𝓛) 64) r.summaries _ all-is $ fjoin ! $ move ! (1 ∷ 0 ∷ []) $ fjoin ! $ done !
 
@@ -162,7 +162,7 @@ module _ {M : Type 1} {𝓤 : Ura M} (𝓛 : Logic 𝓤) (mem : Memory → SProp
         says_both ! (answer (format_of w) x.now z.now r all-is.1.0.1 figured) (ap (map told) e ∙ left (format_of w) x.now z.now r all-is.1.0.1 figured) $
         split ! $ move ! (1 ∷ []) $ drop ! $ join ! $ frame ! $
         nothing ! $ move ! (2 ∷ 0 ∷ []) $ fjoin ! $ move ! (1 ∷ 0 ∷ []) $ fjoin ! $
-        owned ! E.the_row (Is E.the_row) (EL.makes E.the_type E'.the_plain 𝓛) w _ w-is $ fjoin ! $ owned ! R.the_row (Is R.the_row) (LL.makes R.the_type R'.the_plain 𝓛) (answered r) _ answer-is $ move ! (1 ∷ 0 ∷ []) $ done !
+        owned ! E.the_row (Is E.the_row) (EL.makes E.the_type E'.the_plain 𝓛) w _ w-is $ fjoin ! $ owned ! R.the_row (Is R.the_row) (LL.makes R.the_type R'.the_plain 𝓛) (answered r) _ answer_is $ move ! (1 ∷ 0 ∷ []) $ done !
 
   module _ (C : Calls 𝓤 H) (Λ : Loops 𝓤 H) (fm : FmC 𝓤 H 𝓛.laws C) (known-value : Triple 𝓤 (C #by-value) (ByValue 𝓛 mem run)) (known_store : Triple 𝓤 (C #store) (Store 𝓛 mem run)) where
     walk : Room u8 (length x.now) → Room S.the_row n → ent 𝓤 (on_entry 𝓛 f.signature κs (q, (q', tt)) a machine) (WpFn 𝓤 H C Λ code.function (v ∷ s ∷ s' ∷ []) Post)
@@ -177,7 +177,7 @@ module _ {M : Type 1} {𝓤 : Ura M} (𝓛 : Logic 𝓤) (mem : Memory → SProp
         use2 𝓛 (raw ((ByValue 𝓛 mem run).pre to-value)) (goes-value room'.0) $
         calls_at ! fm (ByValue 𝓛 mem run) known-value to-value (and_then ! (load ! (from ! (stop !)) (look ! 18 refl)) (and_then ! (load ! (from ! (stop !)) (look ! 16 refl)) (and_then ! (load ! (from ! (stop !)) (look ! 12 refl)) (no_more !)))) (λ u.
         use1 𝓛 (later (some (λ (r : Adorned). ((‵ (flft κ q) ⊛ ‵ ftrue) ⊛ ‵ ((D.the_row).own_val r (u ∷ []))) ⊛ raw (ensured 𝓛 by_value.ended (by_value.clauses 𝓛 mem run) (κ, tt) (w, (x, (n, tt))) tt r)))) (id⊢ 𝓤 _) $ await ! tt $ pick ! (λ r.
-        split ! $ move ! (1 ∷ []) $ use1 𝓛 (raw (fact 𝓤 (Says (adornFigures (format_of w) x.now n) r))) (figured 𝓛 mem run κ w x n r) $ heard ! (Says (adornFigures (format_of w) x.now n) r) (λ says_r.
+        split ! $ move ! (1 ∷ []) $ use1 𝓛 (raw (fact 𝓤 (Says (adorn_figures (format_of w) x.now n) r))) (figured 𝓛 mem run κ w x n r) $ heard ! (Says (adorn_figures (format_of w) x.now n) r) (λ says_r.
         split ! $ move ! (1 ∷ []) $ facts ! D.the_row (Is D.the_row) (shows 𝓛 D.the_row) r (u ∷ []) (λ is.
         -- [the table's token; the other; what the table owns; what the summaries own; _8; …; _5 at 10; …]
         land ! (from ! (stop !)) (init ! 10 refl ((LL.lawful D.the_type D'.the_laws 𝓛).typed r _ is).0) $
@@ -195,7 +195,7 @@ module _ {M : Type 1} {𝓤 : Ura M} (𝓛 : Logic 𝓤) (mem : Memory → SProp
         -- [the other token; the last list; …; the table's token; what the table owns; _8 at 6; …]
         land ! (from ! (stop !)) (init ! 10 refl ((Nothing-Lawful 𝓛).typed y _ is').0) $
         assigns ! (agg ! (and_then ! (load ! (from ! (fld ! refl (stop !))) (look_in ! 12 (sub ! 0 refl (whole !)))) (and_then ! (load ! (from ! (fld ! refl (stop !))) (look_in ! 12 (sub ! 1 refl (whole !)))) (and_then ! (load ! (from ! (fld ! refl (stop !))) (look_in ! 12 (sub ! 2 refl (whole !)))) (no_more !))))) (from ! (stop !))
-        (init ! 22 refl ((LL.lawful R.the_type R'.the_laws 𝓛).typed (answered r) _ (answer-is r (u ∷ []) is says_r)).0) $
+        (init ! 22 refl ((LL.lawful R.the_type R'.the_laws 𝓛).typed (answered r) _ (answer_is r (u ∷ []) is says_r)).0) $
         returns ! (look ! 22 refl) $ forget ! 6 refl $ forget ! 8 refl $ forget ! 10 refl $ forget ! 12 refl $ forget ! 14 refl $ forget ! 16 refl $ forget ! 18 refl $ forget ! 20 refl $ forget ! 22 refl $
         move ! (22 ∷ 23 ∷ []) $ free1 ! $ move ! (20 ∷ 21 ∷ []) $ free1 ! $ move ! (18 ∷ 19 ∷ []) $ free1 ! $ move ! (16 ∷ 17 ∷ []) $ free1 ! $ move ! (14 ∷ 15 ∷ []) $ free1 ! $ move ! (12 ∷ 13 ∷ []) $ free1 ! $ move ! (10 ∷ 11 ∷ []) $ free1 ! $ move ! (8 ∷ 9 ∷ []) $ free1 ! $ move ! (6 ∷ 7 ∷ []) $ free1 ! $ free0 ! $
         keep ! (4 ∷ 0 ∷ 5 ∷ 1 ∷ []) $ by ! (exits r (u ∷ []) is says_r zs.0 e l))))))))))))))))))))

@@ -1,18 +1,18 @@
 -- `silmezga::adorned_at` meets its contract. Assumes nothing.
 use mathlib.Core.Path.{subst}
-use Rattle.adorned.specs.Told.{Says, adornFigures}
-use Rattle.bytes.proofs.Laws.{format-served}
+use Rattle.adorned.specs.Told.{Says, adorn_figures}
+use Rattle.octets.proofs.Laws.{format_served}
 use borrow.Author.Rules.{rules}
 use Rattle.silmezga.proofs.adorned_at.Statement.{statement}
 use Rattle.silmezga.proofs.adorned_at.Tie as tie
 
 adorn-by-value-requires : tie.Need-adorn-by-value-requires
-adorn-by-value-requires c κs = format-served _ c.before.before.args.width c.format-of.ensures
+adorn-by-value-requires c κs = format_served _ c.before.before.args.width c.format-of.ensures
 
 returns : tie.Need-returns
 returns c =
     let a = c.before.before.before.args in
-    subst (λ f. Says (adornFigures f a.table.now a.lent) c.adorn-by-value.result) c.before.format-of.ensures c.adorn-by-value.ensures
+    subst (λ f. Says (adorn_figures f a.table.now a.lent) c.adorn-by-value.result) c.before.format-of.ensures c.adorn-by-value.ensures
 
 pub adorned-at-spec : {M : Type 1} → statement M
 adorned-at-spec = tie.close (tie.spec (λ c κs. search rules) adorn-by-value-requires returns)

@@ -1,7 +1,7 @@
 -- `silmezga::build_index` meets its contract. Assumes nothing.
 use mathlib.Core.Path.{subst}
 use Rattle.indexes.specs.Built.{Builds}
-use Rattle.bytes.proofs.Laws.{format-served}
+use Rattle.octets.proofs.Laws.{format_served}
 use borrow.Author.Rules.{rules}
 use Rattle.silmezga.proofs.build_index.Statement.{statement}
 use Rattle.silmezga.proofs.build_index.Tie as tie
@@ -10,7 +10,7 @@ abbrev begun : tie.After-format-of → tie.Start
 begun k = k.before.before.before.before
 
 build-index-requires : tie.Need-build-index-requires
-build-index-requires c κs = let k = c.before.before in format-served _ (begun k).args.width k.format-of.ensures
+build-index-requires c κs = let k = c.before.before in format_served _ (begun k).args.width k.format-of.ensures
 
 returns : tie.Need-returns
 returns c =

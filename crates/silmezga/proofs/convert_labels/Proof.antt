@@ -3,13 +3,13 @@ use mathlib.Core.Path.{subst}
 use Rattle.paper.specs.Format.{Format}
 use Rattle.paper.specs.Labels.{convert}
 use Rattle.labels.specs.Answers.{Converts}
-use Rattle.bytes.proofs.Laws.{format-served}
+use Rattle.octets.proofs.Laws.{format_served}
 use borrow.Author.Rules.{rules}
 use Rattle.silmezga.proofs.convert_labels.Statement.{statement}
 use Rattle.silmezga.proofs.convert_labels.Tie as tie
 
 convert-requires : tie.Need-convert-requires
-convert-requires c κs = let s : tie.Start = search in let k : tie.After-format-of = search in format-served _ s.args.width k.format-of.ensures
+convert-requires c κs = let s : tie.Start = search in let k : tie.After-format-of = search in format_served _ s.args.width k.format-of.ensures
 
 returns : tie.Need-returns
 returns c =

@@ -2,13 +2,13 @@
 use mathlib.Core.Path.{◌≡◌, subst}
 use Rattle.paper.specs.Calls as Calls
 use Rattle.tables.specs.Reply.{examined}
-use Rattle.bytes.proofs.Laws.{format-served}
+use Rattle.octets.proofs.Laws.{format_served}
 use borrow.Author.Rules.{rules}
 use Rattle.silmezga.proofs.examine.Statement.{statement}
 use Rattle.silmezga.proofs.examine.Tie as tie
 
 examine-requires : tie.Need-examine-requires
-examine-requires c κs = format-served _ c.before.before.args.width c.format-of.ensures
+examine-requires c κs = format_served _ c.before.before.args.width c.format-of.ensures
 
 returns : tie.Need-returns
 returns c =

@@ -1,19 +1,19 @@
 -- `silmezga::judge_with_index` meets its contract. Assumes nothing.
 use mathlib.Core.Path.{◌≡◌, subst}
-use Rattle.paper.specs.Index.{judgeWith}
-use Rattle.judging.specs.Judged.{judged, inNumbers}
-use Rattle.bytes.proofs.Laws.{format-served}
+use Rattle.paper.specs.Index.{judge_with}
+use Rattle.judging.specs.Judged.{judged, in_numbers}
+use Rattle.octets.proofs.Laws.{format_served}
 use borrow.Author.Rules.{rules}
 use Rattle.silmezga.proofs.judge_with_index.Statement.{statement}
 use Rattle.silmezga.proofs.judge_with_index.Tie as tie
 
 judge-with-index-requires : tie.Need-judge-with-index-requires
-judge-with-index-requires c κs = let s : tie.Start = search in format-served _ s.args.width c.format-of.ensures
+judge-with-index-requires c κs = let s : tie.Start = search in format_served _ s.args.width c.format-of.ensures
 
 returns : tie.Need-returns
 returns c =
     let s : tie.Start = search in let a = s.args in
-    subst (λ f. judged c.judge-with-index.result ≡ inNumbers (judgeWith f a.table.now a.shape.now a.last.now a.next.now))
+    subst (λ f. judged c.judge-with-index.result ≡ in_numbers (judge_with f a.table.now a.shape.now a.last.now a.next.now))
     c.before.format-of.ensures c.judge-with-index.ensures
 
 pub judge-with-index-spec : {M : Type 1} → statement M

@@ -1,13 +1,13 @@
 -- `silmezga::look_up` meets its contract. Assumes nothing.
 use mathlib.Core.Path.{subst}
 use Rattle.tables.specs.Reply.{HandsBack}
-use Rattle.bytes.proofs.Laws.{format-served}
+use Rattle.octets.proofs.Laws.{format_served}
 use borrow.Author.Rules.{rules}
 use Rattle.silmezga.proofs.look_up.Statement.{statement}
 use Rattle.silmezga.proofs.look_up.Tie as tie
 
 look-up-requires : tie.Need-look-up-requires
-look-up-requires c κs = format-served _ c.before.before.args.width c.format-of.ensures
+look-up-requires c κs = format_served _ c.before.before.args.width c.format-of.ensures
 
 returns : tie.Need-returns
 returns c =

@@ -1,19 +1,19 @@
 -- `silmezga::look_up_refusal` meets its contract. Assumes nothing.
 use mathlib.Core.Path.{◌≡◌, subst}
-use Rattle.paper.specs.Calls.{lookUp}
-use Rattle.bytes.proofs.Laws.{format-served}
+use Rattle.paper.specs.Calls.{look_up}
+use Rattle.octets.proofs.Laws.{format_served}
 use borrow.Author.Rules.{rules}
 use Rattle.silmezga.proofs.look_up_refusal.Statement.{statement}
 use Rattle.silmezga.proofs.look_up_refusal.Tie as tie
 
 look-up-refusal-requires : tie.Need-look-up-refusal-requires
-look-up-refusal-requires c κs = format-served _ c.before.before.args.width c.format-of.ensures
+look-up-refusal-requires c κs = format_served _ c.before.before.args.width c.format-of.ensures
 
 returns : tie.Need-returns
 returns c =
     let a = c.before.before.before.args in
     let r = c.look-up-refusal in
-    subst (λ f. (r.result.number ≡ (lookUp f a.table.now a.row).number) × (r.result.place ≡ (lookUp f a.table.now a.row).place))
+    subst (λ f. (r.result.number ≡ (look_up f a.table.now a.row).number) × (r.result.place ≡ (look_up f a.table.now a.row).place))
     c.before.format-of.ensures r.ensures
 
 pub look-up-refusal-spec : {M : Type 1} → statement M

@@ -1,9 +1,9 @@
 -- `silmezga::print_tree` meets its contract. Assumes nothing.
 use mathlib.Core.Path.{subst}
 use Rattle.paper.specs.Format.{Format}
-use Rattle.grammar.specs.Typed.{printTree}
+use Rattle.grammar.specs.Typed.{print_tree}
 use Rattle.spelling.specs.Printed.{Prints}
-use Rattle.bytes.proofs.Laws.{format-served}
+use Rattle.octets.proofs.Laws.{format_served}
 use borrow.Author.Rules.{rules}
 use Rattle.silmezga.proofs.print_tree.Statement.{statement}
 use Rattle.silmezga.proofs.print_tree.Tie as tie
@@ -12,14 +12,14 @@ abbrev begun : tie.After-format-of → tie.Start
 begun k = k.before.before.before
 
 print-tree-requires : tie.Need-print-tree-requires
-print-tree-requires c κs = let k = c.before in format-served _ (begun k).args.width k.format-of.ensures
+print-tree-requires c κs = let k = c.before in format_served _ (begun k).args.width k.format-of.ensures
 
 returns : tie.Need-returns
 returns c =
     let v = c.before.before in
     let k = v.before.before in
     let a = (begun k).args in
-    subst (λ (f : Format). Prints (printTree f a.shape.now a.text.now) v.print-tree.result v.print-tree.new.1.1.0)
+    subst (λ (f : Format). Prints (print_tree f a.shape.now a.text.now) v.print-tree.result v.print-tree.new.1.1.0)
     k.format-of.ensures v.print-tree.ensures
 
 pub print-tree-spec : {M : Type 1} → statement M

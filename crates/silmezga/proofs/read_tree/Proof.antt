@@ -2,8 +2,8 @@
 use mathlib.Core.Path.{subst}
 use Rattle.paper.specs.Format.{Format}
 use Rattle.typed.specs.Read.{ReadsTree}
-use Rattle.bytes.proofs.Laws.{format-served}
-use Rattle.silmezga.proofs.Trees.{format-labelled}
+use Rattle.octets.proofs.Laws.{format_served}
+use Rattle.silmezga.proofs.Trees.{format_labelled}
 use borrow.Author.Rules.{rules}
 use Rattle.silmezga.proofs.read_tree.Statement.{statement}
 use Rattle.silmezga.proofs.read_tree.Tie as tie
@@ -14,7 +14,7 @@ begun k = k.before.before.before.before
 read-tree-requires : tie.Need-read-tree-requires
 read-tree-requires c κs =
     let k = c.before in
-    (format-served _ (begun k).args.width k.format-of.ensures, format-labelled _ (begun k).args.width k.format-of.ensures)
+    (format_served _ (begun k).args.width k.format-of.ensures, format_labelled _ (begun k).args.width k.format-of.ensures)
 
 returns : tie.Need-returns
 returns c =

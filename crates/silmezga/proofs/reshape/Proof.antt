@@ -1,7 +1,7 @@
 -- `silmezga::reshape` meets its contract. Assumes nothing.
 use mathlib.Core.Path.{subst}
 use Rattle.reshaping.specs.Reshaped.{Reshapes}
-use Rattle.bytes.proofs.Laws.{format-served}
+use Rattle.octets.proofs.Laws.{format_served}
 use borrow.Author.Rules.{rules}
 use Rattle.silmezga.proofs.reshape.Statement.{statement}
 use Rattle.silmezga.proofs.reshape.Tie as tie
@@ -10,7 +10,7 @@ reshape-requires : tie.Need-reshape-requires
 reshape-requires c κs =
     let s : tie.Start = search in
     let k : tie.After-format-of = search in
-    format-served _ s.args.width k.format-of.ensures
+    format_served _ s.args.width k.format-of.ensures
 
 returns : tie.Need-returns
 returns c =

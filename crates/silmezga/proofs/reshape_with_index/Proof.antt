@@ -1,7 +1,7 @@
 -- `silmezga::reshape_with_index` meets its contract. Assumes nothing.
 use mathlib.Core.Path.{subst}
 use Rattle.reshaping.specs.Reshaped.{ReshapesWith}
-use Rattle.bytes.proofs.Laws.{format-served}
+use Rattle.octets.proofs.Laws.{format_served}
 use borrow.Author.Rules.{rules}
 use Rattle.silmezga.proofs.reshape_with_index.Statement.{statement}
 use Rattle.silmezga.proofs.reshape_with_index.Tie as tie
@@ -10,7 +10,7 @@ reshape-with-index-requires : tie.Need-reshape-with-index-requires
 reshape-with-index-requires c κs =
     let s : tie.Start = search in
     let k : tie.After-format-of = search in
-    format-served _ s.args.width k.format-of.ensures
+    format_served _ s.args.width k.format-of.ensures
 
 returns : tie.Need-returns
 returns c =

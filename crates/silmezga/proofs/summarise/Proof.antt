@@ -2,13 +2,13 @@
 use mathlib.Core.Path.{◌≡◌, subst}
 use Rattle.paper.specs.Calls as Calls
 use Rattle.reshaping.specs.Reshaped.{summarised}
-use Rattle.bytes.proofs.Laws.{format-served}
+use Rattle.octets.proofs.Laws.{format_served}
 use borrow.Author.Rules.{rules}
 use Rattle.silmezga.proofs.summarise.Statement.{statement}
 use Rattle.silmezga.proofs.summarise.Tie as tie
 
 summarise-requires : tie.Need-summarise-requires
-summarise-requires c κs = format-served _ c.before.before.before.args.width c.format-of.ensures
+summarise-requires c κs = format_served _ c.before.before.before.args.width c.format-of.ensures
 
 returns : tie.Need-returns
 returns c =

@@ -1,19 +1,19 @@
 -- `silmezga::summarise_with_index` meets its contract. Assumes nothing.
 use mathlib.Core.Path.{◌≡◌, subst}
-use Rattle.paper.specs.Index.{summariseWith}
+use Rattle.paper.specs.Index.{summarise_with}
 use Rattle.reshaping.specs.Reshaped.{summarised}
-use Rattle.bytes.proofs.Laws.{format-served}
+use Rattle.octets.proofs.Laws.{format_served}
 use borrow.Author.Rules.{rules}
 use Rattle.silmezga.proofs.summarise_with_index.Statement.{statement}
 use Rattle.silmezga.proofs.summarise_with_index.Tie as tie
 
 summarise-with-index-requires : tie.Need-summarise-with-index-requires
-summarise-with-index-requires c κs = let s : tie.Start = search in format-served _ s.args.width c.format-of.ensures
+summarise-with-index-requires c κs = let s : tie.Start = search in format_served _ s.args.width c.format-of.ensures
 
 returns : tie.Need-returns
 returns c =
     let s : tie.Start = search in let a = s.args in
-    subst (λ f. summarised c.summarise-with-index.result ≡ summariseWith f a.table.now a.shape.now a.last.now a.next.now)
+    subst (λ f. summarised c.summarise-with-index.result ≡ summarise_with f a.table.now a.shape.now a.last.now a.next.now)
     c.before.format-of.ensures c.summarise-with-index.ensures
 
 pub summarise-with-index-spec : {M : Type 1} → statement M

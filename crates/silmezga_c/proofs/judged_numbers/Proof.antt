@@ -3,10 +3,10 @@ use mathlib.Core.Path.{◌≡◌, sym, ◌∙◌, ap₂}
 use mathlib.Core.List.{[], ◌∷◌, ◌++◌}
 use Rattle.paper.specs.Lists.{padded}
 use Rattle.paper.specs.Calls.{Reply}
-use Rattle.judging.specs.Judged.{numbersOf}
+use Rattle.judging.specs.Judged.{numbers_of}
 use Rattle.judging.specs.declared.verdict.Verdict.{Verdict}
 use Rattle.silmezga_c.specs.Told.{InFour}
-use Rattle.silmezga_c.specs.Numbers.{toldOf, judgedNumbers}
+use Rattle.silmezga_c.specs.Numbers.{told_of, judged_numbers}
 use borrow.Author.Rules.{rules}
 use Rattle.silmezga_c.proofs.judged_numbers.Statement.{statement}
 use Rattle.silmezga_c.proofs.judged_numbers.Tie as tie
@@ -16,11 +16,11 @@ begun c = c.before
 
 -- what is told of a verdict, where the second answer is a number
 abbrev numbers : tie.After-as-number → Verdict → Reply InFour
-numbers c v = toldOf (begun c).args.j (padded 3 (numbersOf v) ++ (c.as_number.result ∷ []))
+numbers c v = told_of (begun c).args.j (padded 3 (numbers_of v) ++ (c.as_number.result ∷ []))
 
 -- told of the verdict that was judged, it is what the contract says
-told : (c : tie.After-as-number) {v : Verdict} → (begun c).args.j.verdict ≡ v → numbers c v ≡ judgedNumbers (begun c).args.j
-told c e = ap₂ (λ v n. toldOf (begun c).args.j (padded 3 (numbersOf v) ++ (n ∷ []))) (sym e) c.as_number.ensures
+told : (c : tie.After-as-number) {v : Verdict} → (begun c).args.j.verdict ≡ v → numbers c v ≡ judged_numbers (begun c).args.j
+told c e = ap₂ (λ v n. told_of (begun c).args.j (padded 3 (numbers_of v) ++ (n ∷ []))) (sym e) c.as_number.ensures
 
 returns : tie.Need-returns
 returns c =

@@ -45,8 +45,8 @@ use Rattle.paper.specs.contracts.Width as E
 use Rattle.paper.proofs.Width.TheLaws as E'
 use Rattle.paper.specs.Calls.{adorn}
 use Rattle.adorned.specs.Told.{told}
-use Rattle.adorned.specs.Lent.{adornedTypes}
-use Rattle.silmezga_c.specs.Told.{width_of, formatNumbered}
+use Rattle.adorned.specs.Lent.{adorned_types}
+use Rattle.silmezga_c.specs.Told.{width_of, format_numbered}
 use Rattle.adorned.specs.declared.TypeSummary.{TypeSummary}
 use Rattle.adorned.specs.declared.lent.AdornedTypes.{AdornedTypes}
 use Rattle.adorned.specs.contracts.TypeSummary as S
@@ -70,7 +70,7 @@ stayed = (stay_none (λ _. u32) yes, (stay_none_slice (0 ∷ []) tt (plain (λ _
 
 -- the two clauses: what is answered, and what is left in the lent summaries
 abbrev Answers : Format → List ℕ → List TypeSummary → AdornedTypes → Type 0
-Answers f t ss r = adornedTypes r ≡ (adorn f t (map told ss)).reply
+Answers f t ss r = adorned_types r ≡ (adorn f t (map told ss)).reply
 
 abbrev Leaves : Format → List ℕ → List TypeSummary → List TypeSummary → Type 0
 Leaves f t ss zs = map told zs ≡ (adorn f t (map told ss)).summaries
@@ -134,7 +134,7 @@ module _ {M : Type 1} {𝓤 : Ura M} (𝓛 : Logic 𝓤) (mem : Memory → SProp
     goes : ent 𝓤 (sep 𝓤 (sep 𝓤 (A.lft κ q) (sep 𝓤 (A.lft κ' q') (sem 𝓛 ftrue))) (sem 𝓛 Owned)) ((Adorn 𝓛 mem run).pre to-adorn)
     goes = qed 𝓛 ((‵ (flft κ q) ⊛ ‵ (flft κ' q') ⊛ ‵ ftrue) ∷ ‵ Owned ∷ []) ∵ move ! (1 ∷ []) $ owned ! E.the_row (Is E.the_row) (EL.makes E.the_type E'.the_plain 𝓛) d _ d-is $ fjoin ! $ nothing ! $ move ! (2 ∷ 1 ∷ 0 ∷ []) $ join ! $ done !
 
-  exits : (r : AdornedTypes) (w : Val) (zs : List TypeSummary) → Answers (formatNumbered n) x.now z.now r → Leaves (formatNumbered n) x.now z.now zs → length zs ≡ length z.now
+  exits : (r : AdornedTypes) (w : Val) (zs : List TypeSummary) → Answers (format_numbered n) x.now z.now r → Leaves (format_numbered n) x.now z.now zs → length zs ≡ length z.now
       → ent 𝓤 (⋆ 𝓛 ((‵ (flft κ q) ⊛ ‵ (flft κ' q') ⊛ ‵ ftrue) ∷ ‵ Table ∷ ‵ (finally S.the_row z.name zs) ∷ ‵ ((R.the_row).own_val r (w ∷ [])) ∷ [])) (Post w)
   exits r w zs answers leaves l =
       qed 𝓛 ((‵ (flft κ q) ⊛ ‵ (flft κ' q') ⊛ ‵ ftrue) ∷ ‵ Table ∷ ‵ (finally S.the_row z.name zs) ∷ ‵ ((R.the_row).own_val r (w ∷ [])) ∷ []) ∵

@@ -2,9 +2,9 @@
 use mathlib.Core.Path.{◌≡◌, ◌∙◌, subst}
 use Rattle.paper.specs.Widths.{format_of}
 use Rattle.paper.specs.Calls.{judge}
-use Rattle.judging.specs.Judged.{judged, inNumbers}
-use Rattle.silmezga_c.specs.Told.{formatNumbered}
-use Rattle.silmezga_c.proofs.Told.{in-four-lem}
+use Rattle.judging.specs.Judged.{judged, in_numbers}
+use Rattle.silmezga_c.specs.Told.{format_numbered}
+use Rattle.silmezga_c.proofs.Told.{in_four_lem}
 use borrow.Author.Rules.{rules}
 use Rattle.silmezga_c.proofs.silmezga_judge.Statement.{statement}
 use Rattle.silmezga_c.proofs.silmezga_judge.Tie as tie
@@ -16,8 +16,8 @@ returns c =
     let start : tie.Start = search in
     let a = start.args in
     let r = j.judge.result in
-    let e = subst (λ w. judged r ≡ inNumbers (judge (format_of w) a.table.now a.shape.now)) k.width_of_lem.ensures j.judge.ensures in
-    c.judged-numbers.ensures ∙ in-four-lem r (judge (formatNumbered a.width) a.table.now a.shape.now) e
+    let e = subst (λ w. judged r ≡ in_numbers (judge (format_of w) a.table.now a.shape.now)) k.width_of_lem.ensures j.judge.ensures in
+    c.judged-numbers.ensures ∙ in_four_lem r (judge (format_numbered a.width) a.table.now a.shape.now) e
 
 pub silmezga-judge-spec : {M : Type 1} → statement M
 silmezga-judge-spec = tie.close (tie.spec (λ c κs. search rules) (λ c κs. search rules) (λ c κs. search rules) returns)

@@ -2,7 +2,7 @@
 use mathlib.Core.Path.{subst}
 use Rattle.paper.specs.Widths.{format_of}
 use Rattle.paper.specs.declared.Width.{Width}
-use Rattle.grammar.specs.Typed.{printTree}
+use Rattle.grammar.specs.Typed.{print_tree}
 use Rattle.spelling.specs.Printed.{Prints}
 use borrow.Author.Rules.{rules}
 use Rattle.silmezga_c.proofs.silmezga_print_tree.Statement.{statement}
@@ -14,7 +14,7 @@ returns c =
     let k : tie.After-width-of = search in
     let start : tie.Start = search in
     let a = start.args in
-    subst (λ (w : Width). Prints (printTree (format_of w) a.shape.now a.text.now) v.print-tree.result v.print-tree.last.1.1.0)
+    subst (λ (w : Width). Prints (print_tree (format_of w) a.shape.now a.text.now) v.print-tree.result v.print-tree.last.1.1.0)
     k.width_of_lem.ensures v.print-tree.ensures
 
 pub silmezga-print-tree-spec : {M : Type 1} → statement M

@@ -1,7 +1,7 @@
 -- `silmezga_c::silmezga_summarise_with_index` meets its contract. Assumes nothing.
 use mathlib.Core.Path.{◌≡◌, subst}
 use Rattle.paper.specs.Widths.{format_of}
-use Rattle.paper.specs.Index.{summariseWith}
+use Rattle.paper.specs.Index.{summarise_with}
 use Rattle.reshaping.specs.Reshaped.{summarised}
 use borrow.Author.Rules.{rules}
 use Rattle.silmezga_c.proofs.silmezga_summarise_with_index.Statement.{statement}
@@ -12,7 +12,7 @@ returns c =
     let k : tie.After-width-of = search in
     let start : tie.Start = search in
     let a = start.args in
-    subst (λ w. summarised c.summarise-with-index.result ≡ summariseWith (format_of w) a.table.now a.shape.now a.last.now a.next.now)
+    subst (λ w. summarised c.summarise-with-index.result ≡ summarise_with (format_of w) a.table.now a.shape.now a.last.now a.next.now)
     k.width_of_lem.ensures c.summarise-with-index.ensures
 
 pub silmezga-summarise-with-index-spec : {M : Type 1} → statement M

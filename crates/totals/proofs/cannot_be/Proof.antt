@@ -6,8 +6,8 @@ use mir.Syntax.{w64}
 use mir.Val.{to_z, of_z}
 use borrow.Author.Tests.{le-leb, lt-leb, not-true, not-false}
 use Rattle.totals.specs.Sums.{within}
-use Rattle.totals.specs.Total.{mostTapes, mostSum}
-use Rattle.totals.proofs.TakingIn.{cannot-is}
+use Rattle.totals.specs.Total.{most_tapes, most_sum}
+use Rattle.totals.proofs.TakingIn.{cannot_is}
 use borrow.Author.Rules.{rules}
 use Rattle.totals.proofs.cannot_be.Statement.{statement}
 use Rattle.totals.proofs.cannot_be.Tie as tie
@@ -16,7 +16,7 @@ returns : tie.Need-returns
 returns c =
     let s : tie.Start = search in
     let x = s.args.total in
-    cannot-is x true (within (x.tapes * mostSum) x.shown) (within (x.tapes * mostSum) x.unshown) (le-leb mostTapes x.tapes c.if1.true) refl refl
+    cannot_is x true (within (x.tapes * most_sum) x.shown) (within (x.tapes * most_sum) x.unshown) (le-leb most_tapes x.tapes c.if1.true) refl refl
 
 returns-2 : tie.Need-returns-2
 returns-2 c =
@@ -26,8 +26,8 @@ returns-2 c =
     let e : tie.Else1 = search in
     let x = s.args.total in
     let shown : to_z w64 (of_z w64 x.shown) ≡ x.shown = search rules in
-    cannot-is x false false (within (x.tapes * mostSum) x.unshown) (lt-leb mostTapes x.tapes e.if1.left)
-    (ap (within (x.tapes * mostSum)) (sym shown) ∙ sym l.lies_within.ensures ∙ not-true l.lies_within.result c.if2.true) refl
+    cannot_is x false false (within (x.tapes * most_sum) x.unshown) (lt-leb most_tapes x.tapes e.if1.left)
+    (ap (within (x.tapes * most_sum)) (sym shown) ∙ sym l.lies_within.ensures ∙ not-true l.lies_within.result c.if2.true) refl
 
 returns-3 : tie.Need-returns-3
 returns-3 c =
@@ -40,9 +40,9 @@ returns-3 c =
     let x = s.args.total in
     let shown : to_z w64 (of_z w64 x.shown) ≡ x.shown = search rules in
     let unshown : to_z w64 (of_z w64 x.unshown) ≡ x.unshown = search rules in
-    cannot-is x false true c.lies-within2.result (lt-leb mostTapes x.tapes e.if1.left)
-    (ap (within (x.tapes * mostSum)) (sym shown) ∙ sym l.lies_within.ensures ∙ not-false l.lies_within.result f.if2.left)
-    (ap (within (x.tapes * mostSum)) (sym unshown) ∙ sym c.lies-within2.ensures)
+    cannot_is x false true c.lies-within2.result (lt-leb most_tapes x.tapes e.if1.left)
+    (ap (within (x.tapes * most_sum)) (sym shown) ∙ sym l.lies_within.ensures ∙ not-false l.lies_within.result f.if2.left)
+    (ap (within (x.tapes * most_sum)) (sym unshown) ∙ sym c.lies-within2.ensures)
 
 pub cannot-be-spec : {M : Type 1} → statement M
 cannot-be-spec = tie.close (tie.spec returns (λ c. search rules) (λ c κs. search rules) returns-2 (λ c κs. search rules) returns-3)

@@ -4,8 +4,8 @@ use lib.ListN.{length, replicate, length-replicate}
 use Prim.Native.Nat.{ℕ}
 use native.Mathlib.Omega.{arith}
 use Rattle.paper.specs.Widths.{format_of}
-use Rattle.totals.proofs.WidthBytes.{room-for-lines}
-use Rattle.totals.proofs.Marked.{entry-few, lines_fit, marks-lines}
+use Rattle.totals.proofs.WidthBytes.{room_for_lines}
+use Rattle.totals.proofs.Marked.{entry_few, lines_fit, marks_lines}
 use borrow.Author.Rules.{rules}
 use Rattle.totals.proofs.mark_lines.Statement.{statement}
 use Rattle.totals.proofs.mark_lines.Tie as tie
@@ -16,8 +16,8 @@ mark-shown-requires c κs =
     let s : tie.Start = search in
     let f = format_of s.args.width in (
       lines_fit f s.args.table.now s.args.shape.now s.args.entry s.pre.0
-          (replicate 114688 0) (replicate 4096 0) (room-for-lines s.args.width) x.reshape.ensures,
-      omega (arith, entry-few f s.args.table.now s.args.shape.now s.args.entry s.pre.0),
+          (replicate 114688 0) (replicate 4096 0) (room_for_lines s.args.width) x.reshape.ensures,
+      omega (arith, entry_few f s.args.table.now s.args.shape.now s.args.entry s.pre.0),
       ap length s.pre.1 ∙ length-replicate {A = ℕ} 1024 0,
     )
 
@@ -26,8 +26,8 @@ returns c =
     let m : tie.After-mark-shown = search in
     let x : tie.After-reshape = search in
     let s : tie.Start = search in
-    marks-lines (format_of s.args.width) s.args.table.now s.args.shape.now s.args.entry s.pre.0
-    (replicate 114688 0) (replicate 4096 0) (room-for-lines s.args.width) x.reshape.ensures
+    marks_lines (format_of s.args.width) s.args.table.now s.args.shape.now s.args.entry s.pre.0
+    (replicate 114688 0) (replicate 4096 0) (room_for_lines s.args.width) x.reshape.ensures
     s.args.marks.now m.mark-shown.last.1.1.1.0 s.pre.1 m.mark-shown.ensures
 
 pub mark-lines-spec : {M : Type 1} → statement M

@@ -7,12 +7,12 @@ use lib.ListN.{length, take, drop, replicate}
 use lib.Seq.{length-take-le}
 use native.Mathlib.Omega.{arith}
 use Rattle.paper.specs.Widths.{format_of}
-use Rattle.paper.specs.Calls.{roomIn}
-use Rattle.totals.specs.Tape.{typeRows}
-use Rattle.totals.specs.Rows.{RowsOf, value_at, isMarked, addedUp}
+use Rattle.paper.specs.Calls.{room_in}
+use Rattle.totals.specs.Tape.{type_rows}
+use Rattle.totals.specs.Rows.{RowsOf, value_at, is_marked, added_up}
 use Rattle.totals.proofs.Passed.{passed}
 use Rattle.totals.proofs.Alone.{places}
-use Rattle.totals.proofs.WidthBytes.{entry-most, room-for-rows}
+use Rattle.totals.proofs.WidthBytes.{entry_most, room_for_rows}
 use Rattle.totals.proofs.Listed.{entry_in, rows_of, listed}
 use borrow.Author.Rules.{rules}
 use Rattle.totals.proofs.sum_rows.Statement.{statement}
@@ -26,7 +26,7 @@ put-alone-requires c κs =
     let bytes = e.entry-bytes.ensures in (
       subst (λ n. n * s.args.entry + n ≤ length s.args.shape.now) (sym bytes) (entry_in f s.args.shape.now s.args.entry s.pre.0.inside),
       omega (arith, bytes),
-      omega (arith, bytes, entry-most s.args.width),
+      omega (arith, bytes, entry_most s.args.width),
     )
 
 array-share-prefix-alone : tie.Need-array-share-prefix-alone
@@ -34,7 +34,7 @@ array-share-prefix-alone c =
     let s : tie.Start = search in
     let e : tie.After-entry-bytes = search in
     let p : tie.After-put-alone = search in
-    omega (arith, e.entry-bytes.ensures, entry-most s.args.width, p.put_alone.kept)
+    omega (arith, e.entry-bytes.ensures, entry_most s.args.width, p.put_alone.kept)
 
 slice-aggregate-reshape : tie.Need-slice-aggregate-reshape
 slice-aggregate-reshape c =
@@ -42,7 +42,7 @@ slice-aggregate-reshape c =
     let e : tie.After-entry-bytes = search in
     let p : tie.After-put-alone = search in
     sym (length-take-le e.entry-bytes.result p.put_alone.last.1.1.1.0
-    (omega (arith, e.entry-bytes.ensures, entry-most s.args.width, p.put_alone.kept)))
+    (omega (arith, e.entry-bytes.ensures, entry_most s.args.width, p.put_alone.kept)))
 
 add-up-requires : tie.Need-add-up-requires
 add-up-requires c κs =
@@ -55,15 +55,15 @@ add-up-requires c κs =
     let t = s.args.table.now in
     let sb = s.args.shape.now in
     let bytes = e.entry-bytes.ensures in
-    let room : 1024 ≤ roomIn f (replicate 28672 0) (replicate 1024 0) = omega (arith, room-for-rows s.args.width) in
+    let room : 1024 ≤ room_in f (replicate 28672 0) (replicate 1024 0) = omega (arith, room_for_rows s.args.width) in
     let is-alone = p.put_alone.ensures ∙ ap (λ n. 1 ∷ drop 1 (take n (drop (n * s.args.entry) sb))) bytes in
     let w = s.pre.0.work in
-    let past = passed f t sb w s.pre.0.passes1-7 in
+    let past = passed f t sb w s.pre.0.passes1_7 in
     let rows = listed f t sb w past s.args.entry s.pre.0.inside (replicate 28672 0) (replicate 1024 0) room
     (take e.entry-bytes.result p.put_alone.last.1.1.1.0) is-alone x.reshape.ensures in (
-      (rows.long, rows.few, s.pre.1, omega (arith, bytes, b.row-bytes.ensures), omega (arith, b.row-bytes.ensures, entry-most s.args.width)),
+      (rows.long, rows.few, s.pre.1, omega (arith, bytes, b.row-bytes.ensures), omega (arith, b.row-bytes.ensures, entry_most s.args.width)),
       subst (λ is. RowsOf b.row-bytes.result t is) (sym rows.rows_are)
-          (subst (λ n. RowsOf n t (places (typeRows w s.args.entry))) (sym b.row-bytes.ensures) (rows_of f t sb w past s.args.entry)),
+          (subst (λ n. RowsOf n t (places (type_rows w s.args.entry))) (sym b.row-bytes.ensures) (rows_of f t sb w past s.args.entry)),
     )
 
 returns : tie.Need-returns
@@ -77,12 +77,12 @@ returns c w h =
     let t = s.args.table.now in
     let sb = s.args.shape.now in
     let bytes = e.entry-bytes.ensures in
-    let room : 1024 ≤ roomIn f (replicate 28672 0) (replicate 1024 0) = omega (arith, room-for-rows s.args.width) in
+    let room : 1024 ≤ room_in f (replicate 28672 0) (replicate 1024 0) = omega (arith, room_for_rows s.args.width) in
     let is-alone = p.put_alone.ensures ∙ ap (λ n. 1 ∷ drop 1 (take n (drop (n * s.args.entry) sb))) bytes in
     let rows = listed f t sb w (passed f t sb w h) s.args.entry s.pre.0.inside (replicate 28672 0) (replicate 1024 0) room
     (take e.entry-bytes.result p.put_alone.last.1.1.1.0) is-alone x.reshape.ensures in
     c.add-up.ensures
-    ∙ (λ i. addedUp (value_at (b.row-bytes.ensures i) (bytes i) t) (isMarked s.args.marks.now) (rows.rows_are i) (pos 0) (pos 0))
+    ∙ (λ i. added_up (value_at (b.row-bytes.ensures i) (bytes i) t) (is_marked s.args.marks.now) (rows.rows_are i) (pos 0) (pos 0))
 
 pub sum-rows-spec : {M : Type 1} → statement M
 sum-rows-spec =

@@ -6,7 +6,7 @@ use native.Mathlib.Omega.{arith}
 use Rattle.paper.specs.Widths.{format_of}
 use Rattle.reshaping.specs.Reshaped.{summarised}
 use Rattle.totals.specs.Told.{tape, summed}
-use Rattle.totals.proofs.Summing.{told-together, as-summarised, no-entry, has-entry, summed-up}
+use Rattle.totals.proofs.Summing.{told-together, as_summarised, no_entry, has-entry, summed-up}
 use borrow.Author.Rules.{rules}
 use Rattle.totals.proofs.sum_tape.Statement.{statement}
 use Rattle.totals.proofs.sum_tape.Tie as tie
@@ -18,7 +18,7 @@ returns c =
     let t = tape (format_of s.args.width) s.args.table.now s.args.shape.now s.args.entry in
     told-together t c.refused.result
     (c.refused.ensures
-    ∙ as-summarised t.format t.table t.shape t.entry (summarised x.summarise.result) x.summarise.ensures c.before.if1.true)
+    ∙ as_summarised t.format t.table t.shape t.entry (summarised x.summarise.result) x.summarise.ensures c.before.if1.true)
 
 returns-2 : tie.Need-returns-2
 returns-2 c =
@@ -29,7 +29,7 @@ returns-2 c =
     let t = tape (format_of s.args.width) s.args.table.now s.args.shape.now s.args.entry in
     told-together t c.refused2.result
     (c.refused2.ensures
-    ∙ no-entry t.format t.table t.shape t.entry (summarised x.summarise.result) x.summarise.ensures a.if1.left
+    ∙ no_entry t.format t.table t.shape t.entry (summarised x.summarise.result) x.summarise.ensures a.if1.left
     (subst (λ m. length t.shape / m ≤ t.entry) n.entry-bytes.ensures c.before.if2.true))
 
 mark-rows-requires : tie.Need-mark-rows-requires

@@ -3,7 +3,7 @@ use mathlib.Core.Path.{sym, ◌∙◌}
 use native.Mathlib.Omega.{arith}
 use Rattle.paper.specs.Widths.{format_of}
 use Rattle.totals.specs.Told.{tape}
-use Rattle.totals.proofs.TakingIn.{sum_fits, sum-held, as-summed, total-refused, tapes-few, sums-sound, tape-sound, total-with-lem}
+use Rattle.totals.proofs.TakingIn.{sum_fits, sum_held, as_summed, total-refused, tapes_few, sums_sound, tape-sound, total_with_lem}
 use borrow.Author.Rules.{rules}
 use Rattle.totals.proofs.take_in.Statement.{statement}
 use Rattle.totals.proofs.take_in.Tie as tie
@@ -13,7 +13,7 @@ returns c =
     let m : tie.After-sum-tape = search in
     let s : tie.Start = search in
     let t = tape (format_of s.args.width) s.args.table.now s.args.shape.now s.args.entry in
-    c.left.ensures ∙ as-summed s.args.total t m.sum-tape.result m.sum-tape.ensures.0 c.before.if1.true
+    c.left.ensures ∙ as_summed s.args.total t m.sum-tape.result m.sum-tape.ensures.0 c.before.if1.true
 
 returns-2 : tie.Need-returns-2
 returns-2 c =
@@ -23,7 +23,7 @@ returns-2 c =
     let s : tie.Start = search in
     let t = tape (format_of s.args.width) s.args.table.now s.args.shape.now s.args.entry in
     c.left2.ensures
-    ∙ total-refused s.args.total t m.sum-tape.result m.sum-tape.ensures.0 z.if1.left (sym n.cannot-be-lem.ensures ∙ c.before.if2.true)
+    ∙ total-refused s.args.total t m.sum-tape.result m.sum-tape.ensures.0 z.if1.left (sym n.cannot_be_lem.ensures ∙ c.before.if2.true)
 
 add-shown : tie.Need-overflow-add-shown
 add-shown c =
@@ -36,9 +36,9 @@ add-shown c =
     let r = m.sum-tape.result in
     let t = tape (format_of s.args.width) s.args.table.now s.args.shape.now s.args.entry in
     let told = m.sum-tape.ensures.0 in
-    let can = sym n.cannot-be-lem.ensures ∙ o.if2.left in
-    let few = tapes-few x t r told z.if1.left can in
-    let old = sums-sound x t r told z.if1.left can in
+    let can = sym n.cannot_be_lem.ensures ∙ o.if2.left in
+    let few = tapes_few x t r told z.if1.left can in
+    let old = sums_sound x t r told z.if1.left can in
     let new = tape-sound x t r told z.if1.left can in
     sum_fits x.tapes few x.shown r.shown old.0 new.0
 
@@ -53,9 +53,9 @@ add-unshown c =
     let r = m.sum-tape.result in
     let t = tape (format_of s.args.width) s.args.table.now s.args.shape.now s.args.entry in
     let told = m.sum-tape.ensures.0 in
-    let can = sym n.cannot-be-lem.ensures ∙ o.if2.left in
-    let few = tapes-few x t r told z.if1.left can in
-    let old = sums-sound x t r told z.if1.left can in
+    let can = sym n.cannot_be_lem.ensures ∙ o.if2.left in
+    let few = tapes_few x t r told z.if1.left can in
+    let old = sums_sound x t r told z.if1.left can in
     let new = tape-sound x t r told z.if1.left can in
     sum_fits x.tapes few x.unshown r.unshown old.1 new.1
 
@@ -70,9 +70,9 @@ add-tapes c =
     let r = m.sum-tape.result in
     let t = tape (format_of s.args.width) s.args.table.now s.args.shape.now s.args.entry in
     let told = m.sum-tape.ensures.0 in
-    let can = sym n.cannot-be-lem.ensures ∙ o.if2.left in
-    let few = tapes-few x t r told z.if1.left can in
-    let old = sums-sound x t r told z.if1.left can in
+    let can = sym n.cannot_be_lem.ensures ∙ o.if2.left in
+    let few = tapes_few x t r told z.if1.left can in
+    let old = sums_sound x t r told z.if1.left can in
     let new = tape-sound x t r told z.if1.left can in
     record { fits = omega (arith, few) }
 
@@ -87,13 +87,13 @@ returns-3 c =
     let r = m.sum-tape.result in
     let t = tape (format_of s.args.width) s.args.table.now s.args.shape.now s.args.entry in
     let told = m.sum-tape.ensures.0 in
-    let can = sym n.cannot-be-lem.ensures ∙ o.if2.left in
-    let few = tapes-few x t r told z.if1.left can in
-    let old = sums-sound x t r told z.if1.left can in
+    let can = sym n.cannot_be_lem.ensures ∙ o.if2.left in
+    let few = tapes_few x t r told z.if1.left can in
+    let old = sums_sound x t r told z.if1.left can in
     let new = tape-sound x t r told z.if1.left can in
-    total-with-lem x t r told z.if1.left can _ _
-    (sum-held x.tapes few x.shown r.shown old.0 new.0)
-    (sum-held x.tapes few x.unshown r.unshown old.1 new.1)
+    total_with_lem x t r told z.if1.left can _ _
+    (sum_held x.tapes few x.shown r.shown old.0 new.0)
+    (sum_held x.tapes few x.unshown r.unshown old.1 new.1)
 
 pub take-in-spec : {M : Type 1} → statement M
 take-in-spec =

@@ -2,7 +2,7 @@
 use mathlib.Core.Path.{◌≡◌, subst}
 use lib.IntN.{◌+ℤ◌}
 use Rattle.paper.specs.Widths.{format_of}
-use Rattle.totals.specs.Tape.{sumTape, sumOfType}
+use Rattle.totals.specs.Tape.{sum_tape, sum_of_type}
 use Rattle.totals.specs.Told.{tape, summed}
 use borrow.Author.Rules.{rules}
 use Rattle.totals_c.proofs.totals_sum_tape.Statement.{statement}
@@ -16,7 +16,7 @@ returns c =
     let r = c.sum-tape.result in
     subst (λ w.
     let t = tape (format_of w) a.table.now a.shape.now a.entry in
-    (summed r ≡ sumTape t) × (r.number ≡ 0 → r.shown +ℤ r.unshown ≡ sumOfType t))
+    (summed r ≡ sum_tape t) × (r.number ≡ 0 → r.shown +ℤ r.unshown ≡ sum_of_type t))
     k.width_of_lem.ensures c.sum-tape.ensures
 
 pub totals-sum-tape-spec : {M : Type 1} → statement M

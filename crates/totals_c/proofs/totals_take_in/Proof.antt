@@ -1,7 +1,7 @@
 -- `totals_take_in`: what is said at a width is said at the number that names it. Assumes nothing.
 use mathlib.Core.Path.{◌≡◌, subst}
 use Rattle.paper.specs.Widths.{format_of}
-use Rattle.totals.specs.Total.{takeIn}
+use Rattle.totals.specs.Total.{take_in}
 use Rattle.totals.specs.Told.{tape, taken}
 use borrow.Author.Rules.{rules}
 use Rattle.totals_c.proofs.totals_take_in.Statement.{statement}
@@ -12,7 +12,7 @@ returns c =
     let k : tie.After-width-of = search in
     let start : tie.Start = search in
     let a = start.args in
-    subst (λ w. taken c.take_in.result ≡ takeIn a.total (tape (format_of w) a.table.now a.shape.now a.entry))
+    subst (λ w. taken c.take_in.result ≡ take_in a.total (tape (format_of w) a.table.now a.shape.now a.entry))
     k.width_of_lem.ensures c.take_in.ensures
 
 pub totals-take-in-spec : {M : Type 1} → statement M

@@ -46,8 +46,8 @@ use denote.Triple.Walked.{says, needs, Stays, stay_none, stay_slice, walk_of, Go
 use denote.Exit.{yes}
 use denote.Signature.{plain}
 use Rattle.adorned.specs.declared.TypeSummary.{TypeSummary}
-use Rattle.adorned.proofs.Item.{item, item-is}
-use Rattle.adorned.proofs.Fronts.{front, front-next, front_long}
+use Rattle.adorned.proofs.Item.{item, item_is}
+use Rattle.adorned.proofs.Fronts.{front, front_next, front_long}
 use Rattle.adorned.specs.contracts.TypeSummary as T
 use Rattle.adorned.proofs.TypeSummary.TheLaws as T'
 use Rattle.adorned.specs.contracts.lent.store.Key.{name as #adorned·lent·store}
@@ -159,7 +159,7 @@ module _ {M : Type 1} {𝓤 : Ura M} (𝓛 : Logic 𝓤) (mem : Memory → SProp
       in_lent = subst (λ (k : ℕ). i < k) (sym (long i (omega (arith, small)))) (omega (arith, small, within))
 
       y-is : Is T.the_row y (v ∷ [])
-      y-is = item-is T.the_row val vals-tell none 64 xs _ i are in-xs
+      y-is = item_is T.the_row val vals-tell none 64 xs _ i are in-xs
 
       typed : T (has_ty T'.mir v) × WT v
       typed = ((LL.lawful T.the_type T'.the_laws 𝓛).typed y _ y-is).0
@@ -171,7 +171,7 @@ module _ {M : Type 1} {𝓤 : Ura M} (𝓛 : Logic 𝓤) (mem : Memory → SProp
       next_fits = omega (arith, small, few)
 
       next : set (zs i) i y ≡ zs (suc i)
-      next = front-next i xs ys none in-xs (omega (arith, small, within))
+      next = front_next i xs ys none in-xs (omega (arith, small, within))
 
     module _ (𝓣 : Tables 𝓤 H) (l₀ l₁ l₂ l₃ l₄ l₅ l₆ l₇ l₈ l₉ l₁₀ l₁₁ l₁₂ : ℕ) where
       abbrev C : Calls 𝓤 H

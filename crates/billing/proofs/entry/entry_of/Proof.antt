@@ -2,7 +2,7 @@
 use Prim.Native.Nat.{ℕ, ◌-◌, ◌≤◌, ◌<◌}
 use native.Mathlib.Omega.{arith}
 use mathlib.Core.Path.{◌≡◌}
-use Rattle.paper.specs.Format.{mostEntries}
+use Rattle.paper.specs.Format.{most_entries}
 use Rattle.grammar.specs.Text.{decimal}
 use Rattle.billing.proofs.Spelled.{found, none_found, one_more}
 use borrow.Author.Rules.{rules}
@@ -10,10 +10,10 @@ use Rattle.billing.proofs.entry.entry_of.Statement.{statement}
 use Rattle.billing.proofs.entry.entry_of.Tie as tie
 
 abbrev invariant-loop : tie.invariant-loop
-invariant-loop word e₀ e = (e ≤ mostEntries) × ((k : ℕ) → k < e → word ≡ decimal k → ⊥)
+invariant-loop word e₀ e = (e ≤ most_entries) × ((k : ℕ) → k < e → word ≡ decimal k → ⊥)
 
 abbrev decreases-loop : tie.decreases-loop
-decreases-loop word e₀ e = mostEntries - e
+decreases-loop word e₀ e = most_entries - e
 
 loop-holds : tie.Need-loop-init invariant-loop decreases-loop
 loop-holds c = (omega arith, λ k lt e. omega arith)

@@ -3,7 +3,7 @@ use mathlib.Core.Path.{sym}
 use Rattle.paper.specs.Widths.{format_of}
 use Rattle.totals.specs.Told.{tape}
 use Rattle.names.proofs.Putting.{put_as}
-use Rattle.billing.proofs.Taken.{number-told, total-told, refused-line, accepted, shown-grows, unshown-grows, counted-line}
+use Rattle.billing.proofs.Taken.{number-told, total-told, refused_line, accepted, shown_grows, unshown_grows, counted_line}
 use borrow.Author.Rules.{rules}
 use Rattle.billing.proofs.tape.put_taken.Statement.{statement}
 use Rattle.billing.proofs.tape.put_taken.Tie as tie
@@ -14,7 +14,7 @@ returns c =
     let test : tie.Then1 = search in
     let m : tie.After-take-in = search in let r = m.take_in.result in let told = m.take_in.ensures in
     let t = tape (format_of a.width) a.table.now a.shape.now a.entry in
-    let line = refused-line a.total t r told a.name.now test.if1.taken in (
+    let line = refused_line a.total t r told a.name.now test.if1.taken in (
       (put_as c.put-not-counted.ensures.0 line, number-told a.total t r told, total-told a.total t r told),
       c.put-not-counted.ensures.1,
     )
@@ -25,7 +25,7 @@ sub-shown c =
     let test : tie.Else1 = search in
     let m : tie.After-take-in = search in
     let t = tape (format_of a.width) a.table.now a.shape.now a.entry in
-    (shown-grows a.total t m.take_in.result m.take_in.ensures test.if1.left).0
+    (shown_grows a.total t m.take_in.result m.take_in.ensures test.if1.left).0
 
 sub-unshown : tie.Need-overflow-sub-unshown
 sub-unshown c =
@@ -33,7 +33,7 @@ sub-unshown c =
     let test : tie.Else1 = search in
     let m : tie.After-take-in = search in
     let t = tape (format_of a.width) a.table.now a.shape.now a.entry in
-    (unshown-grows a.total t m.take_in.result m.take_in.ensures test.if1.left).0
+    (unshown_grows a.total t m.take_in.result m.take_in.ensures test.if1.left).0
 
 returns-2 : tie.Need-returns-2
 returns-2 c =
@@ -41,7 +41,7 @@ returns-2 c =
     let test : tie.Else1 = search in
     let m : tie.After-take-in = search in let r = m.take_in.result in let told = m.take_in.ensures in
     let t = tape (format_of a.width) a.table.now a.shape.now a.entry in
-    let line = counted-line a.total t r told test.if1.left a.name.now in (
+    let line = counted_line a.total t r told test.if1.left a.name.now in (
       (put_as c.put-counted.ensures.0 line, sym (accepted a.total t r told test.if1.left), total-told a.total t r told),
       c.put-counted.ensures.1,
     )

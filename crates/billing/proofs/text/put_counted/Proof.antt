@@ -2,19 +2,19 @@
 use native.Mathlib.Omega.{arith}
 use Rattle.names.proofs.Putting.{put_then, put_as}
 use Rattle.screens.proofs.Lines.{fits}
-use Rattle.billing.specs.Billing.{countedText}
-use Rattle.billing.proofs.Signs.{held-sums}
+use Rattle.billing.specs.Billing.{counted_text}
+use Rattle.billing.proofs.Signs.{held_sums}
 use borrow.Author.Rules.{rules}
 use Rattle.billing.proofs.text.put_counted.Statement.{statement}
 use Rattle.billing.proofs.text.put_counted.Tie as tie
 
 returns : tie.Need-returns
-unfolding countedText
+unfolding counted_text
 returns c =
     let s : tie.Start = search in
     let folder : tie.After-put-bytes = search in
     let sums : tie.After-put-sums = search in
-    let both = put_as sums.put-sums.ensures.0 (held-sums s.args.shown s.args.unshown s.fits.shown s.fits.unshown) in
+    let both = put_as sums.put-sums.ensures.0 (held_sums s.args.shown s.args.unshown s.fits.shown s.fits.unshown) in
     fits (put_then (put_then folder.put-bytes.ensures both) c.put_byte.ensures) (omega arith)
 
 pub put-counted-spec : {M : Type 1} → statement M

@@ -2,13 +2,13 @@
 use native.Mathlib.Omega.{arith}
 use Rattle.names.proofs.Putting.{put_then}
 use Rattle.screens.proofs.Lines.{fits}
-use Rattle.billing.specs.Billing.{leftOutText}
+use Rattle.billing.specs.Billing.{left_out_text}
 use borrow.Author.Rules.{rules}
 use Rattle.billing.proofs.text.put_left_out.Statement.{statement}
 use Rattle.billing.proofs.text.put_left_out.Tie as tie
 
 returns : tie.Need-returns
-unfolding leftOutText
+unfolding left_out_text
 returns c =
     let word : tie.After-put-bytes = search in
     let number : tie.After-put-number = search in

@@ -2,13 +2,13 @@
 use native.Mathlib.Omega.{arith}
 use Rattle.names.proofs.Putting.{put_then}
 use Rattle.screens.proofs.Lines.{fits}
-use Rattle.billing.specs.Billing.{notCountedText}
+use Rattle.billing.specs.Billing.{not_counted_text}
 use borrow.Author.Rules.{rules}
 use Rattle.billing.proofs.text.put_not_counted.Statement.{statement}
 use Rattle.billing.proofs.text.put_not_counted.Tie as tie
 
 returns : tie.Need-returns
-unfolding notCountedText
+unfolding not_counted_text
 returns c =
     let folder : tie.After-put-bytes = search in
     let word : tie.After-put-bytes2 = search in

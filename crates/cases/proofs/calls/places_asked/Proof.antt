@@ -3,12 +3,12 @@ use Prim.Native.Nat.{◌*◌, ◌/◌, ◌≤◌}
 use native.Mathlib.Omega.{arith}
 use lib.ListN.{length}
 use borrow.Author.Rules.{rules}
-use Rattle.cases.proofs.Fits.{records-half}
+use Rattle.cases.proofs.Fits.{records_half}
 use Rattle.cases.proofs.calls.places_asked.Statement.{statement}
 use Rattle.cases.proofs.calls.places_asked.Tie as tie
 
 half : (c : tie.After-record-bytes) → 2 * (length c.before.before.args.t.now / c.record-bytes.result) ≤ length c.before.before.args.t.now
-half c = records-half c.record-bytes.result (length c.before.before.args.t.now) c.record-bytes.ensures.1
+half c = records_half c.record-bytes.result (length c.before.before.args.t.now) c.record-bytes.ensures.1
 
 add-result : tie.Need-overflow-add-result
 add-result c = let few = half c in search rules

@@ -6,7 +6,7 @@ use lib.Seq.{length-take-le}
 use borrow.Author.Rules.{rules}
 use Rattle.paper.specs.Tables.{rows}
 use Rattle.paper.specs.Widths.{format_of}
-use Rattle.paper.specs.Calls.{given, tests1-4}
+use Rattle.paper.specs.Calls.{given, tests1_4}
 use Rattle.cases.proofs.Chained.{past4}
 use Rattle.cases.proofs.chain.reshape_again.Statement.{statement}
 use Rattle.cases.proofs.chain.reshape_again.Tie as tie
@@ -29,7 +29,7 @@ returns c =
     let sized : tie.After-record-bytes = search in
     let called : tie.After-reshape = search in
     let f = format_of a.width in
-    past4 called.reshape.ensures (subst (λ (w : ℕ). tests1-4 f (take (w * a.lines) a.new.now) ≡ given (rows f (take (w * a.lines) a.new.now)))
+    past4 called.reshape.ensures (subst (λ (w : ℕ). tests1_4 f (take (w * a.lines) a.new.now) ≡ given (rows f (take (w * a.lines) a.new.now)))
     (sym sized.record-bytes.ensures.0) s.pre.1)
 
 pub reshape-again-spec : {M : Type 1} → statement M

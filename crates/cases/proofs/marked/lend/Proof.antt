@@ -46,16 +46,16 @@ use denote.Triple.Walked.{says, needs, Stays, stay_none, stay_none_slice, walk_o
 use denote.Exit.{yes}
 use denote.Signature.{plain}
 use Rattle.paper.specs.Calls as call
-use Rattle.silmezga_c.specs.Told.{formatNumbered}
+use Rattle.silmezga_c.specs.Told.{format_numbered}
 use Rattle.adorned.specs.Told.{told}
-use Rattle.adorned.specs.Lent.{adornedTypes}
+use Rattle.adorned.specs.Lent.{adorned_types}
 use Rattle.adorned.specs.declared.TypeSummary.{TypeSummary}
 use Rattle.adorned.specs.declared.lent.AdornedTypes.{AdornedTypes}
 use Rattle.cases.specs.Marked.{mark}
 use Rattle.cases.specs.declared.marked.Left.{Left}
-use Rattle.silmezga.proofs.Held.{summaries-in}
-use Rattle.cases.proofs.Marks.{left-of}
-use Rattle.cases.proofs.Rows.{row_cut, row-join, array_row, row-array}
+use Rattle.silmezga.proofs.Held.{summaries_in}
+use Rattle.cases.proofs.Marks.{left_of}
+use Rattle.cases.proofs.Rows.{row_cut, row-join, array_row, row_array}
 use Rattle.adorned.specs.contracts.TypeSummary as S
 use Rattle.adorned.proofs.TypeSummary.TheLaws as S'
 use Rattle.adorned.specs.contracts.lent.AdornedTypes as R
@@ -157,7 +157,7 @@ module _ {M : Type 1} {𝓤 : Ura M} (𝓛 : Logic 𝓤) (mem' : Memory → SPro
         move ! (2 ∷ []) $ split ! $ nothing ! $ move ! (2 ∷ 0 ∷ []) $ fjoin ! $ move ! (3 ∷ 0 ∷ []) $ fjoin ! $ owned ! u32 (Is u32) (uint_Makes 𝓛 w32) k _ (refl, k-fits) $ fjoin ! $ nothing ! $ move ! (2 ∷ 0 ∷ []) $ join ! $ move ! (2 ∷ 0 ∷ []) $ join ! $ move ! (0 ∷ 1 ∷ []) $ join ! $ frame ! $ nothing ! $ done !
 
     module _ (e : ys ≡ replicate 65 mark) (r : AdornedTypes) (vs : List Val) (is : Is R.the_row r vs) (zs : List TypeSummary) (l : length zs ≡ length (take n ys))
-        (er : adornedTypes r ≡ (call.adorn (formatNumbered k) x.now (map told (take n ys))).reply) (es : map told zs ≡ (call.adorn (formatNumbered k) x.now (map told (take n ys))).summaries) where
+        (er : adorned_types r ≡ (call.adorn (format_numbered k) x.now (map told (take n ys))).reply) (es : map told zs ≡ (call.adorn (format_numbered k) x.now (map told (take n ys))).summaries) where
       -- the places after the call, and the answer with them
       abbrev after : List TypeSummary
       after = zs ++ drop n ys
@@ -168,21 +168,21 @@ module _ {M : Type 1} {𝓤 : Ura M} (𝓛 : Logic 𝓤) (mem' : Memory → SPro
       abbrev answered : Left
       answered = record { number = r.number; place = r.place; types = r.types; summaries = after }
 
-      answer-is : (us : List Val) → Is (Array S.the_row 65) after us → Is L.the_row answered (L'.lowered answered ∷ [])
-      answer-is us are =
+      answer_is : (us : List Val) → Is (Array S.the_row 65) after us → Is L.the_row answered (L'.lowered answered ∷ [])
+      answer_is us are =
           let o = LL.owed R.the_type R'.the_laws r vs is in
-          let p = LL.owes L.the_type L'.the_laws answered (o.0, (o.1.0, (o.1.1.0, (summaries-in 65 after us are, tt)))) in
+          let p = LL.owes L.the_type L'.the_laws answered (o.0, (o.1.0, (o.1.1.0, (summaries_in 65 after us are, tt)))) in
           subst (Is L.the_row answered) ((L'.lowers).val_is answered _ p) p
 
       answer-fits : (us : List Val) → Is (Array S.the_row 65) after us → T (has_ty L'.mir (L'.lowered answered)) × WT (L'.lowered answered)
-      answer-fits us are = ((LL.lawful L.the_type L'.the_laws 𝓛).typed answered _ (answer-is us are)).0
+      answer-fits us are = ((LL.lawful L.the_type L'.the_laws 𝓛).typed answered _ (answer_is us are)).0
 
       exits : (us : List Val) → Is (Array S.the_row 65) after us → ent 𝓤 (⋆ 𝓛 (‵ (flft κ q) ∷ ‵ Table ∷ [])) (Post (L'.lowered answered))
       exits us are =
           qed 𝓛 (‵ (flft κ q) ∷ ‵ Table ∷ []) ∵
-          suffices ! _ (ends_at 𝓛 f.ended stayed (f.clauses 𝓛 mem' run) (((κ, tt), (q, tt), tt, a, machine), tt) (L'.lowered answered) answered (tt, (tt, (tt, tt))) (tt, (tt, (tt, tt)))) $ says ! (left-of (formatNumbered k) x.now n ys within e r zs er es) $
+          suffices ! _ (ends_at 𝓛 f.ended stayed (f.clauses 𝓛 mem' run) (((κ, tt), (q, tt), tt, a, machine), tt) (L'.lowered answered) answered (tt, (tt, (tt, tt))) (tt, (tt, (tt, tt)))) $ says ! (left_of (format_numbered k) x.now n ys within e r zs er es) $
           nothing ! $ move ! (1 ∷ 0 ∷ []) $ join ! $ frame ! $ nothing ! $ owned ! usize (Is usize) (uint_Makes 𝓛 w64) n _ (refl, n-fits) $ fjoin ! $ move ! (1 ∷ 0 ∷ []) $ fjoin ! $ owned ! u32 (Is u32) (uint_Makes 𝓛 w32) k _ (refl, k-fits) $ fjoin ! $
-          owned ! L.the_row (Is L.the_row) (LL.makes L.the_type L'.the_plain 𝓛) answered _ (answer-is us are) $ move ! (1 ∷ 0 ∷ []) $ done !
+          owned ! L.the_row (Is L.the_row) (LL.makes L.the_type L'.the_plain 𝓛) answered _ (answer_is us are) $ move ! (1 ∷ 0 ∷ []) $ done !
 
   module _ (C : Calls 𝓤 H) (Λ : Loops 𝓤 H) (fm : FmC 𝓤 H 𝓛.laws C) (known-marks : Triple 𝓤 (C #marks) (Marks 𝓛 mem' run)) (known-adorn : Triple 𝓤 (C #adorn) (Adorn 𝓛 mem' run)) where
     walk : Room u8 (length x.now) → ent 𝓤 (on_entry 𝓛 f.signature (κ, tt) (q, tt) a machine) (WpFn 𝓤 H C Λ code.function (vint w32 k ∷ s ∷ vint w64 n ∷ []) Post)
@@ -215,8 +215,8 @@ module _ {M : Type 1} {𝓤 : Ura M} (𝓛 : Logic 𝓤) (mem' : Memory → SPro
         calls_at ! fm (Adorn 𝓛 mem' run) known-adorn (to-adorn ys is.1.0.1 l₄ ν γ) (and_then ! (load ! (from ! (stop !)) (look ! 19 refl)) (and_then ! (load ! (from ! (stop !)) (look ! 17 refl)) (and_then ! (load ! (from ! (stop !)) (look ! 6 refl)) (no_more !)))) (λ w'.
         use1 𝓛 (later (some (λ (r : AdornedTypes). ((‵ (flft κ q) ⊛ ‵ (flft (ν ∷ []) full_share) ⊛ ‵ ftrue) ⊛ ‵ ((R.the_row).own_val r (w' ∷ []))) ⊛ raw (ensured 𝓛 adorn.ended (adorn.clauses 𝓛 mem' run) (κ, (ν ∷ [], tt)) (k, (x, (z ys is.1.0.1 l₄ γ, tt))) tt r)))) (id⊢ 𝓤 _) $ await ! tt $ pick ! (λ r.
         split ! $ move ! (1 ∷ []) $ use1 𝓛 (some (λ (zs : Unit {0} × (Unit {0} × (List TypeSummary × Unit {0}))). ‵ (lasts adorn.ended (κ, (ν ∷ [], tt)) (k, (x, (z ys is.1.0.1 l₄ γ, tt))) zs)
-        ⊛ (raw (fact 𝓤 (adornedTypes r ≡ (call.adorn (formatNumbered k) x.now (map told (take n ys))).reply)) ⊛ raw (fact 𝓤 (map told zs.1.1.0 ≡ (call.adorn (formatNumbered k) x.now (map told (take n ys))).summaries))))) (id⊢ 𝓤 _) $ pick ! (λ zs.
-        split ! $ move ! (1 ∷ []) $ split ! $ heard ! (adornedTypes r ≡ (call.adorn (formatNumbered k) x.now (map told (take n ys))).reply) (λ er. heard ! (map told zs.1.1.0 ≡ (call.adorn (formatNumbered k) x.now (map told (take n ys))).summaries) (λ es.
+        ⊛ (raw (fact 𝓤 (adorned_types r ≡ (call.adorn (format_numbered k) x.now (map told (take n ys))).reply)) ⊛ raw (fact 𝓤 (map told zs.1.1.0 ≡ (call.adorn (format_numbered k) x.now (map told (take n ys))).summaries))))) (id⊢ 𝓤 _) $ pick ! (λ zs.
+        split ! $ move ! (1 ∷ []) $ split ! $ heard ! (adorned_types r ≡ (call.adorn (format_numbered k) x.now (map told (take n ys))).reply) (λ er. heard ! (map told zs.1.1.0 ≡ (call.adorn (format_numbered k) x.now (map told (take n ys))).summaries) (λ es.
         fsplit ! $ discard ! $ fsplit ! $ discard ! $ fsplit ! $ fsplit ! $ move ! (1 ∷ []) $ feq_l ! (λ l.
         -- [the last list; …; the tokens and the result; …; what the table owns; …; the lender's part; the other places; _7; …]
         move ! (2 ∷ []) $ split ! $ move ! (1 ∷ []) $ facts ! R.the_row (Is R.the_row) (shows 𝓛 R.the_row) r (w' ∷ []) (λ is-r.
@@ -229,7 +229,7 @@ module _ {M : Type 1} {𝓤 : Ura M} (𝓛 : Logic 𝓤) (mem' : Memory → SPro
         rewrite ! 1 (λ (m : ℕ). ‵ (row S.the_row full_share (drop n ys) l₄ (place (mem S.the_row).size 0 m))) (sym l) refl $
         use2 𝓛 (‵ (row S.the_row full_share (zs.1.1.0 ++ drop n ys) l₄ 0)) (row-join 𝓛 S.the_row zs.1.1.0 (drop n ys) l₄ 0) $
         use1 𝓛 (given (Is (Array S.the_row 65) (zs.1.1.0 ++ drop n ys) (array_val (map S'.lowered (zs.1.1.0 ++ drop n ys)) ∷ [])) (‵ (fat full_share (ty_array S'.mir 65) l₄ 0 (array_val (map S'.lowered (zs.1.1.0 ++ drop n ys))))))
-        (row-array 𝓛 S.the_row tt S'.lowered vals-tell makes 65 (zs.1.1.0 ++ drop n ys) l₄ 0 (after-many ys is.1.0.1 l₄ e r (w' ∷ []) is-r zs.1.1.0 l er es)) $ learn ! (λ are.
+        (row_array 𝓛 S.the_row tt S'.lowered vals-tell makes 65 (zs.1.1.0 ++ drop n ys) l₄ 0 (after-many ys is.1.0.1 l₄ e r (w' ∷ []) is-r zs.1.1.0 l er es)) $ learn ! (λ are.
         -- [_3; …; the token at 2; …; what the table owns at 5; …; _7 at 7; …]
         assigns ! (of_opd ! (load ! (from ! (stop !)) (look ! 0 refl))) (from ! (stop !)) (store ! 11 refl (array-fits (zs.1.1.0 ++ drop n ys) _ are)) $
         assigns ! (agg ! (and_then ! (load ! (from ! (fld ! refl (stop !))) (look_in ! 13 (sub ! 0 refl (whole !)))) (and_then ! (load ! (from ! (fld ! refl (stop !))) (look_in ! 13 (sub ! 1 refl (whole !)))) (and_then ! (load ! (from ! (fld ! refl (stop !))) (look_in ! 13 (sub ! 2 refl (whole !)))) (and_then ! (load ! (from ! (stop !)) (look ! 11 refl)) (no_more !)))))) (from ! (stop !))

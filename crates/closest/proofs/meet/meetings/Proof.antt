@@ -38,7 +38,7 @@ onward-requires c κs = let l = turn c in (begun l).pre.0.level-some l.loop.i (o
 deepen-requires : tie.Need-deepen-requires invariant-loop decreases-loop
 deepen-requires c κs =
     let l = turn c.before.before.before in
-    omega (arith, (begun l).pre.0.type-few l.loop.i (omega arith), c.wide.ensures.0, l.loop.inv.1.long)
+    omega (arith, (begun l).pre.0.type_few l.loop.i (omega arith), c.wide.ensures.0, l.loop.inv.1.long)
 
 loop-again : tie.Need-loop-preserved invariant-loop decreases-loop
 loop-again c =

@@ -2,15 +2,15 @@
 use Prim.Native.Nat.{◌-◌, ◌≤◌}
 use native.Mathlib.Omega.{arith}
 use mathlib.Core.Path.{ap}
-use Rattle.paper.specs.Format.{mostRows, byte}
+use Rattle.paper.specs.Format.{most_rows, byte}
 use Rattle.closest.proofs.Filled.{Filled, filled_none, filled_more}
-use Rattle.closest.proofs.Meetings.{firstByte, row_inside, levels-read}
+use Rattle.closest.proofs.Meetings.{first_byte, row_inside, levels_read}
 use borrow.Author.Rules.{rules}
 use Rattle.closest.proofs.meet.row_levels.Statement.{statement}
 use Rattle.closest.proofs.meet.row_levels.Tie as tie
 
 abbrev invariant-loop : tie.invariant-loop
-invariant-loop table rows levels₀ w i₀ levels i = (i ≤ rows) × Filled (firstByte w table) 0 mostRows i levels
+invariant-loop table rows levels₀ w i₀ levels i = (i ≤ rows) × Filled (first_byte w table) 0 most_rows i levels
 
 abbrev decreases-loop : tie.decreases-loop
 decreases-loop table rows levels₀ w i₀ levels i = rows - i
@@ -19,7 +19,7 @@ abbrev begun : tie.At-loop invariant-loop decreases-loop → tie.Start invariant
 begun l = l.before.before.before.before
 
 loop-holds : tie.Need-loop-init invariant-loop decreases-loop
-loop-holds c = (omega arith, filled_none _ 0 mostRows _ c.before.before.before.requires.1)
+loop-holds c = (omega arith, filled_none _ 0 most_rows _ c.before.before.before.requires.1)
 
 record-requires : tie.Need-record-requires invariant-loop decreases-loop
 record-requires c κs =
@@ -31,14 +31,14 @@ loop-again : tie.Need-loop-preserved invariant-loop decreases-loop
 loop-again c =
     let l = c.before.before.before in
     let first = ap (λ b. byte b 0) c.before.«record».ensures.0 in
-    (omega arith, filled_more _ 0 mostRows l.loop.i l.loop.levels _ (omega arith) l.loop.invariant.1 first)
+    (omega arith, filled_more _ 0 most_rows l.loop.i l.loop.levels _ (omega arith) l.loop.invariant.1 first)
 
 returns : tie.Need-returns invariant-loop decreases-loop
 returns c =
     let l = c.before in
     let a = (begun l).args in
     let wide = l.before.row-bytes.ensures in
-    levels-read a.f a.rows a.table.now (begun l).requires.0 _ wide l.loop.i l.loop.levels (omega arith) l.loop.invariant.1
+    levels_read a.f a.rows a.table.now (begun l).requires.0 _ wide l.loop.i l.loop.levels (omega arith) l.loop.invariant.1
 
 pub row-levels-spec : {M : Type 1} → statement M
 row-levels-spec =

@@ -3,8 +3,8 @@ use Prim.Native.Nat.{ℕ}
 use native.Mathlib.Omega.{arith}
 use mathlib.Core.List.{List}
 use Rattle.paper.specs.Format.{Format}
-use Rattle.bytes.specs.Served.{Served}
-use Rattle.closest.proofs.Read.{Tabled, Listed, refusal, table-refused, table-passed, list-asked, types-refused, types-listed, sound-rows, rows-read}
+use Rattle.octets.specs.Served.{Served}
+use Rattle.closest.proofs.Read.{Tabled, Listed, refusal, table-refused, table_passed, list_asked, types-refused, types-listed, sound-rows, rows-read}
 use borrow.Author.Rules.{rules}
 use Rattle.closest.proofs.rows.read_rows.Statement.{statement}
 use Rattle.closest.proofs.rows.read_rows.Tie as tie
@@ -38,7 +38,7 @@ levels v = v.row-levels.new.1.1.1.0
 
 -- ---- what each test that passed leaves known
 tabled : (c : tie.Else1) → Tabled (format c.before) (table c.before) c.before.examine.result.rows
-tabled c = let x = c.before in table-passed (format x) (table x) x.examine.result x.examine.ensures c.if1.false
+tabled c = let x = c.before in table_passed (format x) (table x) x.examine.result x.examine.ensures c.if1.false
 
 listed : (c : tie.Else2) →
     let l = listed_at c in
@@ -57,7 +57,7 @@ list-types-requires : tie.Need-list-types-requires
 list-types-requires c κs =
     let u = c.before in
     let x = u.before in
-    let (asked, kept) = list-asked (served x) (tabled u) in
+    let (asked, kept) = list_asked (served x) (tabled u) in
     (asked, (kept, (begun x).requires.2))
 
 returns-2 : tie.Need-returns-2

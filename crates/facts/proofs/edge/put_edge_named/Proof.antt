@@ -4,13 +4,13 @@ use native.Mathlib.Omega.{arith}
 use Rattle.io.proofs.Counting.{prefix_len_of_le}
 use Rattle.grammar.specs.Text.{followed, parted}
 use Rattle.names.proofs.Putting.{as_long, put_then}
-use Rattle.facts.specs.Facts.{edgeFact}
+use Rattle.facts.specs.Facts.{edge_fact}
 use borrow.Author.Rules.{rules}
 use Rattle.facts.proofs.edge.put_edge_named.Statement.{statement}
 use Rattle.facts.proofs.edge.put_edge_named.Tie as tie
 
 returns : tie.Need-returns
-unfolding followed parted edgeFact
+unfolding followed parted edge_fact
 returns c =
     let numbers = c.before.before in
     let below = numbers.before.before in

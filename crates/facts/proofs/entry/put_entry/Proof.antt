@@ -2,13 +2,13 @@
 use native.Mathlib.Omega.{arith}
 use Rattle.io.proofs.Counting.{prefix_len_of_le}
 use Rattle.names.proofs.Putting.{as_long, put_then, put_last}
-use Rattle.facts.specs.Facts.{joinedLine, entryText}
+use Rattle.facts.specs.Facts.{joined_line, entry_text}
 use borrow.Author.Rules.{rules}
 use Rattle.facts.proofs.entry.put_entry.Statement.{statement}
 use Rattle.facts.proofs.entry.put_entry.Tie as tie
 
 returns : tie.Need-returns
-unfolding joinedLine entryText
+unfolding joined_line entry_text
 returns c =
     let labels = c.before.before in
     let colon = labels.before.before in

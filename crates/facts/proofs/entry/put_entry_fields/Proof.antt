@@ -2,7 +2,7 @@
 use Rattle.io.proofs.Counting.{prefix_len_of_le}
 use Rattle.paper.specs.Shapes.{entry_of}
 use Rattle.names.proofs.Putting.{put_then, put_last}
-use Rattle.facts.specs.Facts.{joinedLine, entryFields}
+use Rattle.facts.specs.Facts.{joined_line, entry_fields}
 use Rattle.facts.proofs.Parts.{room}
 use borrow.Author.Rules.{rules}
 use Rattle.facts.proofs.entry.put_entry_fields.Statement.{statement}
@@ -12,7 +12,7 @@ put-byte-requires : tie.Need-put-byte-requires
 put-byte-requires c κs = search rules
 
 returns : tie.Need-returns
-unfolding entry_of joinedLine entryFields
+unfolding entry_of joined_line entry_fields
 returns c =
     let l = c.before.before in
     let w = l.before.before in

@@ -3,14 +3,14 @@ use Prim.Native.Nat.{◌≤◌}
 use native.Mathlib.Omega.{arith}
 use Rattle.grammar.specs.Text.{ascii}
 use Rattle.names.proofs.Putting.{put_then, put_last}
-use Rattle.facts.specs.Facts.{entryHead}
-use Rattle.facts.proofs.Parts.{put-number-as}
+use Rattle.facts.specs.Facts.{entry_head}
+use Rattle.facts.proofs.Parts.{put_number_as}
 use borrow.Author.Rules.{rules}
 use Rattle.facts.proofs.entry.put_entry_head.Statement.{statement}
 use Rattle.facts.proofs.entry.put_entry_head.Tie as tie
 
 returns : tie.Need-returns
-unfolding entryHead
+unfolding entry_head
 returns c =
     let word = c.before in
     let third = word.before.before.before in
@@ -18,9 +18,9 @@ returns c =
     let second = wide2.before.before.before.before in
     let wide = second.before in
     let first = wide.before.before.before.before in
-    let d = put_last (put-number-as (ascii ", zero bytes ") word.word.ensures.0 c.put-named4.ensures.0) in
-    let b = put-number-as (ascii ", length of its type ") wide2.wide2.ensures.0 third.put-named3.ensures.0 in
-    let a = put-number-as (ascii ": level ") wide.wide.ensures.0 second.put-named2.ensures.0 in
+    let d = put_last (put_number_as (ascii ", zero bytes ") word.word.ensures.0 c.put-named4.ensures.0) in
+    let b = put_number_as (ascii ", length of its type ") wide2.wide2.ensures.0 third.put-named3.ensures.0 in
+    let a = put_number_as (ascii ": level ") wide.wide.ensures.0 second.put-named2.ensures.0 in
     let near : second.put-named2.result ≤ 54 = omega (arith, first.put-named.ensures.1, second.put-named2.ensures.1) in
     (put_then first.put-named.ensures.0 (put_then a (put_then b d)), omega (arith, near, third.put-named3.ensures.1, c.put-named4.ensures.1))
 

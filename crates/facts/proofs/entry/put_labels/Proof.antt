@@ -5,13 +5,13 @@ use lib.ListN.{get_or}
 use Rattle.paper.specs.Shapes.{entry_of}
 use Rattle.names.proofs.Putting.{put_as}
 use Rattle.listing.proofs.Dewey.{take_words}
-use Rattle.facts.specs.Facts.{namesText, labelsText}
+use Rattle.facts.specs.Facts.{names_text, labels_text}
 use borrow.Author.Rules.{rules}
 use Rattle.facts.proofs.entry.put_labels.Statement.{statement}
 use Rattle.facts.proofs.entry.put_labels.Tie as tie
 
 returns : tie.Need-returns
-unfolding entry_of labelsText
+unfolding entry_of labels_text
 returns c =
     let n = c.before.before in
     let s = n.before.before in
@@ -20,7 +20,7 @@ returns c =
     let entry = a.entry.now in
     let least = s.smaller.ensures ∙ ap (λ k. min k a.f.levels) w.wide.ensures.0 in
     let all = sym (take_words (get_or entry 1 0) a.f.levels s.smaller.result entry 4 least) in
-    (put_as n.put-names.ensures.0 (ap namesText all), n.put-names.ensures.1)
+    (put_as n.put-names.ensures.0 (ap names_text all), n.put-names.ensures.1)
 
 pub put-labels-spec : {M : Type 1} → statement M
 put-labels-spec =

@@ -5,11 +5,11 @@ use mathlib.Core.Path.{◌≡◌, refl, ap}
 use mathlib.Core.List.{List}
 use lib.ListN.{length}
 use Rattle.grammar.specs.Text.{space, followed}
-use Rattle.grammar.specs.Names.{nameText}
+use Rattle.grammar.specs.Names.{name_text}
 use Rattle.names.specs.Put.{Put}
-use Rattle.names.proofs.Putting.{as_long, put-none, put_then, put_as}
-use Rattle.listing.proofs.Dewey.{leading, leading-put}
-use Rattle.facts.specs.Facts.{namesText}
+use Rattle.names.proofs.Putting.{as_long, put_none, put_then, put_as}
+use Rattle.listing.proofs.Dewey.{leading, leading_put}
+use Rattle.facts.specs.Facts.{names_text}
 -- A wrong definition is refused first by the sample that it breaks, so the samples stand before the proofs.
 use Rattle.facts.specs.Samples
 use borrow.Author.Rules.{rules}
@@ -18,7 +18,7 @@ use Rattle.facts.proofs.entry.put_names.Tie as tie
 
 -- the names of the first k labels of an entry's record
 abbrev names : List ℕ → ℕ → List ℕ
-names entry k = leading nameText space entry 4 k
+names entry k = leading name_text space entry 4 k
 
 abbrev invariant-loop : tie.invariant-loop
 invariant-loop out₀ at entry n p₀ k₀ out p k = (k ≤ n) × (p ≤ at + 21 * k) × (length out ≡ length out₀) × Put out₀ at (names entry k) out p
@@ -28,7 +28,7 @@ decreases-loop out₀ at entry n p₀ k₀ out p k = n - k
 
 loop-holds : tie.Need-loop-init invariant-loop decreases-loop
 unfolding followed
-loop-holds c = (omega arith, omega arith, refl, put-none c.before.before.args.out.now c.before.before.args.at)
+loop-holds c = (omega arith, omega arith, refl, put_none c.before.before.args.out.now c.before.before.args.at)
 
 loop-again : tie.Need-loop-preserved invariant-loop decreases-loop
 loop-again c =
@@ -37,12 +37,12 @@ loop-again c =
     let b = w.before.before.before.before in
     let l = b.before.before.before in
     let entry = l.before.before.before.args.entry.now in
-    let said = leading-put nameText space entry 4 l.loop.k w.word.result w.word.ensures.0 in
+    let said = leading_put name_text space entry 4 l.loop.k w.word.result w.word.ensures.0 in
     let put = said l.loop.invariant.3 (put_then b.put_byte.ensures n.put-name.ensures.0) in
     (omega arith, omega (arith, n.put-name.ensures.1, b.put_byte.ensures.ends), as_long put, put)
 
 returns : tie.Need-returns invariant-loop decreases-loop
-unfolding namesText
+unfolding names_text
 returns c =
     let l = c.before in
     let all : l.loop.k ≡ l.before.before.before.args.n = omega arith in

@@ -3,7 +3,7 @@ use Prim.Native.Nat.{◌≤◌}
 use native.Mathlib.Omega.{arith}
 use Rattle.io.proofs.Counting.{prefix_len_of_le}
 use Rattle.names.proofs.Putting.{put_then, put_last}
-use Rattle.facts.specs.Facts.{joinedLine, rowText}
+use Rattle.facts.specs.Facts.{joined_line, row_text}
 use Rattle.facts.proofs.Parts.{room}
 use borrow.Author.Rules.{rules}
 use Rattle.facts.proofs.row.put_row.Statement.{statement}
@@ -25,7 +25,7 @@ put-byte-requires-2 : tie.Need-put-byte-requires-2
 put-byte-requires-2 c κs = search rules
 
 returns : tie.Need-returns
-unfolding joinedLine rowText
+unfolding joined_line row_text
 returns c =
     let v : tie.After-put-value = search in
     let w : tie.After-put-bytes2 = search in

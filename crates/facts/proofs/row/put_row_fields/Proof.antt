@@ -2,7 +2,7 @@
 use Rattle.io.proofs.Counting.{prefix_len_of_le}
 use Rattle.paper.specs.Tables.{row_of}
 use Rattle.names.proofs.Putting.{put_then, put_last}
-use Rattle.facts.specs.Facts.{joinedLine, rowFields}
+use Rattle.facts.specs.Facts.{joined_line, row_fields}
 use Rattle.facts.proofs.Parts.{room}
 use borrow.Author.Rules.{rules}
 use Rattle.facts.proofs.row.put_row_fields.Statement.{statement}
@@ -12,7 +12,7 @@ put-byte-requires : tie.Need-put-byte-requires
 put-byte-requires c κs = search rules
 
 returns : tie.Need-returns
-unfolding row_of joinedLine rowFields
+unfolding row_of joined_line row_fields
 returns c =
     let v = c.before.before in
     let w2 = v.before.before in

@@ -2,7 +2,7 @@
 use native.Mathlib.Omega.{arith}
 use Rattle.io.proofs.Counting.{prefix_len_of_le}
 use Rattle.names.proofs.Putting.{as_long, put_then, put_last}
-use Rattle.facts.specs.Typed.{markedText}
+use Rattle.facts.specs.Typed.{marked_text}
 use borrow.Author.Rules.{rules}
 use Rattle.facts.proofs.tree.put_marked.Statement.{statement}
 use Rattle.facts.proofs.tree.put_marked.Tie as tie
@@ -11,7 +11,7 @@ put-bytes-requires-2 : tie.Need-put-bytes-requires-2
 put-bytes-requires-2 c κs = search rules
 
 returns : tie.Need-returns
-unfolding markedText
+unfolding marked_text
 returns c =
     let spaces = c.before.before.before in
     let end = spaces.before.before in

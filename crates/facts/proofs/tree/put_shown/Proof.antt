@@ -6,9 +6,9 @@ use mathlib.Core.Path.{◌≡◌, refl, sym, ◌∙◌, ap}
 use mathlib.Core.List.{List, [], ◌∷◌, ◌++◌, map}
 use lib.ListN.{length, take, get_or}
 use lib.Seq.{take-suc, take-length}
-use Rattle.paper.proofs.Lists.{map-append}
+use Rattle.paper.proofs.Lists.{map_append}
 use Rattle.names.specs.Put.{Put}
-use Rattle.names.proofs.Putting.{as_long, put-none, put_then, put_as}
+use Rattle.names.proofs.Putting.{as_long, put_none, put_then, put_as}
 use Rattle.facts.specs.Typed.{shown}
 use borrow.Author.Rules.{rules}
 use Rattle.facts.proofs.tree.put_shown.Statement.{statement}
@@ -21,7 +21,7 @@ first text i = map shown (take i text)
 -- One byte more.
 more : (text : List ℕ) (i : ℕ) → i < length text → first text i ++ (shown (get_or text i 0) ∷ []) ≡ first text (i + 1)
 more text i lt =
-    sym (map-append shown (take i text) (get_or text i 0 ∷ [])) ∙ ap (map shown) (sym (take-suc text i 0 lt)) ∙ ap (first text) (sym (add-one i))
+    sym (map_append shown (take i text) (get_or text i 0 ∷ [])) ∙ ap (map shown) (sym (take-suc text i 0 lt)) ∙ ap (first text) (sym (add-one i))
 
 abbrev invariant-loop : tie.invariant-loop
 invariant-loop out₀ at text p₀ i₀ out p i = (i ≤ length text) × (p ≡ at + i) × (length out ≡ length out₀) × Put out₀ at (first text i) out p
@@ -30,7 +30,7 @@ abbrev decreases-loop : tie.decreases-loop
 decreases-loop out₀ at text p₀ i₀ out p i = length text - i
 
 loop-holds : tie.Need-loop-init invariant-loop decreases-loop
-loop-holds c = let a = c.before.before.args in (omega arith, omega arith, refl, put-none a.out.now a.at)
+loop-holds c = let a = c.before.before.args in (omega arith, omega arith, refl, put_none a.out.now a.at)
 
 loop-again : tie.Need-loop-preserved invariant-loop decreases-loop
 loop-again c =

@@ -5,7 +5,7 @@ use mathlib.Core.Path.{◌≡◌, refl, ap}
 use lib.ListN.{length, replicate, replicate-append-replicate}
 use Rattle.grammar.specs.Text.{space}
 use Rattle.names.specs.Put.{Put}
-use Rattle.names.proofs.Putting.{as_long, put-none, put_then, put_as}
+use Rattle.names.proofs.Putting.{as_long, put_none, put_then, put_as}
 use borrow.Author.Rules.{rules}
 use Rattle.facts.proofs.tree.put_spaces.Statement.{statement}
 use Rattle.facts.proofs.tree.put_spaces.Tie as tie
@@ -17,7 +17,7 @@ abbrev decreases-loop : tie.decreases-loop
 decreases-loop out₀ at n p₀ i₀ out p i = n - i
 
 loop-holds : tie.Need-loop-init invariant-loop decreases-loop
-loop-holds c = let a = c.before.args in (omega arith, omega arith, refl, put-none a.out.now a.at)
+loop-holds c = let a = c.before.args in (omega arith, omega arith, refl, put_none a.out.now a.at)
 
 loop-again : tie.Need-loop-preserved invariant-loop decreases-loop
 loop-again c =

@@ -1,6 +1,6 @@
 -- `build::build_index` meets its contract. Assumes nothing.
 use mathlib.Core.Logic.{inl, inr}
-use Rattle.indexes.proofs.Built.{refused-table, builds-refused, builds-short, builds-given}
+use Rattle.indexes.proofs.Built.{refused-table, builds_refused, builds_short, builds_given}
 use Rattle.indexes.proofs.Passed.{passed}
 use Rattle.tables.proofs.Examine.{examined-refused}
 use borrow.Author.Rules.{rules}
@@ -14,20 +14,20 @@ returns : tie.Need-returns
 returns c =
     let x = c.before.before in
     let r = x.examine.result in
-    builds-refused _ _ _ _ _ _ _ c.refused.ensures
+    builds_refused _ _ _ _ _ _ _ c.refused.ensures
     (refused-table _ _ _ _ r.number r.place (examined-refused _ _ r.number r.place r.rows x.examine.ensures c.before.if1.true))
 
 returns-2 : tie.Need-returns-2
 returns-2 c =
     let e = c.before.before in
     let (table, sound) = passed (begun e.before).requires e.before.examine.result e.before.examine.ensures e.if1.false in
-    builds-short _ _ _ _ _ sound table _ c.refused2.ensures (inl c.before.if2.true)
+    builds_short _ _ _ _ _ sound table _ c.refused2.ensures (inl c.before.if2.true)
 
 returns-3 : tie.Need-returns-3
 returns-3 c =
     let e = c.before.before.before in
     let (table, sound) = passed (begun e.before).requires e.before.examine.result e.before.examine.ensures e.if1.false in
-    builds-short _ _ _ _ _ sound table _ c.refused3.ensures (inr c.before.if3.true)
+    builds_short _ _ _ _ _ sound table _ c.refused3.ensures (inr c.before.if3.true)
 
 put-index-requires : tie.Need-put-index-requires
 put-index-requires c κs =
@@ -43,7 +43,7 @@ returns-4 c =
     let w = i.before.before.before in
     let e = w.before.before in
     let (table, sound) = passed (begun e.before).requires e.before.examine.result e.before.examine.ensures e.if1.false in
-    builds-given _ _ _ _ _ sound table _ _ w.before.if2.false w.if3.false i.put-index.ensures
+    builds_given _ _ _ _ _ sound table _ _ w.before.if2.false w.if3.false i.put-index.ensures
 
 pub build-index-spec : {M : Type 1} → statement M
 build-index-spec =

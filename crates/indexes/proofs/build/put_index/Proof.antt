@@ -1,5 +1,5 @@
 -- `build::put_index` meets its contract. Assumes nothing.
-use Rattle.indexes.proofs.Numbered.{shallow, label-rows}
+use Rattle.indexes.proofs.Numbered.{shallow, label_rows}
 use Rattle.indexes.proofs.Built.{indexed}
 use borrow.Author.Rules.{rules}
 use Rattle.indexes.proofs.build.put_index.Statement.{statement}
@@ -17,7 +17,7 @@ put-next-requires c κs =
     let s : tie.Start = search in
     let r : tie.After-row-levels = search in
     let p = s.pre in
-    (label-rows _ _ _ _ p.0 r.row-levels.ensures p.1 (search rules) _ (search rules), search rules)
+    (label_rows _ _ _ _ p.0 r.row-levels.ensures p.1 (search rules) _ (search rules), search rules)
 
 returns : tie.Need-returns
 returns c =

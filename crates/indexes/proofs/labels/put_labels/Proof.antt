@@ -5,7 +5,7 @@ use mathlib.Core.Path.{◌≡◌, subst}
 use lib.ListN.{set}
 use borrow.Author.Rules.{rules}
 use Rattle.indexes.specs.Labels.{Put}
-use Rattle.indexes.proofs.Copied.{not_first, Copying, copying-start, copying-step, copying-end}
+use Rattle.indexes.proofs.Copied.{not_first, Copying, copying_start, copying_step, copying_end}
 use Rattle.indexes.proofs.labels.put_labels.Statement.{statement}
 use Rattle.indexes.proofs.labels.put_labels.Tie as tie
 
@@ -22,7 +22,7 @@ later c =
     not_first s.args.i s.args.l s.requires.3 (omega (arith, c.loop-test.true, c.before.loop.invariant.1.some))
 
 loop-holds : tie.Need-loop-init invariant-loop decreases-loop
-loop-holds c = (c.requires.0, copying-start _ _)
+loop-holds c = (c.requires.0, copying_start _ _)
 
 sub-labels : tie.Need-overflow-sub-labels invariant-loop decreases-loop
 sub-labels c = omega (arith, later c, c.before.loop.invariant.1.some)
@@ -40,7 +40,7 @@ loop-again : tie.Need-loop-preserved invariant-loop decreases-loop
 loop-again c =
     let w = c.before.before in
     let lt = c.before.loop-test.true in
-    (omega (arith, lt), copying-step w.loop.invariant.1 (omega (arith, w.before.requires.1)) w.before.requires.2 (later c.before))
+    (omega (arith, lt), copying_step w.loop.invariant.1 (omega (arith, w.before.requires.1)) w.before.requires.2 (later c.before))
 
 sub-labels-3 : tie.Need-overflow-sub-labels-3 invariant-loop decreases-loop
 sub-labels-3 c = omega (arith, c.before.before.requires.0)
@@ -54,7 +54,7 @@ returns c =
     let x = w.before.args in
     let e : w.loop.m ≡ x.l = omega (arith, w.loop.invariant.0, c.loop-test.false) in
     subst (λ k. Put x.i k x.a x.labels.now (set w.loop.labels (8 * x.i + k - 1) x.a)) e
-    (copying-end w.loop.invariant.1 (omega (arith, w.before.requires.1, w.loop.invariant.0)) w.before.requires.2 x.a)
+    (copying_end w.loop.invariant.1 (omega (arith, w.before.requires.1, w.loop.invariant.0)) w.before.requires.2 x.a)
 
 pub put-labels-spec : {M : Type 1} → statement M
 put-labels-spec =

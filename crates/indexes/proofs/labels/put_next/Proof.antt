@@ -2,7 +2,7 @@
 use Prim.Native.Nat.{◌-◌}
 use native.Mathlib.Omega.{arith}
 use Rattle.indexes.specs.Labels.{NextAlike}
-use Rattle.indexes.proofs.Filled.{Placing, placing-start, placing-step}
+use Rattle.indexes.proofs.Filled.{Placing, placing_start, placing_step}
 use borrow.Author.Rules.{rules}
 use Rattle.indexes.proofs.labels.put_next.Statement.{statement}
 use Rattle.indexes.proofs.labels.put_next.Tie as tie
@@ -17,7 +17,7 @@ abbrev begun : tie.At-loop invariant-loop decreases-loop → tie.Start invariant
 begun l = l.before.before.before.before
 
 loop-holds : tie.Need-loop-init invariant-loop decreases-loop
-loop-holds c = placing-start _ _ _
+loop-holds c = placing_start _ _ _
 
 next-alike-requires : tie.Need-next-alike-requires invariant-loop decreases-loop
 next-alike-requires c κs = ((begun c.before).pre.0, c.loop-test.true)
@@ -28,7 +28,7 @@ slice-write-next c = let l = c.before.before in omega (arith, l.loop.invariant.l
 loop-again : tie.Need-loop-preserved invariant-loop decreases-loop
 loop-again c =
     let l = c.before.before in
-    placing-step l.loop.invariant c.before.loop-test.true (begun l).requires.1 c.next-alike.ensures
+    placing_step l.loop.invariant c.before.loop-test.true (begun l).requires.1 c.next-alike.ensures
 
 same_length : tie.Need-same-length invariant-loop decreases-loop
 same_length c = c.before.loop.invariant.long

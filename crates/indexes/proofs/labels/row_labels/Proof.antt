@@ -4,12 +4,12 @@ use native.Mathlib.Omega.{arith}
 use mathlib.Core.Path.{◌≡◌, refl}
 use mathlib.Core.List.{List}
 use lib.ListN.{length}
-use Rattle.paper.specs.Format.{rowBytes, byte, word, whole}
-use Rattle.paper.specs.Tables.{rowTypes}
+use Rattle.paper.specs.Format.{row_bytes, byte, word, whole}
+use Rattle.paper.specs.Tables.{row_types}
 use Rattle.paper.specs.Tables as Tables
 use Rattle.paper.proofs.Calls.{count-rows}
 use Rattle.tables.proofs.Rows.{rec, row_in}
-use Rattle.types.proofs.Listed.{l-pos, l-fits}
+use Rattle.types.proofs.Listed.{l_pos, l_fits}
 use Rattle.indexes.specs.Labels.{LabelLists}
 use Rattle.indexes.proofs.Labelled.{first-level, labels-none, labels-more}
 use borrow.Author.Rules.{rules}
@@ -17,7 +17,7 @@ use Rattle.indexes.proofs.labels.row_labels.Statement.{statement}
 use Rattle.indexes.proofs.labels.row_labels.Tie as tie
 
 abbrev invariant-loop : tie.invariant-loop
-invariant-loop table f rows labels₀ i₀ labels i = (i ≤ rows) × (length labels ≡ length labels₀) × LabelLists i (rowTypes (Tables.rows f table)) labels
+invariant-loop table f rows labels₀ i₀ labels i = (i ≤ rows) × (length labels ≡ length labels₀) × LabelLists i (row_types (Tables.rows f table)) labels
 
 abbrev decreases-loop : tie.decreases-loop
 decreases-loop table f rows labels₀ i₀ labels i = rows - i
@@ -33,12 +33,12 @@ abbrev turn : tie.After-word invariant-loop decreases-loop → tie.At-loop invar
 turn c = (held c).before.before.before
 
 abbrev row_of : tie.At-loop invariant-loop decreases-loop → List ℕ
-row_of l = rec (rowBytes (begun l).args.f) l.loop.i (begun l).args.table.now
+row_of l = rec (row_bytes (begun l).args.f) l.loop.i (begun l).args.table.now
 
-here : (l : tie.At-loop invariant-loop decreases-loop) → l.loop.i < (begun l).args.rows → l.loop.i < whole (rowBytes (begun l).args.f) (begun l).args.table.now
-here l lt = let s : tie.Start invariant-loop decreases-loop = search in omega (arith, s.pre.0.rows-n, count-rows s.args.f s.args.table.now)
+here : (l : tie.At-loop invariant-loop decreases-loop) → l.loop.i < (begun l).args.rows → l.loop.i < whole (row_bytes (begun l).args.f) (begun l).args.table.now
+here l lt = let s : tie.Start invariant-loop decreases-loop = search in omega (arith, s.pre.0.rows_n, count-rows s.args.f s.args.table.now)
 
-in_table : (c : tie.After-word invariant-loop decreases-loop) → (turn c).loop.i < whole (rowBytes (begun (turn c)).args.f) (begun (turn c)).args.table.now
+in_table : (c : tie.After-word invariant-loop decreases-loop) → (turn c).loop.i < whole (row_bytes (begun (turn c)).args.f) (begun (turn c)).args.table.now
 in_table c = let l : tie.At-loop invariant-loop decreases-loop = search in let i : tie.In-loop invariant-loop decreases-loop = search in here l i.loop-test.taken
 
 level-is : (c : tie.After-word invariant-loop decreases-loop) → c.before.wide.result ≡ byte (row_of (turn c)) 0
@@ -63,8 +63,8 @@ put-labels-requires c κs =
     let i : tie.In-loop invariant-loop decreases-loop = search in
     let r = c.before in
     let kept = s.pre.0.sound.kept in (
-      l-pos _ _ kept _ (in_table r) _ _ (level-is r) (label_is r),
-      omega (arith, l-fits _ _ kept _ (in_table r) _ _ (level-is r) (label_is r), s.pre.1),
+      l_pos _ _ kept _ (in_table r) _ _ (level-is r) (label_is r),
+      omega (arith, l_fits _ _ kept _ (in_table r) _ _ (level-is r) (label_is r), s.pre.1),
       omega (arith, s.pre.2, l.loop.inv.1, i.loop-test.taken),
       λ e. omega (arith, level-is r, first-level _ _ kept l.loop.i (in_table r) e),
     )

@@ -20,7 +20,7 @@ decreases-loop levels labels rows i j m₀ m = m
 -- a row has eight levels at the most, and both rows have their place among the labels
 inside : (s : tie.Start invariant-loop decreases-loop) → let a = s.args in
     (get_or a.levels.now a.i 0 ≤ 8) × (8 * a.i + 8 ≤ length a.labels.now) × (8 * a.j + 8 ≤ length a.labels.now)
-inside s = let p = s.requires in (p.0.shallow s.args.i p.1, omega (arith, p.0.labels-long, p.1), omega (arith, p.0.labels-long, p.2))
+inside s = let p = s.requires in (p.0.shallow s.args.i p.1, omega (arith, p.0.labels_long, p.1), omega (arith, p.0.labels_long, p.2))
 
 returns : tie.Need-returns invariant-loop decreases-loop
 returns c = (λ e. absurd (true≢false (sym e)), λ _ alike. c.if1.true alike.level)

@@ -3,7 +3,7 @@ use Prim.Native.Nat.{◌-◌, ◌≤◌}
 use native.Mathlib.Omega.{arith}
 use mathlib.Core.Path.{refl}
 use borrow.Author.Rules.{rules}
-use Rattle.indexes.proofs.Filled.{Filling, filling-start, filling_step}
+use Rattle.indexes.proofs.Filled.{Filling, filling_start, filling_step}
 use Rattle.indexes.proofs.last.end_of.Statement.{statement}
 use Rattle.indexes.proofs.last.end_of.Tie as tie
 
@@ -22,7 +22,7 @@ returns c = record {
 }
 
 loop-holds : tie.Need-loop-init invariant-loop decreases-loop
-loop-holds c = (c.if1.false, filling-start _ _ _)
+loop-holds c = (c.if1.false, filling_start _ _ _)
 
 slice-write-ends : tie.Need-slice-write-ends invariant-loop decreases-loop
 slice-write-ends c = let w = c.before in omega (arith, c.loop-test.true, w.loop.invariant.1.long, w.before.before.requires.0, w.before.before.requires.1)

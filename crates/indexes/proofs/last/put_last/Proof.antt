@@ -4,7 +4,7 @@ use native.Mathlib.Omega.{arith}
 use mathlib.Core.Path.{◌≡◌, refl}
 use lib.ListN.{length}
 use borrow.Author.Rules.{rules}
-use Rattle.indexes.proofs.Ends.{Ends, ends-start, ends-step, last-here, Putting, putting-start, putting-step}
+use Rattle.indexes.proofs.Ends.{Ends, ends_start, ends_step, last_here, Putting, putting_start, putting_step}
 use Rattle.indexes.proofs.last.put_last.Statement.{statement}
 use Rattle.indexes.proofs.last.put_last.Tie as tie
 
@@ -15,7 +15,7 @@ abbrev decreases-loop : tie.decreases-loop
 decreases-loop levels rows last₀ ends₀ behind₀ i₀ last ends behind i = i
 
 loop-holds : tie.Need-loop-init invariant-loop decreases-loop
-loop-holds c = (refl, ends-start _ _ _, putting-start _ _ _)
+loop-holds c = (refl, ends_start _ _ _, putting_start _ _ _)
 
 end-of-requires : tie.Need-end-of-requires invariant-loop decreases-loop
 end-of-requires c κs =
@@ -33,8 +33,8 @@ loop-again c =
     let s = e.end_of_lem.ensures in
     let own = e.before.before.wide.ensures.0 in (
       search rules,
-      ends-step l.loop.invariant.1 pos own s,
-      putting-step l.loop.invariant.2 pos l.loop.invariant.1.within p.0 (last-here l.loop.invariant.1 pos own s),
+      ends_step l.loop.invariant.1 pos own s,
+      putting_step l.loop.invariant.2 pos l.loop.invariant.1.within p.0 (last_here l.loop.invariant.1 pos own s),
     )
 
 same_length : tie.Need-same-length invariant-loop decreases-loop

@@ -5,8 +5,8 @@ use mathlib.Core.Path.{◌≡◌, refl}
 use lib.ListN.{length}
 use borrow.Author.Rules.{rules}
 use Rattle.indexes.specs.Last.{LastRow}
-use Rattle.indexes.proofs.Ends.{Ends, ends-start, ends-step, last-here}
-use Rattle.indexes.proofs.Wrong.{WrongFrom, wrong_start, wrong-end, wrong-not, wrong-here}
+use Rattle.indexes.proofs.Ends.{Ends, ends_start, ends_step, last_here}
+use Rattle.indexes.proofs.Wrong.{WrongFrom, wrong_start, wrong_end, wrong_not, wrong_here}
 use Rattle.indexes.proofs.last.wrong_last.Statement.{statement}
 use Rattle.indexes.proofs.last.wrong_last.Tie as tie
 
@@ -17,7 +17,7 @@ abbrev decreases-loop : tie.decreases-loop
 decreases-loop levels rows last ends₀ behind₀ wrong₀ i₀ ends behind wrong i = i
 
 loop-holds : tie.Need-loop-init invariant-loop decreases-loop
-loop-holds c = (refl, ends-start _ _ _, wrong_start _ _ _)
+loop-holds c = (refl, ends_start _ _ _, wrong_start _ _ _)
 
 end-of-requires : tie.Need-end-of-requires invariant-loop decreases-loop
 end-of-requires c κs =
@@ -34,8 +34,8 @@ loop-again c =
     let s = e.end_of_lem.ensures in
     let own = e.before.before.wide.ensures.0 in (
       search rules,
-      ends-step l.loop.invariant.1 pos own s,
-      wrong-not _ _ _ _ _ _ l.loop.invariant.2 pos (last-here l.loop.invariant.1 pos own s) c.if1.true,
+      ends_step l.loop.invariant.1 pos own s,
+      wrong_not _ _ _ _ _ _ l.loop.invariant.2 pos (last_here l.loop.invariant.1 pos own s) c.if1.true,
     )
 
 loop-again-2 : tie.Need-loop-preserved-2 invariant-loop decreases-loop
@@ -47,12 +47,12 @@ loop-again-2 c =
     let s = e.end_of_lem.ensures in
     let own = e.before.before.wide.ensures.0 in (
       search rules,
-      ends-step l.loop.invariant.1 pos own s,
-      wrong-here _ _ _ _ _ _ l.loop.invariant.2 pos (last-here l.loop.invariant.1 pos own s) c.if1.false,
+      ends_step l.loop.invariant.1 pos own s,
+      wrong_here _ _ _ _ _ _ l.loop.invariant.2 pos (last_here l.loop.invariant.1 pos own s) c.if1.false,
     )
 
 returns : tie.Need-returns invariant-loop decreases-loop
-returns c = wrong-end _ _ _ _ _ c.loop-test.false c.before.loop.invariant.2
+returns c = wrong_end _ _ _ _ _ c.loop-test.false c.before.loop.invariant.2
 
 pub wrong-last-spec : {M : Type 1} → statement M
 wrong-last-spec =

@@ -2,10 +2,10 @@
 use Prim.Native.Nat.{◌-◌, ◌≤◌, ◌<◌}
 use native.Mathlib.Omega.{arith}
 use borrow.Author.Rules.{rules}
-use Rattle.paper.specs.Format.{mostTypes}
+use Rattle.paper.specs.Format.{most_types}
 use Rattle.closest.specs.Runs.{NextRow}
-use Rattle.closest.proofs.Index.{Firsts, firsts-start, firsts-step, next-own}
-use Rattle.indexes.proofs.Wrong.{WrongFrom, wrong_start, wrong-end, wrong-not, wrong-here}
+use Rattle.closest.proofs.Index.{Firsts, firsts_start, firsts_step, next_own}
+use Rattle.indexes.proofs.Wrong.{WrongFrom, wrong_start, wrong_end, wrong_not, wrong_here}
 use Rattle.indexes.proofs.next.wrong_next.Statement.{statement}
 use Rattle.indexes.proofs.next.wrong_next.Tie as tie
 
@@ -19,19 +19,19 @@ decreases-loop types rows next seen₀ wrong₀ i₀ seen wrong i = i
 abbrev turn : tie.After-wide invariant-loop decreases-loop → tie.At-loop invariant-loop decreases-loop
 turn n = n.before.before.before
 
-type-few : (n : tie.After-wide invariant-loop decreases-loop) → n.wide.result < mostTypes
-type-few n =
+type_few : (n : tie.After-wide invariant-loop decreases-loop) → n.wide.result < most_types
+type_few n =
     let l = turn n in
     omega (arith, n.wide.ensures.0, l.before.before.before.pre.1 (l.loop.i - 1) (omega (arith, l.loop.inv.1, n.before.before.loop-test.true)))
 
 loop-holds : tie.Need-loop-init invariant-loop decreases-loop
-loop-holds c = (firsts-start _ _ c.before.before.requires.0.0, omega arith, wrong_start _ _ _)
+loop-holds c = (firsts_start _ _ c.before.before.requires.0.0, omega arith, wrong_start _ _ _)
 
 array-read-after : tie.Need-array-read-after invariant-loop decreases-loop
-array-read-after c = type-few c
+array-read-after c = type_few c
 
 array-write-seen : tie.Need-array-write-seen invariant-loop decreases-loop
-array-write-seen c = type-few c
+array-write-seen c = type_few c
 
 loop-again : tie.Need-loop-preserved invariant-loop decreases-loop
 loop-again c =
@@ -41,7 +41,7 @@ loop-again c =
     let own = n.wide.ensures.0 in
     let known = l.loop.inv.0 in
     let within = l.loop.inv.1 in
-    (firsts-step known pos within own (type-few n), omega (arith, within), wrong-not _ _ _ _ _ _ l.loop.inv.2 pos (next-own known pos within own (type-few n)) c.if1.true)
+    (firsts_step known pos within own (type_few n), omega (arith, within), wrong_not _ _ _ _ _ _ l.loop.inv.2 pos (next_own known pos within own (type_few n)) c.if1.true)
 
 loop-again-2 : tie.Need-loop-preserved-2 invariant-loop decreases-loop
 loop-again-2 c =
@@ -51,10 +51,10 @@ loop-again-2 c =
     let own = n.wide.ensures.0 in
     let known = l.loop.inv.0 in
     let within = l.loop.inv.1 in
-    (firsts-step known pos within own (type-few n), omega (arith, within), wrong-here _ _ _ _ _ _ l.loop.inv.2 pos (next-own known pos within own (type-few n)) c.if1.false)
+    (firsts_step known pos within own (type_few n), omega (arith, within), wrong_here _ _ _ _ _ _ l.loop.inv.2 pos (next_own known pos within own (type_few n)) c.if1.false)
 
 returns : tie.Need-returns invariant-loop decreases-loop
-returns c = wrong-end _ _ _ _ _ c.loop-test.false c.before.loop.invariant.2
+returns c = wrong_end _ _ _ _ _ c.loop-test.false c.before.loop.invariant.2
 
 pub wrong-next-spec : {M : Type 1} → statement M
 wrong-next-spec =

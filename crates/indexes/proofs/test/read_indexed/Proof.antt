@@ -1,5 +1,5 @@
 -- `test::read_indexed` meets its contract. Assumes nothing.
-use Rattle.indexes.proofs.Tests.{unread, read-with, shallow-rows}
+use Rattle.indexes.proofs.Tests.{unread, read-with, shallow_rows}
 use borrow.Author.Rules.{rules}
 use Rattle.indexes.proofs.test.read_indexed.Statement.{statement}
 use Rattle.indexes.proofs.test.read_indexed.Tie as tie
@@ -13,7 +13,7 @@ test-lists-requires c κs =
     let r : tie.After-read-rows = search in
     let e : tie.Else1 = search in
     let in_rows = r.read-rows.ensures.read e.if1.left in
-    (in_rows.rows_are, shallow-rows s.pre.0 in_rows)
+    (in_rows.rows_are, shallow_rows s.pre.0 in_rows)
 
 returns-2 : tie.Need-returns-2
 returns-2 c =

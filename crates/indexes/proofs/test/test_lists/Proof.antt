@@ -1,28 +1,28 @@
 -- `test::test_lists` meets its contract. Assumes nothing.
-use Rattle.indexes.proofs.Tests.{holds-short-last, holds-short, holds-wrong, holds-right}
+use Rattle.indexes.proofs.Tests.{holds_short_last, holds_short, holds_wrong, holds_right}
 use borrow.Author.Rules.{rules}
 use Rattle.indexes.proofs.test.test_lists.Statement.{statement}
 use Rattle.indexes.proofs.test.test_lists.Tie as tie
 
 returns : tie.Need-returns
-returns c = holds-short-last _ _ _ _ _ c.if1.true
+returns c = holds_short_last _ _ _ _ _ c.if1.true
 
 returns-2 : tie.Need-returns-2
-returns-2 c = holds-short _ _ _ _ _ c.if2.true
+returns-2 c = holds_short _ _ _ _ _ c.if2.true
 
 returns-3 : tie.Need-returns-3
 returns-3 c =
     let n = c.before.before in
     let l = n.before in
     let e = l.before in
-    holds-wrong _ _ _ _ _ e.before.if1.false e.if2.false _ _ _ l.wrong-last.ensures n.wrong-next.ensures c.before.smaller.ensures c.if3.true
+    holds_wrong _ _ _ _ _ e.before.if1.false e.if2.false _ _ _ l.wrong_last.ensures n.wrong_next.ensures c.before.smaller.ensures c.if3.true
 
 returns-4 : tie.Need-returns-4
 returns-4 c =
     let n = c.before.before in
     let l = n.before in
     let e = l.before in
-    holds-right _ _ _ _ _ e.before.if1.false e.if2.false _ _ _ l.wrong-last.ensures n.wrong-next.ensures c.before.smaller.ensures c.if3.false
+    holds_right _ _ _ _ _ e.before.if1.false e.if2.false _ _ _ l.wrong_last.ensures n.wrong_next.ensures c.before.smaller.ensures c.if3.false
 
 pub test-lists-spec : {M : Type 1} → statement M
 test-lists-spec =

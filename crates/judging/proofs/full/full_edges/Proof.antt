@@ -9,7 +9,7 @@ use lib.Dec.{eqb}
 use lib.ListN.{length, get_or}
 use borrow.Author.Count.{below_more}
 use borrow.Author.Rules.{rules}
-use Rattle.paper.specs.Format.{mostEntries}
+use Rattle.paper.specs.Format.{most_entries}
 use Rattle.closest.proofs.Filled.{Filled, filled_more}
 use Rattle.judging.proofs.full.full_edges.Statement.{statement}
 use Rattle.judging.proofs.full.full_edges.Tie as tie
@@ -23,15 +23,15 @@ full_at : (least : List ℕ) (c : ℕ) → 1 ≤ c → fullAt least c ≡ not (e
 full_at least zero some = let z : ⊥ = omega arith in absurd z
 full_at least (suc c) some = refl
 
-first-full : (least : List ℕ) (xs : List Bool) → length xs ≡ mostEntries → get_or xs 0 false ≡ true → Filled (fullAt least) false mostEntries 1 xs
+first-full : (least : List ℕ) (xs : List Bool) → length xs ≡ most_entries → get_or xs 0 false ≡ true → Filled (fullAt least) false most_entries 1 xs
 first-full least xs long root =
     record { long = long; at = below_more (λ e. get_or xs e false ≡ fullAt least e) 0 (λ e lt. absurd (not-suc-le-zero lt)) root }
 
 abbrev invariant-loop : tie.invariant-loop
-invariant-loop least full₀ c₀ full c = (1 ≤ c) × (c ≤ mostEntries) × Filled (fullAt least) false mostEntries c full
+invariant-loop least full₀ c₀ full c = (1 ≤ c) × (c ≤ most_entries) × Filled (fullAt least) false most_entries c full
 
 abbrev decreases-loop : tie.decreases-loop
-decreases-loop least full₀ c₀ full c = mostEntries - c
+decreases-loop least full₀ c₀ full c = most_entries - c
 
 loop-holds : tie.Need-loop-init invariant-loop decreases-loop
 loop-holds c = (omega arith, omega arith, first-full c.args.t1 _ refl refl)
@@ -41,14 +41,14 @@ loop-again c =
     let l = c.before.loop in (
       omega arith,
       omega (arith, c.loop-test.true),
-      filled_more (fullAt c.before.before.args.t1) false mostEntries l.c l.full _ c.loop-test.true l.invariant.2
+      filled_more (fullAt c.before.before.args.t1) false most_entries l.c l.full _ c.loop-test.true l.invariant.2
           (sym (full_at c.before.before.args.t1 l.c l.invariant.0)),
     )
 
 returns : tie.Need-returns invariant-loop decreases-loop
 returns c =
     let l = c.before.loop in
-    let all : (e : ℕ) → e < mostEntries → get_or l.full e false ≡ fullAt c.before.before.args.t1 e =
+    let all : (e : ℕ) → e < most_entries → get_or l.full e false ≡ fullAt c.before.before.args.t1 e =
     λ e lt. l.invariant.2.at e (omega (arith, c.loop-test.false)) in
     record { root = all 0 (omega arith); each = λ e some lt. all e lt ∙ full_at c.before.before.args.t1 e some }
 

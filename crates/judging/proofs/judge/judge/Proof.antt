@@ -1,6 +1,6 @@
 -- `judging::judge::judge` meets its contract. Assumes nothing.
 use mathlib.Core.Path.{refl, ◌∙◌}
-use Rattle.paper.specs.Calls.{tests1-4}
+use Rattle.paper.specs.Calls.{tests1_4}
 use Rattle.paper.proofs.Seam.{seam}
 use Rattle.judging.proofs.Seam.{refused-rows, judged-rows}
 use borrow.Author.Rules.{rules}
@@ -12,7 +12,7 @@ returns c =
     let s : tie.Start = search in
     let x : tie.After-read-rows = search in
     let a = s.args in
-    let call = (seam a.f a.table.now (tests1-4 a.f a.table.now) refl).judges a.shape.now in
+    let call = (seam a.f a.table.now (tests1_4 a.f a.table.now) refl).judges a.shape.now in
     c.refused.ensures ∙ refused-rows a.shape.now call x.read-rows.ensures c.before.if1.true
 
 judge-rows-requires : tie.Need-judge-rows-requires
@@ -28,7 +28,7 @@ returns-2 c =
     let x : tie.After-read-rows = search in
     let u : tie.Else1 = search in
     let a = s.args in
-    let call = (seam a.f a.table.now (tests1-4 a.f a.table.now) refl).judges a.shape.now in
+    let call = (seam a.f a.table.now (tests1_4 a.f a.table.now) refl).judges a.shape.now in
     c.judge-rows.ensures a.table.now (x.read-rows.ensures.read u.if1.left)
     ∙ judged-rows a.shape.now call x.read-rows.ensures u.if1.left
 

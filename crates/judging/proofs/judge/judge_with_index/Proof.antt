@@ -1,6 +1,6 @@
 -- `judging::judge::judge_with_index` meets its contract. Assumes nothing.
 use mathlib.Core.Path.{◌∙◌}
-use Rattle.paper.proofs.WithIndex.{judge-with-lem}
+use Rattle.paper.proofs.WithIndex.{judge_with_lem}
 use Rattle.judging.proofs.Seam.{refused-rows, judged-rows}
 use borrow.Author.Rules.{rules}
 use Rattle.judging.proofs.judge.judge_with_index.Statement.{statement}
@@ -11,7 +11,7 @@ returns c =
     let s : tie.Start = search in
     let x : tie.After-read-indexed = search in
     let a = s.args in
-    let call = judge-with-lem a.f a.table.now a.shape.now a.last.now a.next.now in
+    let call = judge_with_lem a.f a.table.now a.shape.now a.last.now a.next.now in
     c.refused.ensures ∙ refused-rows a.shape.now call x.read-indexed.ensures.reads c.before.if1.true
 
 judge-rows-requires : tie.Need-judge-rows-requires
@@ -27,7 +27,7 @@ returns-2 c =
     let x : tie.After-read-indexed = search in
     let u : tie.Else1 = search in
     let a = s.args in
-    let call = judge-with-lem a.f a.table.now a.shape.now a.last.now a.next.now in
+    let call = judge_with_lem a.f a.table.now a.shape.now a.last.now a.next.now in
     c.judge-rows.ensures a.table.now (x.read-indexed.ensures.reads.read u.if1.left)
     ∙ judged-rows a.shape.now call x.read-indexed.ensures.reads u.if1.left
 

@@ -10,8 +10,8 @@ use Rattle.shapes.specs.Shape.{type_of, parent_of, edge_of}
 use Rattle.partners.specs.Edges.{MetBefore}
 use Rattle.judging.specs.Told.{told}
 use Rattle.judging.specs.declared.verdict.Verdict.TheVariants.{Kept}
-use Rattle.judging.proofs.Search.{before-none, Candidates, candidates-here, candidates-on, entriesFrom, entries-met, entry-none}
-use Rattle.judging.proofs.Search.{Stands, Asked, Done, done-before, standing, done-other, done-partnered, done-alone, done_all}
+use Rattle.judging.proofs.Search.{before_none, Candidates, candidates_here, candidates_on, entries_from, entries_met, entry-none}
+use Rattle.judging.proofs.Search.{Stands, Asked, Done, done_before, standing, done_other, done_partnered, done-alone, done_all}
 use Rattle.judging.proofs.lone.first_lone.Statement.{statement}
 use Rattle.judging.proofs.lone.first_lone.Tie as tie
 
@@ -24,14 +24,14 @@ decreases-loop levels types rows met from shape lone c r₀ own other bound j₀
 
 abbrev invariant-rows : tie.invariant-rows
 invariant-rows levels types rows met from shape lone₀ c r₀ own other bound j₀ lone r j =
-    (lone ≡ Kept) × Done levels types rows shape c j r (entriesFrom levels types rows shape 1)
+    (lone ≡ Kept) × Done levels types rows shape c j r (entries_from levels types rows shape 1)
 
 abbrev decreases-rows : tie.decreases-rows
 decreases-rows levels types rows met from shape lone₀ c r₀ own other bound j₀ lone r j = rows - r
 
 abbrev invariant-entries : tie.invariant-entries
 invariant-entries levels types rows met from shape lone₀ c₀ r₀ lone c r =
-    (1 ≤ c) × (c ≤ shape.entries) × (lone ≡ Kept) × (entriesFrom levels types rows shape c ≡ entriesFrom levels types rows shape 1)
+    (1 ≤ c) × (c ≤ shape.entries) × (lone ≡ Kept) × (entries_from levels types rows shape c ≡ entries_from levels types rows shape 1)
     × (c < shape.entries → MetBefore levels types rows shape c r)
 
 abbrev decreases-entries : tie.decreases-entries
@@ -64,13 +64,13 @@ asked p =
       bytes = λ j. (i.before.before.before.shared-slice-known.given j).fits;
       before = i.entries-test.taken;
       own_is = refl;
-      other-is = ap (type_of s.args.t4) (widened p).wide.ensures.0;
+      other_is = ap (type_of s.args.t4) (widened p).wide.ensures.0;
       bounds = p.run-bound.ensures;
     }
 
 -- what the rows of the entry are searched for
 abbrev wanted : tie.After-run-bound invariant-loop decreases-loop invariant-rows decreases-rows invariant-entries decreases-entries → Verdict
-wanted p = let a = (begun (entry p).before).args in entriesFrom a.levels.now a.types.now a.rows a.t4 1
+wanted p = let a = (begun (entry p).before).args in entries_from a.levels.now a.types.now a.rows a.t4 1
 
 -- where the walk stands for the row
 stood : (k : tie.After-candidate-from invariant-loop decreases-loop invariant-rows decreases-rows invariant-entries decreases-entries)
@@ -89,7 +89,7 @@ entries-holds : tie.Need-entries-init invariant-loop decreases-loop invariant-ro
 entries-holds c =
     let a = c.before.before.args in
     let m = c.before.before.requires.2 in
-    (m.some, m.few, refl, entries-met a.levels.now a.types.now a.rows a.t4 a.met m.some m.few m.each, m.before)
+    (m.some, m.few, refl, entries_met a.levels.now a.types.now a.rows a.t4 a.met m.some m.few m.each, m.before)
 
 element-copy-out-own :
     tie.Need-element-copy-out-own invariant-loop decreases-loop invariant-rows decreases-rows invariant-entries decreases-entries
@@ -119,7 +119,7 @@ rows-holds : tie.Need-rows-init invariant-loop decreases-loop invariant-rows dec
 rows-holds c =
     let i : tie.In-entries invariant-loop decreases-loop invariant-rows decreases-rows invariant-entries decreases-entries = search in
     let e = i.before.entries in
-    (e.inv.2, done-before (asked c) (wanted c) e.r (e.inv.4 i.entries-test.taken) e.inv.3)
+    (e.inv.2, done_before (asked c) (wanted c) e.r (e.inv.4 i.entries-test.taken) e.inv.3)
 
 candidate-from-requires :
     tie.Need-candidate-from-requires invariant-loop decreases-loop invariant-rows decreases-rows invariant-entries decreases-entries
@@ -133,7 +133,7 @@ loop-holds : tie.Need-loop-init invariant-loop decreases-loop invariant-rows dec
 loop-holds c =
     let k : tie.After-candidate-from invariant-loop decreases-loop invariant-rows decreases-rows invariant-entries decreases-entries = search in
     let p : tie.After-run-bound invariant-loop decreases-loop invariant-rows decreases-rows invariant-entries decreases-entries = search in
-    (refl, candidates-here (asked p) (wanted p) k.before.before.rows.r k.candidate-from.result (stood k))
+    (refl, candidates_here (asked p) (wanted p) k.before.before.rows.r k.candidate-from.result (stood k))
 
 shared-slice-read-if2 :
     tie.Need-shared-slice-read-if2 invariant-loop decreases-loop invariant-rows decreases-rows invariant-entries decreases-entries
@@ -146,7 +146,7 @@ rows-again c =
     let w : tie.At-rows invariant-loop decreases-loop invariant-rows decreases-rows invariant-entries decreases-entries = search in
     rw l.loop.inv.0 (
       w.rows.inv.0,
-      done-partnered (asked w.before) (wanted w.before) w.rows.j w.rows.r w.rows.inv.1 d.rows-test.taken l.before.if1.taken
+      done_partnered (asked w.before) (wanted w.before) w.rows.j w.rows.r w.rows.inv.1 d.rows-test.taken l.before.if1.taken
           l.loop.j l.loop.inv.1 c.before.before.loop-test.true c.if2.true,
     )
 
@@ -166,7 +166,7 @@ loop-again c =
     let w : tie.At-rows invariant-loop decreases-loop invariant-rows decreases-rows invariant-entries decreases-entries = search in
     let o = c.before in (
       l.loop.inv.0,
-      candidates-on (asked w.before) (wanted w.before) w.rows.r l.loop.j c.next-in-run.result l.loop.inv.1
+      candidates_on (asked w.before) (wanted w.before) w.rows.r l.loop.j c.next-in-run.result l.loop.inv.1
           i.loop-test.taken o.if2.false c.next-in-run.ensures,
     )
 
@@ -176,7 +176,7 @@ rows-again-2 c =
     let d : tie.In-rows invariant-loop decreases-loop invariant-rows decreases-rows invariant-entries decreases-entries = search in
     let w : tie.At-rows invariant-loop decreases-loop invariant-rows decreases-rows invariant-entries decreases-entries = search in (
       w.rows.inv.0,
-      done-other (asked w.before) (wanted w.before) w.rows.j w.rows.r w.rows.inv.1 d.rows-test.taken k.candidate-from.result
+      done_other (asked w.before) (wanted w.before) w.rows.j w.rows.r w.rows.inv.1 d.rows-test.taken k.candidate-from.result
           (stood k) c.if1.false,
     )
 
@@ -188,7 +188,7 @@ entries-again c =
       omega (arith, i.entries-test.taken),
       w.rows.invariant.0,
       done_all (asked w.before) (wanted w.before) w.rows.j w.rows.r c.rows-test.false w.rows.invariant.1,
-      λ lt. before-none _ _ _ _ _ _,
+      λ lt. before_none _ _ _ _ _ _,
     )
 
 returns : tie.Need-returns invariant-loop decreases-loop invariant-rows decreases-rows invariant-entries decreases-entries

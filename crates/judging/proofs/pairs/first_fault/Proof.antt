@@ -6,28 +6,28 @@ use borrow.Author.Rules.{rules}
 use Rattle.paper.specs.Lists.{first_or}
 use Rattle.paper.specs.Verdict.{Verdict, kept}
 use Rattle.judging.specs.Told.{told}
-use Rattle.judging.specs.Pairs.{firstFault}
-use Rattle.judging.proofs.Ways.{way-fits}
-use Rattle.judging.proofs.Faults.{Outer, Inner, outer_start, inner_start, inner-step, inner-found, inner-end, outer-end}
-use Rattle.judging.proofs.Faults.{faultsOf, faults-none, faults-one}
+use Rattle.judging.specs.Pairs.{first_fault}
+use Rattle.judging.proofs.Ways.{way_fits}
+use Rattle.judging.proofs.Faults.{Outer, Inner, outer_start, inner_start, inner_step, inner_found, inner_end, outer_end}
+use Rattle.judging.proofs.Faults.{faults_of, faults_none, faults_one}
 use Rattle.judging.proofs.pairs.first_fault.Statement.{statement}
 use Rattle.judging.proofs.pairs.first_fault.Tie as tie
 
 abbrev invariant-loop2 : tie.invariant-loop2
-invariant-loop2 shape ways full meetings levels edges types e f₀ f = Inner (first_or kept) (faultsOf shape ways full meetings) shape.entries e f
+invariant-loop2 shape ways full meetings levels edges types e f₀ f = Inner (first_or kept) (faults_of shape ways full meetings) shape.entries e f
 
 abbrev decreases-loop2 : tie.decreases-loop2
 decreases-loop2 shape ways full meetings levels edges types e f₀ f = shape.entries - f
 
 abbrev invariant-loop : tie.invariant-loop
-invariant-loop shape ways full meetings levels edges types e₀ e = Outer (first_or kept) (faultsOf shape ways full meetings) shape.entries e
+invariant-loop shape ways full meetings levels edges types e₀ e = Outer (first_or kept) (faults_of shape ways full meetings) shape.entries e
 
 abbrev decreases-loop : tie.decreases-loop
 decreases-loop shape ways full meetings levels edges types e₀ e = shape.entries - e
 
 -- what each pair of entries earns, where it is a fault
 abbrev faults : tie.Start invariant-loop2 decreases-loop2 invariant-loop decreases-loop → ℕ → ℕ → List Verdict
-faults s = let a = s.args in faultsOf a.shape a.ways.now a.full a.meetings.now
+faults s = let a = s.args in faults_of a.shape a.ways.now a.full a.meetings.now
 
 abbrev entries : tie.Start invariant-loop2 decreases-loop2 invariant-loop decreases-loop → ℕ
 entries s = s.args.shape.entries
@@ -35,7 +35,7 @@ entries s = s.args.shape.entries
 loop-holds : tie.Need-loop-init invariant-loop2 decreases-loop2 invariant-loop decreases-loop
 loop-holds c =
     let s : tie.Start invariant-loop2 decreases-loop2 invariant-loop decreases-loop = search in let a = s.args in
-    outer_start (first_or kept) (faultsOf a.shape a.ways.now a.full a.meetings.now) a.shape.entries
+    outer_start (first_or kept) (faults_of a.shape a.ways.now a.full a.meetings.now) a.shape.entries
 
 loop2-holds : tie.Need-loop2-init invariant-loop2 decreases-loop2 invariant-loop decreases-loop
 loop2-holds c =
@@ -59,7 +59,7 @@ pair-verdict-requires c κs =
     let w : tie.At-loop invariant-loop2 decreases-loop2 invariant-loop decreases-loop = search in
     let s : tie.Start invariant-loop2 decreases-loop2 invariant-loop decreases-loop = search in
     let room = s.pre.0 in
-    (way-fits room w.loop.e d.before.if1.taken, way-fits room d.loop2.f c.before.if2.true)
+    (way_fits room w.loop.e d.before.if1.taken, way_fits room d.loop2.f c.before.if2.true)
 
 loop2-again : tie.Need-loop2-preserved invariant-loop2 decreases-loop2 invariant-loop decreases-loop
 loop2-again c =
@@ -67,35 +67,35 @@ loop2-again c =
     let d : tie.At-loop2 invariant-loop2 decreases-loop2 invariant-loop decreases-loop = search in
     let w : tie.At-loop invariant-loop2 decreases-loop2 invariant-loop decreases-loop = search in
     let s : tie.Start invariant-loop2 decreases-loop2 invariant-loop decreases-loop = search in let a = s.args in
-    inner-step (first_or kept) (faults s) (entries s) w.loop.e d.loop2.f d.loop2.inv v.before.before.if2.taken
-    (faults-none a.shape a.ways.now a.full a.meetings.now w.loop.e d.loop2.f v.before.meeting.result
-    v.before.meeting.ensures.0 v.pair-verdict.result v.pair-verdict.ensures c.enum_told.given.1)
+    inner_step (first_or kept) (faults s) (entries s) w.loop.e d.loop2.f d.loop2.inv v.before.before.if2.taken
+    (faults_none a.shape a.ways.now a.full a.meetings.now w.loop.e d.loop2.f v.before.meeting.result
+    v.before.meeting.ensures.0 v.pair_verdict.result v.pair_verdict.ensures c.enum_told.given.1)
 
 returns : tie.Need-returns invariant-loop2 decreases-loop2 invariant-loop decreases-loop
-unfolding firstFault
+unfolding first_fault
 returns c =
     let d : tie.At-loop2 invariant-loop2 decreases-loop2 invariant-loop decreases-loop = search in
     let w : tie.At-loop invariant-loop2 decreases-loop2 invariant-loop decreases-loop = search in
     let s : tie.Start invariant-loop2 decreases-loop2 invariant-loop decreases-loop = search in let a = s.args in
     let v = c.before in
-    inner-found (first_or kept) (faults s) (entries s) w.loop.e d.loop2.f d.loop2.inv v.before.before.if2.true
-    (told v.pair-verdict.result)
-    (faults-one a.shape a.ways.now a.full a.meetings.now w.loop.e d.loop2.f v.before.meeting.result
-    v.before.meeting.ensures.0 v.pair-verdict.result v.pair-verdict.ensures c.match.keys2)
+    inner_found (first_or kept) (faults s) (entries s) w.loop.e d.loop2.f d.loop2.inv v.before.before.if2.true
+    (told v.pair_verdict.result)
+    (faults_one a.shape a.ways.now a.full a.meetings.now w.loop.e d.loop2.f v.before.meeting.result
+    v.before.meeting.ensures.0 v.pair_verdict.result v.pair_verdict.ensures c.match.keys2)
 
 loop-again : tie.Need-loop-preserved invariant-loop2 decreases-loop2 invariant-loop decreases-loop
 loop-again c =
     let d : tie.At-loop2 invariant-loop2 decreases-loop2 invariant-loop decreases-loop = search in
     let w : tie.At-loop invariant-loop2 decreases-loop2 invariant-loop decreases-loop = search in
     let s : tie.Start invariant-loop2 decreases-loop2 invariant-loop decreases-loop = search in
-    inner-end (first_or kept) (faults s) (entries s) w.loop.e d.loop2.f d.loop2.inv c.if2.false
+    inner_end (first_or kept) (faults s) (entries s) w.loop.e d.loop2.f d.loop2.inv c.if2.false
 
 returns-2 : tie.Need-returns-2 invariant-loop2 decreases-loop2 invariant-loop decreases-loop
-unfolding firstFault
+unfolding first_fault
 returns-2 c =
     let w : tie.At-loop invariant-loop2 decreases-loop2 invariant-loop decreases-loop = search in
     let s : tie.Start invariant-loop2 decreases-loop2 invariant-loop decreases-loop = search in
-    outer-end (first_or kept) (faults s) (entries s) w.loop.e c.if1.false w.loop.inv
+    outer_end (first_or kept) (faults s) (entries s) w.loop.e c.if1.false w.loop.inv
 
 pub first-fault-spec : {M : Type 1} → statement M
 first-fault-spec =

@@ -4,15 +4,15 @@ use native.Mathlib.Omega.{arith}
 use mathlib.Core.Path.{◌≡◌, refl, sym, ◌∙◌, ap}
 use lib.ListN.{drop}
 use borrow.Author.Rules.{rules}
-use Rattle.shapes.specs.Ways.{wayAt}
-use Rattle.judging.specs.Pairs.{WayFits, lowest, levelsOn}
-use Rattle.judging.proofs.Ways.{fits_read, way-within, way-entry, lowest_step, lowest-end}
+use Rattle.shapes.specs.Ways.{way_at}
+use Rattle.judging.specs.Pairs.{WayFits, lowest, levels_on}
+use Rattle.judging.proofs.Ways.{fits_read, way_within, way_entry, lowest_step, lowest_end}
 use Rattle.judging.proofs.pairs.least_level.Statement.{statement}
 use Rattle.judging.proofs.pairs.least_level.Tie as tie
 
 abbrev invariant-loop : tie.invariant-loop
 invariant-loop ways e k b edges size least₀ i₀ least i =
-    lowest least (levelsOn edges (drop i (wayAt ways e size))) ≡ lowest b (levelsOn edges (drop k (wayAt ways e size)))
+    lowest least (levels_on edges (drop i (way_at ways e size))) ≡ lowest b (levels_on edges (drop k (way_at ways e size)))
 
 abbrev decreases-loop : tie.decreases-loop
 decreases-loop ways e k b edges size least₀ i₀ least i = size - i
@@ -29,12 +29,12 @@ loop-holds : tie.Need-loop-init invariant-loop decreases-loop
 loop-holds c = refl
 
 shared-slice-read-wide : tie.Need-shared-slice-read-wide invariant-loop decreases-loop
-shared-slice-read-wide c = omega (arith, way-within (fits c.before.before))
+shared-slice-read-wide c = omega (arith, way_within (fits c.before.before))
 
 array-read-wide-2 : tie.Need-array-read-wide-2 invariant-loop decreases-loop
 array-read-wide-2 c =
     let test = c.before.before in
-    way-entry (fits test.before) test.before.loop.i c.wide2.result test.loop-test.true c.wide2.ensures.0
+    way_entry (fits test.before) test.before.loop.i c.wide2.result test.loop-test.true c.wide2.ensures.0
 
 loop-again : tie.Need-loop-preserved invariant-loop decreases-loop
 loop-again c =
@@ -49,8 +49,8 @@ returns : tie.Need-returns invariant-loop decreases-loop
 returns c =
     let w = c.before in
     let a = (begun w).args in
-    sym (lowest-end (fits w) a.t2 w.loop.i c.loop-test.false w.loop.least) ∙ w.loop.invariant
-    ∙ ap (λ n. lowest a.b (levelsOn a.t2 (drop a.k (wayAt a.ways.now a.e n)))) w.before.wide.ensures.0
+    sym (lowest_end (fits w) a.t2 w.loop.i c.loop-test.false w.loop.least) ∙ w.loop.invariant
+    ∙ ap (λ n. lowest a.b (levels_on a.t2 (drop a.k (way_at a.ways.now a.e n)))) w.before.wide.ensures.0
 
 pub least-level-spec : {M : Type 1} → statement M
 least-level-spec =

@@ -1,6 +1,6 @@
 -- `judging::pairs::pair_verdict` meets its contract. Assumes nothing.
 use borrow.Author.Rules.{rules}
-use Rattle.judging.proofs.Earned.{earned-apart, earned-down, earned-kept, earned-unsure}
+use Rattle.judging.proofs.Earned.{earned_apart, earned_down, earned_kept, earned_unsure}
 use Rattle.judging.proofs.pairs.pair_verdict.Statement.{statement}
 use Rattle.judging.proofs.pairs.pair_verdict.Tie as tie
 
@@ -12,14 +12,14 @@ returns : tie.Need-returns
 returns c =
     let w = c.before.before in
     let a = (begun w).args in
-    earned-apart w.walk-path.ensures a.full a.l c.if1.true
+    earned_apart w.walk-path.ensures a.full a.l c.if1.true
 
 returns-2 : tie.Need-returns-2
 returns-2 c =
     let x = c.before in
     let w = x.before.before.before in
     let a = (begun w).args in
-    earned-down w.walk-path.ensures a.full a.l x.before.if1.false x.sure-down-lem.result x.sure-down-lem.ensures c.if2.true
+    earned_down w.walk-path.ensures a.full a.l x.before.if1.false x.sure_down_lem.result x.sure_down_lem.ensures c.if2.true
 
 returns-3 : tie.Need-returns-3
 returns-3 c =
@@ -27,7 +27,7 @@ returns-3 c =
     let x = y.before.before in
     let w = x.before.before.before in
     let a = (begun w).args in
-    earned-kept w.walk-path.ensures a.full a.l x.before.if1.false x.sure-down-lem.result x.sure-down-lem.ensures y.before.if2.false
+    earned_kept w.walk-path.ensures a.full a.l x.before.if1.false x.sure_down_lem.result x.sure_down_lem.ensures y.before.if2.false
     y.sure-down2.result y.sure-down2.ensures c.if3.true
 
 returns-4 : tie.Need-returns-4
@@ -36,7 +36,7 @@ returns-4 c =
     let x = y.before.before in
     let w = x.before.before.before in
     let a = (begun w).args in
-    earned-unsure w.walk-path.ensures a.full a.l x.before.if1.false x.sure-down-lem.result x.sure-down-lem.ensures y.before.if2.false
+    earned_unsure w.walk-path.ensures a.full a.l x.before.if1.false x.sure_down_lem.result x.sure_down_lem.ensures y.before.if2.false
     y.sure-down2.result y.sure-down2.ensures c.if3.false
 
 pub pair-verdict-spec : {M : Type 1} → statement M

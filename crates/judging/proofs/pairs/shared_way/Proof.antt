@@ -6,7 +6,7 @@ use mathlib.Core.Path.{◌≡◌, ◌∙◌, ap₂}
 use lib.ListN.{get_or}
 use borrow.Author.Count.{below_more}
 use borrow.Author.Rules.{rules}
-use Rattle.judging.proofs.Ways.{Alike, way-within, shared-apart, shared-whole}
+use Rattle.judging.proofs.Ways.{Alike, way_within, shared_apart, shared-whole}
 use Rattle.judging.proofs.pairs.shared_way.Statement.{statement}
 use Rattle.judging.proofs.pairs.shared_way.Tie as tie
 
@@ -32,19 +32,19 @@ shared-slice-read-if1 : tie.Need-shared-slice-read-if1 invariant-loop decreases-
 shared-slice-read-if1 c =
     let w = c.before.before in
     let s = begun w.before in
-    omega (arith, least w.before, way-within s.pre.0)
+    omega (arith, least w.before, way_within s.pre.0)
 
 shared-slice-read-if1-2 : tie.Need-shared-slice-read-if1-2 invariant-loop decreases-loop
 shared-slice-read-if1-2 c =
     let w = c.before.before.before in
     let s = begun w.before in
-    omega (arith, least w.before, way-within s.pre.1)
+    omega (arith, least w.before, way_within s.pre.1)
 
 returns : tie.Need-returns invariant-loop decreases-loop
 returns c =
     let w = c.before.before.before.before in
     let s = begun w.before in
-    shared-apart s.pre.0 s.pre.1 w.before.smaller.result w.loop.k (least w.before) w.loop.invariant.1
+    shared_apart s.pre.0 s.pre.1 w.before.smaller.result w.loop.k (least w.before) w.loop.invariant.1
     c.before.before.before.loop-test.true c.if1.true
 
 loop-again : tie.Need-loop-preserved invariant-loop decreases-loop

@@ -5,15 +5,15 @@ use mathlib.Core.Path.{◌≡◌, refl, sym, ◌∙◌, ap}
 use lib.ListN.{drop}
 use borrow.Author.Rules.{rules}
 use borrow.Author.Tests.{not-true, not-false}
-use Rattle.shapes.specs.Ways.{wayAt}
-use Rattle.judging.specs.Pairs.{WayFits, way_of, sureOn}
-use Rattle.judging.proofs.Ways.{fits_read, way-within, way-entry, sure-found, sure-lost, sure_step, sure-end}
+use Rattle.shapes.specs.Ways.{way_at}
+use Rattle.judging.specs.Pairs.{WayFits, way_of, sure_on}
+use Rattle.judging.proofs.Ways.{fits_read, way_within, way_entry, sure_found, sure_lost, sure_step, sure_end}
 use Rattle.judging.proofs.pairs.sure_down.Statement.{statement}
 use Rattle.judging.proofs.pairs.sure_down.Tie as tie
 
 abbrev invariant-loop : tie.invariant-loop
 invariant-loop ways e k l edges full size i₀ i =
-    sureOn edges full l (drop i (wayAt ways e size)) ≡ sureOn edges full l (drop k (wayAt ways e size))
+    sure_on edges full l (drop i (way_at ways e size)) ≡ sure_on edges full l (drop k (way_at ways e size))
 
 abbrev decreases-loop : tie.decreases-loop
 decreases-loop ways e k l edges full size i₀ i = size - i
@@ -29,26 +29,26 @@ fits w = fits_read w.before.wide.ensures.0 (begun w).requires
 -- what is so from place i on is the answer
 answer : (w : tie.At-loop invariant-loop decreases-loop)
     → let a = (begun w).args in
-    sureOn a.t2 a.t3 a.l (drop w.loop.i (wayAt a.ways.now a.e w.before.wide.result))
-    ≡ sureOn a.t2 a.t3 a.l (drop a.k (way_of a.t1 a.ways.now a.e))
+    sure_on a.t2 a.t3 a.l (drop w.loop.i (way_at a.ways.now a.e w.before.wide.result))
+    ≡ sure_on a.t2 a.t3 a.l (drop a.k (way_of a.t1 a.ways.now a.e))
 answer w =
     let a = (begun w).args in
-    w.loop.invariant ∙ ap (λ n. sureOn a.t2 a.t3 a.l (drop a.k (wayAt a.ways.now a.e n))) w.before.wide.ensures.0
+    w.loop.invariant ∙ ap (λ n. sure_on a.t2 a.t3 a.l (drop a.k (way_at a.ways.now a.e n))) w.before.wide.ensures.0
 
 -- what stands on the way is an entry
-entry-few : (c : tie.After-wide2 invariant-loop decreases-loop) → c.wide2.result < 16
-entry-few c =
+entry_few : (c : tie.After-wide2 invariant-loop decreases-loop) → c.wide2.result < 16
+entry_few c =
     let test = c.before.before in
-    way-entry (fits test.before) test.before.loop.i c.wide2.result test.loop-test.true c.wide2.ensures.0
+    way_entry (fits test.before) test.before.loop.i c.wide2.result test.loop-test.true c.wide2.ensures.0
 
 loop-holds : tie.Need-loop-init invariant-loop decreases-loop
 loop-holds c = refl
 
 shared-slice-read-wide : tie.Need-shared-slice-read-wide invariant-loop decreases-loop
-shared-slice-read-wide c = omega (arith, way-within (fits c.before.before))
+shared-slice-read-wide c = omega (arith, way_within (fits c.before.before))
 
 array-read-wide-2 : tie.Need-array-read-wide-2 invariant-loop decreases-loop
-array-read-wide-2 c = entry-few c
+array-read-wide-2 c = entry_few c
 
 returns : tie.Need-returns invariant-loop decreases-loop
 returns c =
@@ -57,11 +57,11 @@ returns c =
     let test = d.before.before in
     let w = test.before in
     let a = (begun w).args in
-    sym (sure-found (fits w) a.t2 w.loop.i test.loop-test.true a.t3
+    sym (sure_found (fits w) a.t2 w.loop.i test.loop-test.true a.t3
     d.wide2.result v.wide3.result a.l d.wide2.ensures.0 v.wide3.ensures.0 c.if1.true) ∙ answer w
 
 array-read-if2 : tie.Need-array-read-if2 invariant-loop decreases-loop
-array-read-if2 c = entry-few c.before.before
+array-read-if2 c = entry_few c.before.before
 
 returns-2 : tie.Need-returns-2 invariant-loop decreases-loop
 returns-2 c =
@@ -70,7 +70,7 @@ returns-2 c =
     let test = d.before.before in
     let w = test.before in
     let a = (begun w).args in
-    sym (sure-lost (fits w) a.t2 w.loop.i test.loop-test.true a.t3
+    sym (sure_lost (fits w) a.t2 w.loop.i test.loop-test.true a.t3
     d.wide2.result v.wide3.result a.l d.wide2.ensures.0 v.wide3.ensures.0 c.before.if1.false
     (not-true _ c.if2.true)) ∙ answer w
 
@@ -89,7 +89,7 @@ returns-3 : tie.Need-returns-3 invariant-loop decreases-loop
 returns-3 c =
     let w = c.before in
     let a = (begun w).args in
-    sym (sure-end (fits w) a.t2 w.loop.i c.loop-test.false a.t3 a.l) ∙ answer w
+    sym (sure_end (fits w) a.t2 w.loop.i c.loop-test.false a.t3 a.l) ∙ answer w
 
 pub sure-down-spec : {M : Type 1} → statement M
 sure-down-spec =

@@ -2,7 +2,7 @@
 use mathlib.Core.Path.{sym, ◌∙◌, ap}
 use borrow.Author.Rules.{rules}
 use Rattle.judging.specs.Told.{told}
-use Rattle.judging.proofs.Beside.{beside_none, beside-apart}
+use Rattle.judging.proofs.Beside.{beside_none, beside_apart}
 use Rattle.judging.proofs.second.none_apart_beside.Statement.{statement}
 use Rattle.judging.proofs.second.none_apart_beside.Tie as tie
 
@@ -16,7 +16,7 @@ returns-2 : tie.Need-returns-2
 returns-2 c =
     let b : tie.Start = search in let a = b.args in
     let (full, e) = b.pre.2 in
-    beside-apart a.shape a.ways.now full a.meetings.now _ _ (ap told (sym c.before.fault.given.1) ∙ e)
+    beside_apart a.shape a.ways.now full a.meetings.now _ _ (ap told (sym c.before.fault.given.1) ∙ e)
 
 pub none-apart-beside-spec : {M : Type 1} → statement M
 none-apart-beside-spec =

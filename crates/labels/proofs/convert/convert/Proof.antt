@@ -1,14 +1,14 @@
 -- `convert::convert`: what the tests of the two files refuse, else what is left to be tested. Assumes nothing.
 use mathlib.Core.Path.{◌≡◌, sym, ◌∙◌, ap, subst}
 use lib.Dec.{lit≤}
-use Rattle.paper.specs.Format.{Format, rowBytes, whole}
+use Rattle.paper.specs.Format.{Format, row_bytes, whole}
 use Rattle.paper.specs.Tables as Tables
-use Rattle.paper.specs.Calls.{given, tests1-3, examine}
-use Rattle.paper.specs.Labels.{oldRange, convert}
-use Rattle.bytes.specs.Served.{Served}
+use Rattle.paper.specs.Calls.{given, tests1_3, examine}
+use Rattle.paper.specs.Labels.{old_range, convert}
+use Rattle.octets.specs.Served.{Served}
 use Rattle.tables.specs.Reply.{examined}
 use Rattle.tables.proofs.Examine as Table
-use Rattle.shapes.specs.Tests.{shapeExamined, shapeReply}
+use Rattle.shapes.specs.Tests.{shape_examined, shape_reply}
 use Rattle.shapes.proofs.Examined as Shape
 use Rattle.labels.specs.Answers.{Converts}
 use Rattle.labels.specs.declared.convert.Converted.{Converted}
@@ -24,7 +24,7 @@ abbrev begun : tie.After-old-range → tie.Start
 begun x = lent x.before.before
 
 -- the old range is served
-served : (f g : Format) → g ≡ oldRange f → Served f → Served g
+served : (f g : Format) → g ≡ old_range f → Served f → Served g
 served f g e s = subst (λ (h : Format). Served h) (sym e) (record { deep = s.deep; shallow = s.shallow; small = lit≤ tt })
 
 -- what is met, and left as it was, by an answer
@@ -40,27 +40,27 @@ examine-requires c κs = let s : tie.Start = search in served s.args.f _ c.old-r
 table-told : (x : tie.After-examine) →
     let r = x.examine.result in
     let a = (begun x.before).args in
-    examined r ≡ examine (oldRange a.f) a.table.now
+    examined r ≡ examine (old_range a.f) a.table.now
 table-told x =
     let s : tie.Start = search in
     let a = s.args in x.examine.ensures ∙ ap (λ (g : Format). examine g a.table.now) x.before.old-range.ensures
 
 shape-told : (y : tie.After-examine-shape) →
     let a = (begun y.before.before.before.before).args in
-    shapeExamined y.examine-shape.result ≡ shapeReply (oldRange a.f) a.shape.now
+    shape_examined y.examine-shape.result ≡ shape_reply (old_range a.f) a.shape.now
 shape-told y =
     let s : tie.Start = search in let a = s.args in
-    y.examine-shape.ensures ∙ ap (λ (g : Format). shapeReply g a.shape.now) y.before.old-range2.ensures
+    y.examine-shape.ensures ∙ ap (λ (g : Format). shape_reply g a.shape.now) y.before.old-range2.ensures
 
 -- the table passes its tests
 passed : (e : tie.Else1) →
     let a = (begun e.before.before).args in
-    (tests1-3 (oldRange a.f) a.table.now ≡ given (Tables.rows (oldRange a.f) a.table.now))
-    × (e.before.examine.result.rows ≡ whole (rowBytes a.f) a.table.now)
+    (tests1_3 (old_range a.f) a.table.now ≡ given (Tables.rows (old_range a.f) a.table.now))
+    × (e.before.examine.result.rows ≡ whole (row_bytes a.f) a.table.now)
 passed e =
     let s : tie.Start = search in let a = s.args in
     let r = e.before.examine.result in
-    Table.examined-given (oldRange a.f) a.table.now r.number r.place r.rows (table-told e.before) e.if1.false
+    Table.examined-given (old_range a.f) a.table.now r.number r.place r.rows (table-told e.before) e.if1.false
 
 returns : tie.Need-returns
 returns c =
@@ -70,7 +70,7 @@ returns c =
     let r = x.examine.result in
     subst (Left s) (sym c.refused.ensures)
     (table-refused a.f a.table.now a.shape.now a.list.now a.new-table.now a.new-shape.now r.number r.place
-    (Table.examined-refused (oldRange a.f) a.table.now r.number r.place r.rows (table-told x) c.before.if1.true))
+    (Table.examined-refused (old_range a.f) a.table.now r.number r.place r.rows (table-told x) c.before.if1.true))
 
 examine-shape-requires : tie.Need-examine-shape-requires
 examine-shape-requires c κs = let s : tie.Start = search in served s.args.f _ c.old-range2.ensures s.pre
@@ -84,7 +84,7 @@ returns-2 c =
     let r = y.examine-shape.result in
     subst (Left s) (sym c.refused2.ensures)
     (shape-refused a.f a.table.now a.shape.now a.list.now a.new-table.now a.new-shape.now _ (passed e).0 r.number r.place
-    (Shape.examined-refused (oldRange a.f) a.shape.now r.number r.place r.entries (shape-told y) c.before.if2.true))
+    (Shape.examined-refused (old_range a.f) a.shape.now r.number r.place r.entries (shape-told y) c.before.if2.true))
 
 convert-tested-requires : tie.Need-convert-tested-requires
 convert-tested-requires c κs =
@@ -92,7 +92,7 @@ convert-tested-requires c κs =
     let e : tie.Else1 = search in
     let y : tie.After-examine-shape = search in
     let d : tie.Else2 = search in
-    let old = oldRange s.args.f in
+    let old = old_range s.args.f in
     let shape = s.args.shape.now in
     let r = y.examine-shape.result in
     record {
@@ -101,8 +101,8 @@ convert-tested-requires c κs =
         rows-counted = (passed e).1;
         entries-counted = Shape.counted old shape r.number r.place r.entries (shape-told y) d.if2.left;
       };
-      table-passes = (passed e).0;
-      shape-passes = Shape.examined-given old shape r.number r.place r.entries (shape-told y) d.if2.left;
+      table_passes = (passed e).0;
+      shape_passes = Shape.examined-given old shape r.number r.place r.entries (shape-told y) d.if2.left;
     }
 
 pub convert-spec : {M : Type 1} → statement M

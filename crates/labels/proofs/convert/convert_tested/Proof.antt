@@ -5,15 +5,15 @@ use native.Mathlib.Omega.{arith}
 use mathlib.Core.Path.{◌≡◌, sym, ◌∙◌, ap, subst}
 use mathlib.Core.List.{List}
 use lib.ListN.{length}
-use Rattle.paper.specs.Lists.{any, firstPlace}
+use Rattle.paper.specs.Lists.{any, first_place}
 use Rattle.paper.specs.Format.{whole}
 use Rattle.paper.specs.Tables.{Row, rows}
 use Rattle.paper.specs.Shapes.{Entry, entries, named}
-use Rattle.paper.specs.Labels.{oldRange, pairs, unlisted, convert}
+use Rattle.paper.specs.Labels.{old_range, pairs, unlisted, convert}
 use Rattle.tables.specs.Place.{place_of}
 use Rattle.labels.specs.Answers.{Converts}
 use Rattle.labels.specs.declared.convert.Converted.{Converted}
-use Rattle.labels.proofs.Answers.{row-place, entry_place, refused-25, refused-row, refused-entry, refused-table, refused-shape, accepted}
+use Rattle.labels.proofs.Answers.{row-place, entry_place, refused_25, refused-row, refused-entry, refused-table, refused-shape, accepted}
 use borrow.Author.Rules.{rules}
 use Rattle.labels.proofs.convert.convert_tested.Statement.{statement}
 use Rattle.labels.proofs.convert.convert_tested.Tie as tie
@@ -36,7 +36,7 @@ returns c =
     let q : tie.After-count-pairs = search in
     let a = s.args in
     subst (Left s) (sym c.refused.ensures)
-    (refused-25 a.f a.table.now a.shape.now a.list.now a.new-table.now a.new-shape.now a.rows a.entries s.pre
+    (refused_25 a.f a.table.now a.shape.now a.list.now a.new-table.now a.new-shape.now a.rows a.entries s.pre
     q.before.first-bad.result q.before.first-bad.ensures (omega (arith, c.before.if1.true, q.count-pairs.ensures)))
 
 first-unlisted-requires : tie.Need-first-unlisted-requires
@@ -53,7 +53,7 @@ right e = omega (arith, e.if1.false, e.before.count-pairs.ensures)
 -- the first row with a label that is not in it
 first-row : (u : tie.After-first-unlisted) →
     let a = (begun u.before.before.before).args in
-    firstPlace (λ (r : Row). unlisted a.f (pairs a.list.now) r.label) (rows (oldRange a.f) a.table.now)
+    first_place (λ (r : Row). unlisted a.f (pairs a.list.now) r.label) (rows (old_range a.f) a.table.now)
     ≡ place_of u.first-unlisted.result a.rows
 first-row u =
     let s : tie.Start = search in let a = s.args in
@@ -84,7 +84,7 @@ listed x = x.before.before.before
 
 first_entry : (x : tie.After-first-unlisted2) →
     let a = (begun (listed x).before.before.before).args in
-    firstPlace (λ (e : Entry). any (unlisted a.f (pairs a.list.now)) (named e)) (entries (oldRange a.f) a.shape.now)
+    first_place (λ (e : Entry). any (unlisted a.f (pairs a.list.now)) (named e)) (entries (old_range a.f) a.shape.now)
     ≡ place_of x.first-unlisted2.result a.entries
 first_entry x =
     let s : tie.Start = search in let a = s.args in

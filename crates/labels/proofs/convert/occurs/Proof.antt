@@ -2,7 +2,7 @@
 use native.Mathlib.Omega.{arith}
 use mathlib.Core.Path.{sym, ◌∙◌, ap}
 use Rattle.paper.specs.Format.{whole}
-use Rattle.labels.proofs.Standing.{in_table, in-shape}
+use Rattle.labels.proofs.Standing.{in_table, in_shape}
 use borrow.Author.Rules.{rules}
 use Rattle.labels.proofs.convert.occurs.Statement.{statement}
 use Rattle.labels.proofs.convert.occurs.Tie as tie
@@ -38,7 +38,7 @@ returns-2 c =
     let e : tie.Else1 = search in
     let v = c.before in
     let a = s.args in
-    in-shape a.f a.table.now a.shape.now a.x _ a.rows w.row-bytes.ensures s.pre.rows-counted
+    in_shape a.f a.table.now a.shape.now a.x _ a.rows w.row-bytes.ensures s.pre.rows-counted
     (sym h.file-has.ensures ∙ e.if1.left) _ a.entries v.entry-bytes.ensures s.pre.entries-counted _ c.file-has2.ensures
 
 pub occurs-spec : {M : Type 1} → statement M

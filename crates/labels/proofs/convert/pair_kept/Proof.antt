@@ -1,7 +1,7 @@
 -- `convert::pair_kept`: each test decides one rule. Assumes nothing.
 use Rattle.labels.specs.Records.{standing}
 use Rattle.labels.proofs.Listed.{counted}
-use Rattle.labels.proofs.Kept.{too_small, too_large, no_label, new-too-large, new-occurs, old-twice, new-decides}
+use Rattle.labels.proofs.Kept.{too_small, too_large, no_label, new_too_large, new_occurs, old_twice, new_decides}
 use borrow.Author.Rules.{rules}
 use Rattle.labels.proofs.convert.pair_kept.Statement.{statement}
 use Rattle.labels.proofs.convert.pair_kept.Tie as tie
@@ -57,7 +57,7 @@ returns-4 c =
     let v = read e1.before in
     let s = begun v.before in
     let a = s.args in
-    new-too-large a.f (standing a.f a.table.now a.shape.now) a.list.now a.i _ _ s.pre.1
+    new_too_large a.f (standing a.f a.table.now a.shape.now) a.list.now a.i _ _ s.pre.1
     v.before.number_at.ensures.0 v.number-at2.ensures.0 e1.if1.false e2.if2.false e3.if3.false c.if4.true
 
 returns-5 : tie.Need-returns-5
@@ -70,7 +70,7 @@ returns-5 c =
     let v = read e1.before in
     let s = begun v.before in
     let a = s.args in
-    new-occurs a.f (standing a.f a.table.now a.shape.now) a.list.now a.i _ _ s.pre.1
+    new_occurs a.f (standing a.f a.table.now a.shape.now) a.list.now a.i _ _ s.pre.1
     v.before.number_at.ensures.0 v.number-at2.ensures.0 e1.if1.false e2.if2.false e3.if3.false
     e4.if4.false _ o.occurs.ensures c.if5.true
 
@@ -86,7 +86,7 @@ returns-6 c =
     let v = read e1.before in
     let s = begun v.before in
     let a = s.args in
-    old-twice a.f (standing a.f a.table.now a.shape.now) a.list.now a.i _ _ s.pre.1
+    old_twice a.f (standing a.f a.table.now a.shape.now) a.list.now a.i _ _ s.pre.1
     v.before.number_at.ensures.0 v.number-at2.ensures.0 e1.if1.false e2.if2.false e3.if3.false
     e4.if4.false _ o.occurs.ensures e5.if5.false _ g.find.ensures c.if6.true
 
@@ -103,7 +103,7 @@ returns-7 c =
     let v = read e1.before in
     let s = begun v.before in
     let a = s.args in
-    new-decides a.f (standing a.f a.table.now a.shape.now) a.list.now a.i _ _ s.pre.1
+    new_decides a.f (standing a.f a.table.now a.shape.now) a.list.now a.i _ _ s.pre.1
     v.before.number_at.ensures.0 v.number-at2.ensures.0 e1.if1.false e2.if2.false e3.if3.false
     e4.if4.false _ o.occurs.ensures e5.if5.false _ g.find.ensures e6.if6.false _ c.find2.ensures
 

@@ -1,6 +1,6 @@
 -- `pairs::convert_label`: the first pair that has the label tells what it becomes. Assumes nothing.
 use mathlib.Core.Path.{◌∙◌}
-use Rattle.labels.proofs.Listed.{counted, converts-found, converts-stays}
+use Rattle.labels.proofs.Listed.{counted, converts_found, converts_stays}
 use borrow.Author.Rules.{rules}
 use Rattle.labels.proofs.pairs.convert_label.Statement.{statement}
 use Rattle.labels.proofs.pairs.convert_label.Tie as tie
@@ -17,7 +17,7 @@ returns c =
     let n = x.before in
     let a = n.before.before.args in
     let e = c.number_at.ensures in (
-      e.0 ∙ converts-found a.list.now _ _ a.x n.count-pairs.ensures x.find.ensures c.before.if1.true,
+      e.0 ∙ converts_found a.list.now _ _ a.x n.count-pairs.ensures x.find.ensures c.before.if1.true,
       e.1,
     )
 
@@ -26,7 +26,7 @@ returns-2 c =
     let x = c.before in
     let n = x.before in
     let s = n.before.before in
-    (converts-stays s.args.list.now _ _ s.args.x n.count-pairs.ensures x.find.ensures c.if1.false, s.requires)
+    (converts_stays s.args.list.now _ _ s.args.x n.count-pairs.ensures x.find.ensures c.if1.false, s.requires)
 
 pub convert-label-spec : {M : Type 1} → statement M
 convert-label-spec =

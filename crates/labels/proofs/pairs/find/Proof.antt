@@ -5,9 +5,9 @@ use lib.Dec.{eqb}
 use lib.ListN.{take}
 use borrow.Author.Tests.{eq-eqb, ne_eqb}
 use Rattle.paper.specs.Labels.{pairs}
-use Rattle.tables.proofs.Walks.{Looking, looking-start, looking-stop, looking-on, looking-end}
+use Rattle.tables.proofs.Walks.{Looking, looking_start, looking_stop, looking_on, looking_end}
 use Rattle.labels.specs.Pairs.{pair_at, has}
-use Rattle.labels.proofs.Listed.{counted, first-pairs, next-of-first, side-has}
+use Rattle.labels.proofs.Listed.{counted, first-pairs, next_of_first, side_has}
 use borrow.Author.Rules.{rules}
 use Rattle.labels.proofs.pairs.find.Statement.{statement}
 use Rattle.labels.proofs.pairs.find.Tie as tie
@@ -29,10 +29,10 @@ seen : (x : tie.After-number-at invariant-loop decreases-loop) →
 seen x =
     let l = x.before.before in
     let s = begun l in
-    side-has s.args.list.now l.loop.i s.args.side s.args.x _ s.pre.1 x.number_at.ensures.0
+    side_has s.args.list.now l.loop.i s.args.side s.args.x _ s.pre.1 x.number_at.ensures.0
 
 loop-holds : tie.Need-loop-init invariant-loop decreases-loop
-loop-holds c = let a = c.before.args in looking-start (has a.side a.x) (take a.n (pairs a.list.now)) a.n
+loop-holds c = let a = c.before.args in looking_start (has a.side a.x) (take a.n (pairs a.list.now)) a.n
 
 mul-number-at : tie.Need-overflow-mul-number-at invariant-loop decreases-loop
 mul-number-at c = let count = counted (begun c.before).args.list.now in search rules
@@ -47,8 +47,8 @@ returns c =
     let s = begun l in
     let a = s.args in
     let lt = x.before.loop-test.true in
-    looking-stop (has a.side a.x) (take a.n (pairs a.list.now)) a.n l.loop.i l.loop.invariant lt _
-    (next-of-first a.list.now a.n s.pre.0 l.loop.i lt) (seen x ∙ eq-eqb _ _ c.if1.true)
+    looking_stop (has a.side a.x) (take a.n (pairs a.list.now)) a.n l.loop.i l.loop.invariant lt _
+    (next_of_first a.list.now a.n s.pre.0 l.loop.i lt) (seen x ∙ eq-eqb _ _ c.if1.true)
 
 loop-again : tie.Need-loop-preserved invariant-loop decreases-loop
 loop-again c =
@@ -57,15 +57,15 @@ loop-again c =
     let s = begun l in
     let a = s.args in
     let lt = x.before.loop-test.true in
-    looking-on (has a.side a.x) (take a.n (pairs a.list.now)) a.n l.loop.i l.loop.invariant lt _
-    (next-of-first a.list.now a.n s.pre.0 l.loop.i lt) (seen x ∙ ne_eqb _ _ c.if1.false)
+    looking_on (has a.side a.x) (take a.n (pairs a.list.now)) a.n l.loop.i l.loop.invariant lt _
+    (next_of_first a.list.now a.n s.pre.0 l.loop.i lt) (seen x ∙ ne_eqb _ _ c.if1.false)
 
 returns-2 : tie.Need-returns-2 invariant-loop decreases-loop
 returns-2 c =
     let l = c.before in
     let s = begun l in
     let a = s.args in
-    looking-end (has a.side a.x) (take a.n (pairs a.list.now)) a.n l.loop.i l.loop.invariant
+    looking_end (has a.side a.x) (take a.n (pairs a.list.now)) a.n l.loop.i l.loop.invariant
     (first-pairs a.list.now a.n s.pre.0) c.loop-test.false
 
 pub find_spec : {M : Type 1} → statement M

@@ -6,15 +6,15 @@ use mathlib.Core.List.{List}
 use lib.Dec.{eqb}
 use Rattle.paper.specs.Format.{words, records}
 use Rattle.tables.proofs.Rows.{rec, row_in}
-use Rattle.tables.proofs.Walks.{Looking, looking-start, looking-found, looking-on, looking-none, count-records, next-record}
-use Rattle.labels.specs.Records.{hasLabel}
-use Rattle.labels.proofs.Standing.{any-join}
+use Rattle.tables.proofs.Walks.{Looking, looking_start, looking_found, looking_on, looking_none, count-records, next_record}
+use Rattle.labels.specs.Records.{has_label}
+use Rattle.labels.proofs.Standing.{any_join}
 use borrow.Author.Rules.{rules}
 use Rattle.labels.proofs.records.file_has.Statement.{statement}
 use Rattle.labels.proofs.records.file_has.Tie as tie
 
 abbrev invariant-loop : tie.invariant-loop
-invariant-loop b w count from n x i₀ i = Looking (hasLabel from n x) (records w count b) count i
+invariant-loop b w count from n x i₀ i = Looking (has_label from n x) (records w count b) count i
 
 abbrev decreases-loop : tie.decreases-loop
 decreases-loop b w count from n x i₀ i = count - i
@@ -26,13 +26,13 @@ begun l = l.before.before
 seen : (y : tie.After-has-label invariant-loop decreases-loop) →
     let l = y.before.before.before in
     let a = (begun l).args in
-    hasLabel a.from a.n a.x (rec a.w l.loop.i a.b.now) ≡ y.has-label.result
+    has_label a.from a.n a.x (rec a.w l.loop.i a.b.now) ≡ y.has-label.result
 seen y =
     let a = (begun y.before.before.before).args in
-    sym (y.has-label.ensures ∙ ap (hasLabel a.from a.n a.x) y.before.«record».ensures.0)
+    sym (y.has-label.ensures ∙ ap (has_label a.from a.n a.x) y.before.«record».ensures.0)
 
 loop-holds : tie.Need-loop-init invariant-loop decreases-loop
-loop-holds c = let a = c.before.args in looking-start (hasLabel a.from a.n a.x) (records a.w a.count a.b.now) a.count
+loop-holds c = let a = c.before.args in looking_start (has_label a.from a.n a.x) (records a.w a.count a.b.now) a.count
 
 record-requires : tie.Need-record-requires invariant-loop decreases-loop
 record-requires c κs = let s = begun c.before in row_in s.args.w c.before.loop.i s.args.b.now (omega (arith, s.pre.2, c.loop-test.true))
@@ -44,9 +44,9 @@ returns c =
     let a = (begun l).args in
     let b = a.b.now in
     let lt = y.before.before.loop-test.true in
-    looking-found (hasLabel a.from a.n a.x) (records a.w a.count b) a.count l.loop.i l.loop.invariant lt _
-    (next-record a.w a.count b l.loop.i lt) (seen y ∙ c.if1.true)
-    ∙ sym (any-join (eqb a.x) (λ (r : List _). words a.n r a.from) (records a.w a.count b))
+    looking_found (has_label a.from a.n a.x) (records a.w a.count b) a.count l.loop.i l.loop.invariant lt _
+    (next_record a.w a.count b l.loop.i lt) (seen y ∙ c.if1.true)
+    ∙ sym (any_join (eqb a.x) (λ (r : List _). words a.n r a.from) (records a.w a.count b))
 
 loop-again : tie.Need-loop-preserved invariant-loop decreases-loop
 loop-again c =
@@ -55,17 +55,17 @@ loop-again c =
     let a = (begun l).args in
     let b = a.b.now in
     let lt = y.before.before.loop-test.true in
-    looking-on (hasLabel a.from a.n a.x) (records a.w a.count b) a.count l.loop.i l.loop.invariant lt _
-    (next-record a.w a.count b l.loop.i lt) (seen y ∙ c.if1.false)
+    looking_on (has_label a.from a.n a.x) (records a.w a.count b) a.count l.loop.i l.loop.invariant lt _
+    (next_record a.w a.count b l.loop.i lt) (seen y ∙ c.if1.false)
 
 returns-2 : tie.Need-returns-2 invariant-loop decreases-loop
 returns-2 c =
     let l = c.before in
     let a = (begun l).args in
     let b = a.b.now in
-    looking-none (hasLabel a.from a.n a.x) (records a.w a.count b) a.count l.loop.i l.loop.invariant
+    looking_none (has_label a.from a.n a.x) (records a.w a.count b) a.count l.loop.i l.loop.invariant
     (count-records a.w a.count b) c.loop-test.false
-    ∙ sym (any-join (eqb a.x) (λ (r : List _). words a.n r a.from) (records a.w a.count b))
+    ∙ sym (any_join (eqb a.x) (λ (r : List _). words a.n r a.from) (records a.w a.count b))
 
 pub file-has-spec : {M : Type 1} → statement M
 file-has-spec =

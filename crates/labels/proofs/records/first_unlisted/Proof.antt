@@ -5,14 +5,14 @@ use mathlib.Core.Path.{◌≡◌, sym, ◌∙◌, ap}
 use Rattle.paper.specs.Format.{records}
 use Rattle.paper.specs.Labels.{pairs}
 use Rattle.tables.proofs.Rows.{rec, row_in}
-use Rattle.tables.proofs.Walks.{Looking, looking-start, looking-stop, looking-on, looking-end, count-records, next-record}
-use Rattle.labels.specs.Records.{anyUnlisted}
+use Rattle.tables.proofs.Walks.{Looking, looking_start, looking_stop, looking_on, looking_end, count-records, next_record}
+use Rattle.labels.specs.Records.{any_unlisted}
 use borrow.Author.Rules.{rules}
 use Rattle.labels.proofs.records.first_unlisted.Statement.{statement}
 use Rattle.labels.proofs.records.first_unlisted.Tie as tie
 
 abbrev invariant-loop : tie.invariant-loop
-invariant-loop b w count from n list f i₀ i = Looking (anyUnlisted f (pairs list) from n) (records w count b) count i
+invariant-loop b w count from n list f i₀ i = Looking (any_unlisted f (pairs list) from n) (records w count b) count i
 
 abbrev decreases-loop : tie.decreases-loop
 decreases-loop b w count from n list f i₀ i = count - i
@@ -24,15 +24,15 @@ begun l = l.before.before.before
 seen : (y : tie.After-has-unlisted invariant-loop decreases-loop) →
     let l = y.before.before.before in
     let a = (begun l).args in
-    anyUnlisted a.f (pairs a.list.now) a.from a.n (rec a.w l.loop.i a.b.now) ≡ y.has-unlisted.result
+    any_unlisted a.f (pairs a.list.now) a.from a.n (rec a.w l.loop.i a.b.now) ≡ y.has-unlisted.result
 seen y =
     let a = (begun y.before.before.before).args in
-    sym (y.has-unlisted.ensures ∙ ap (anyUnlisted a.f (pairs a.list.now) a.from a.n) y.before.«record».ensures.0)
+    sym (y.has-unlisted.ensures ∙ ap (any_unlisted a.f (pairs a.list.now) a.from a.n) y.before.«record».ensures.0)
 
 loop-holds : tie.Need-loop-init invariant-loop decreases-loop
 loop-holds c =
     let a = c.before.before.args in
-    looking-start (anyUnlisted a.f (pairs a.list.now) a.from a.n) (records a.w a.count a.b.now) a.count
+    looking_start (any_unlisted a.f (pairs a.list.now) a.from a.n) (records a.w a.count a.b.now) a.count
 
 record-requires : tie.Need-record-requires invariant-loop decreases-loop
 record-requires c κs = let s = begun c.before in row_in s.args.w c.before.loop.i s.args.b.now (omega (arith, s.pre.2, c.loop-test.true))
@@ -44,8 +44,8 @@ returns c =
     let a = (begun l).args in
     let b = a.b.now in
     let lt = y.before.before.loop-test.true in
-    looking-stop (anyUnlisted a.f (pairs a.list.now) a.from a.n) (records a.w a.count b) a.count l.loop.i l.loop.invariant lt _
-    (next-record a.w a.count b l.loop.i lt) (seen y ∙ c.if1.true)
+    looking_stop (any_unlisted a.f (pairs a.list.now) a.from a.n) (records a.w a.count b) a.count l.loop.i l.loop.invariant lt _
+    (next_record a.w a.count b l.loop.i lt) (seen y ∙ c.if1.true)
 
 loop-again : tie.Need-loop-preserved invariant-loop decreases-loop
 loop-again c =
@@ -54,15 +54,15 @@ loop-again c =
     let a = (begun l).args in
     let b = a.b.now in
     let lt = y.before.before.loop-test.true in
-    looking-on (anyUnlisted a.f (pairs a.list.now) a.from a.n) (records a.w a.count b) a.count l.loop.i l.loop.invariant lt _
-    (next-record a.w a.count b l.loop.i lt) (seen y ∙ c.if1.false)
+    looking_on (any_unlisted a.f (pairs a.list.now) a.from a.n) (records a.w a.count b) a.count l.loop.i l.loop.invariant lt _
+    (next_record a.w a.count b l.loop.i lt) (seen y ∙ c.if1.false)
 
 returns-2 : tie.Need-returns-2 invariant-loop decreases-loop
 returns-2 c =
     let l = c.before in
     let a = (begun l).args in
     let b = a.b.now in
-    looking-end (anyUnlisted a.f (pairs a.list.now) a.from a.n) (records a.w a.count b) a.count l.loop.i l.loop.invariant
+    looking_end (any_unlisted a.f (pairs a.list.now) a.from a.n) (records a.w a.count b) a.count l.loop.i l.loop.invariant
     (count-records a.w a.count b) c.loop-test.false
 
 pub first-unlisted-spec : {M : Type 1} → statement M

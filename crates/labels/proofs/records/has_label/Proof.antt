@@ -5,7 +5,7 @@ use lib.Dec.{eqb}
 use borrow.Author.Tests.{eq-eqb, ne_eqb}
 use Rattle.paper.specs.Format.{words}
 use Rattle.paper.proofs.Tables.{length-words}
-use Rattle.tables.proofs.Walks.{Looking, looking-start, looking-found, looking-on, looking-none}
+use Rattle.tables.proofs.Walks.{Looking, looking_start, looking_found, looking_on, looking_none}
 use Rattle.labels.proofs.Standing.{next_word}
 use borrow.Author.Rules.{rules}
 use Rattle.labels.proofs.records.has_label.Statement.{statement}
@@ -21,7 +21,7 @@ abbrev begun : tie.At-loop invariant-loop decreases-loop → tie.Start invariant
 begun l = l.before.before
 
 loop-holds : tie.Need-loop-init invariant-loop decreases-loop
-loop-holds c = let a = c.before.args in looking-start (eqb a.x) (words a.n a.r.now a.from) a.n
+loop-holds c = let a = c.before.args in looking_start (eqb a.x) (words a.n a.r.now a.from) a.n
 
 returns : tie.Need-returns invariant-loop decreases-loop
 returns c =
@@ -29,8 +29,8 @@ returns c =
     let l = y.before.before in
     let a = (begun l).args in
     let lt = y.before.loop-test.true in
-    looking-found (eqb a.x) (words a.n a.r.now a.from) a.n l.loop.k l.loop.invariant lt _
-    (next_word a.n a.r.now a.from l.loop.k lt) (eq-eqb _ _ (sym (sym y.label-at-lem.ensures.0 ∙ c.if1.true)))
+    looking_found (eqb a.x) (words a.n a.r.now a.from) a.n l.loop.k l.loop.invariant lt _
+    (next_word a.n a.r.now a.from l.loop.k lt) (eq-eqb _ _ (sym (sym y.label_at_lem.ensures.0 ∙ c.if1.true)))
 
 loop-again : tie.Need-loop-preserved invariant-loop decreases-loop
 loop-again c =
@@ -38,14 +38,14 @@ loop-again c =
     let l = y.before.before in
     let a = (begun l).args in
     let lt = y.before.loop-test.true in
-    looking-on (eqb a.x) (words a.n a.r.now a.from) a.n l.loop.k l.loop.invariant lt _
-    (next_word a.n a.r.now a.from l.loop.k lt) (ne_eqb _ _ (λ e. c.if1.false (y.label-at-lem.ensures.0 ∙ sym e)))
+    looking_on (eqb a.x) (words a.n a.r.now a.from) a.n l.loop.k l.loop.invariant lt _
+    (next_word a.n a.r.now a.from l.loop.k lt) (ne_eqb _ _ (λ e. c.if1.false (y.label_at_lem.ensures.0 ∙ sym e)))
 
 returns-2 : tie.Need-returns-2 invariant-loop decreases-loop
 returns-2 c =
     let l = c.before in
     let a = (begun l).args in
-    looking-none (eqb a.x) (words a.n a.r.now a.from) a.n l.loop.k l.loop.invariant
+    looking_none (eqb a.x) (words a.n a.r.now a.from) a.n l.loop.k l.loop.invariant
     (length-words a.n a.r.now a.from) c.loop-test.false
 
 pub has-label-spec : {M : Type 1} → statement M

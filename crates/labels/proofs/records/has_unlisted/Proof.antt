@@ -5,7 +5,7 @@ use lib.ListN.{get_or}
 use Rattle.paper.specs.Format.{words}
 use Rattle.paper.specs.Labels.{pairs, unlisted}
 use Rattle.paper.proofs.Tables.{length-words}
-use Rattle.tables.proofs.Walks.{Looking, looking-start, looking-found, looking-on, looking-none}
+use Rattle.tables.proofs.Walks.{Looking, looking_start, looking_found, looking_on, looking_none}
 use Rattle.labels.proofs.Standing.{next_word}
 use borrow.Author.Rules.{rules}
 use Rattle.labels.proofs.records.has_unlisted.Statement.{statement}
@@ -27,10 +27,10 @@ seen : (y : tie.After-is-unlisted invariant-loop decreases-loop) →
     unlisted a.f (pairs a.list.now) (get_or (words a.n a.r.now a.from) l.loop.k 0) ≡ y.is-unlisted.result
 seen y =
     let a = (begun y.before.before.before).args in
-    sym (y.is-unlisted.ensures ∙ ap (unlisted a.f (pairs a.list.now)) y.before.label-at-lem.ensures.0)
+    sym (y.is-unlisted.ensures ∙ ap (unlisted a.f (pairs a.list.now)) y.before.label_at_lem.ensures.0)
 
 loop-holds : tie.Need-loop-init invariant-loop decreases-loop
-loop-holds c = let a = c.before.before.args in looking-start (unlisted a.f (pairs a.list.now)) (words a.n a.r.now a.from) a.n
+loop-holds c = let a = c.before.before.args in looking_start (unlisted a.f (pairs a.list.now)) (words a.n a.r.now a.from) a.n
 
 returns : tie.Need-returns invariant-loop decreases-loop
 returns c =
@@ -38,7 +38,7 @@ returns c =
     let l = y.before.before.before in
     let a = (begun l).args in
     let lt = y.before.before.loop-test.true in
-    looking-found (unlisted a.f (pairs a.list.now)) (words a.n a.r.now a.from) a.n l.loop.k l.loop.invariant lt _
+    looking_found (unlisted a.f (pairs a.list.now)) (words a.n a.r.now a.from) a.n l.loop.k l.loop.invariant lt _
     (next_word a.n a.r.now a.from l.loop.k lt) (seen y ∙ c.if1.true)
 
 loop-again : tie.Need-loop-preserved invariant-loop decreases-loop
@@ -47,14 +47,14 @@ loop-again c =
     let l = y.before.before.before in
     let a = (begun l).args in
     let lt = y.before.before.loop-test.true in
-    looking-on (unlisted a.f (pairs a.list.now)) (words a.n a.r.now a.from) a.n l.loop.k l.loop.invariant lt _
+    looking_on (unlisted a.f (pairs a.list.now)) (words a.n a.r.now a.from) a.n l.loop.k l.loop.invariant lt _
     (next_word a.n a.r.now a.from l.loop.k lt) (seen y ∙ c.if1.false)
 
 returns-2 : tie.Need-returns-2 invariant-loop decreases-loop
 returns-2 c =
     let l = c.before in
     let a = (begun l).args in
-    looking-none (unlisted a.f (pairs a.list.now)) (words a.n a.r.now a.from) a.n l.loop.k l.loop.invariant
+    looking_none (unlisted a.f (pairs a.list.now)) (words a.n a.r.now a.from) a.n l.loop.k l.loop.invariant
     (length-words a.n a.r.now a.from) c.loop-test.false
 
 pub has-unlisted-spec : {M : Type 1} → statement M

@@ -5,12 +5,12 @@ use mathlib.Core.Path.{sym, ◌∙◌, ap}
 use mathlib.Core.List.{map}
 use lib.ListN.{length, drop, length-map}
 use lib.Seq.{sets}
-use Rattle.paper.specs.Lists.{joinMap}
+use Rattle.paper.specs.Lists.{join_map}
 use Rattle.paper.specs.Format.{bytes, words}
 use Rattle.paper.specs.Labels.{pairs, converted}
 use Rattle.paper.proofs.Kept.{get_d_moved}
 use Rattle.paper.proofs.Tables.{length-words}
-use Rattle.bytes.proofs.Writing.{Writing, all_left, all-written, number-written, numbers-end}
+use Rattle.octets.proofs.Writing.{Writing, all_left, all_written, number_written, numbers_end}
 use borrow.Author.Rules.{rules}
 use Rattle.labels.proofs.records.put_labels.Statement.{statement}
 use Rattle.labels.proofs.records.put_labels.Tie as tie
@@ -18,7 +18,7 @@ use Rattle.labels.proofs.records.put_labels.Tie as tie
 abbrev invariant-loop : tie.invariant-loop
 invariant-loop r from n list new₀ at k₀ new k =
     let labels = map (converted (pairs list)) (words n r from) in
-    (k ≤ n) × Writing new₀ at (joinMap (bytes 2) labels) new (at + 2 * k) (joinMap (bytes 2) (drop k labels))
+    (k ≤ n) × Writing new₀ at (join_map (bytes 2) labels) new (at + 2 * k) (join_map (bytes 2) (drop k labels))
 
 abbrev decreases-loop : tie.decreases-loop
 decreases-loop r from n list new₀ at k₀ new k = n - k
@@ -46,9 +46,9 @@ loop-again c =
     let k = l.loop.k in
     let lt = v.before.before.loop-test.true in
     let some : k < length old = omega (arith, length-words a.n a.r.now a.from, lt) in
-    let is = v.convert-label.ensures.0 ∙ ap c-of v.before.label-at-lem.ensures.0 ∙ sym (get_d_moved c-of old k 0 0 some) in (
+    let is = v.convert-label.ensures.0 ∙ ap c-of v.before.label_at_lem.ensures.0 ∙ sym (get_d_moved c-of old k 0 0 some) in (
       omega arith,
-      number-written k (map c-of old) l.loop.invariant.1 (omega (arith, length-map old c-of, some)) p.put_word.new.0
+      number_written k (map c-of old) l.loop.invariant.1 (omega (arith, length-map old c-of, some)) p.put_word.new.0
           (p.put_word.ensures ∙ ap (λ x. sets l.loop.new (a.at + 2 * k) (bytes 2 x)) is),
     )
 
@@ -58,8 +58,8 @@ returns c =
     let a = (begun l).args in
     let old = words a.n a.r.now a.from in
     let c-of = converted (pairs a.list.now) in
-    all-written l.loop.invariant.1
-    (numbers-end (map c-of old) l.loop.k (omega (arith, length-map old c-of, length-words a.n a.r.now a.from, c.loop-test.false)))
+    all_written l.loop.invariant.1
+    (numbers_end (map c-of old) l.loop.k (omega (arith, length-map old c-of, length-words a.n a.r.now a.from, c.loop-test.false)))
 
 pub put-labels-spec : {M : Type 1} → statement M
 put-labels-spec =

@@ -1,5 +1,5 @@
 -- `records::put_record`: what stands before the labels, what they become, and what stands past them. Assumes nothing.
-use Rattle.labels.proofs.Written.{record-written}
+use Rattle.labels.proofs.Written.{record_written}
 use borrow.Author.Rules.{rules}
 use Rattle.labels.proofs.records.put_record.Statement.{statement}
 use Rattle.labels.proofs.records.put_record.Tie as tie
@@ -11,7 +11,7 @@ returns c =
     let labels : tie.After-put-labels = search in
     let back : tie.After-put2 = search in
     let a = s.args in
-    record-written _ a.from a.n a.r.now s.pre.0 a.at a.new.now _ _ _ front.put.ensures labels.put-labels.ensures
+    record_written _ a.from a.n a.r.now s.pre.0 a.at a.new.now _ _ _ front.put.ensures labels.put-labels.ensures
     back.put2.ensures
 
 pub put-record-spec : {M : Type 1} → statement M

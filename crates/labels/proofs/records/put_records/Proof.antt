@@ -4,8 +4,8 @@ use native.Mathlib.Omega.{arith}
 use mathlib.Core.Path.{sym, ◌∙◌, ap}
 use lib.ListN.{length}
 use lib.Seq.{sets}
-use Rattle.paper.specs.Labels.{pairs, recordWith}
-use Rattle.bytes.proofs.Laws.{record-in}
+use Rattle.paper.specs.Labels.{pairs, record_with}
+use Rattle.octets.proofs.Laws.{record_in}
 use Rattle.tables.proofs.Rows.{row_in}
 use Rattle.tables.proofs.Walks.{Going, going_start, going_on, going_end}
 use Rattle.labels.proofs.Written.{as_long}
@@ -14,7 +14,7 @@ use Rattle.labels.proofs.records.put_records.Statement.{statement}
 use Rattle.labels.proofs.records.put_records.Tie as tie
 
 abbrev invariant-loop : tie.invariant-loop
-invariant-loop b w count from n list new₀ i₀ new i = (i ≤ count) × Going (recordWith (pairs list) from n) w w count b new₀ new i
+invariant-loop b w count from n list new₀ i₀ new i = (i ≤ count) × Going (record_with (pairs list) from n) w w count b new₀ new i
 
 abbrev decreases-loop : tie.decreases-loop
 decreases-loop b w count from n list new₀ i₀ new i = count - i
@@ -25,7 +25,7 @@ begun l = l.before.before.before.before
 loop-holds : tie.Need-loop-init invariant-loop decreases-loop
 loop-holds c =
     let a = c.before.before.before.args in
-    (omega arith, going_start (recordWith (pairs a.list.now) a.from a.n) a.w a.w a.count a.b.now a.new.now)
+    (omega arith, going_start (record_with (pairs a.list.now) a.from a.n) a.w a.w a.count a.b.now a.new.now)
 
 record-requires : tie.Need-record-requires invariant-loop decreases-loop
 record-requires c κs =
@@ -38,7 +38,7 @@ room : (c : tie.In-loop invariant-loop decreases-loop) →
     a.w * c.before.loop.i + a.w ≤ length a.new.now
 room c =
     let s = begun c.before in
-    record-in s.args.w c.before.loop.i s.args.count (length s.args.new.now) c.loop-test.true s.pre.3
+    record_in s.args.w c.before.loop.i s.args.count (length s.args.new.now) c.loop-test.true s.pre.3
 
 mul-put-record : tie.Need-overflow-mul-put-record invariant-loop decreases-loop
 mul-put-record c = let fits = room c.before.before in search rules
@@ -57,7 +57,7 @@ loop-again c =
     let s = begun l in
     let a = s.args in
     let own = r.«record».ensures in
-    let with = recordWith (pairs a.list.now) a.from a.n in (
+    let with = record_with (pairs a.list.now) a.from a.n in (
       omega arith,
       going_on with a.w a.w a.count a.b.now a.new.now l.loop.new l.loop.i l.loop.invariant.1
           (as_long (pairs a.list.now) a.from a.n a.w s.pre.0) r.before.loop-test.true (sym (ap length own.0) ∙ own.1) _
@@ -68,7 +68,7 @@ returns : tie.Need-returns invariant-loop decreases-loop
 returns c =
     let l = c.before in
     let a = (begun l).args in
-    going_end (recordWith (pairs a.list.now) a.from a.n) a.w a.w a.count a.b.now a.new.now l.loop.new l.loop.i
+    going_end (record_with (pairs a.list.now) a.from a.n) a.w a.w a.count a.b.now a.new.now l.loop.new l.loop.i
     l.loop.invariant.1 c.loop-test.false
 
 pub put-records-spec : {M : Type 1} → statement M

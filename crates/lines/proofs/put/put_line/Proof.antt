@@ -2,9 +2,9 @@
 use Prim.Native.Nat.{◌+◌, ◌*◌, ◌≤◌}
 use mathlib.Core.Path.{◌≡◌, ap}
 use lib.ListN.{length, length-set}
-use Rattle.paper.specs.Format.{rowBytes}
-use Rattle.bytes.proofs.Writing.{two-written}
-use Rattle.lines.proofs.Line.{row_within, line-written}
+use Rattle.paper.specs.Format.{row_bytes}
+use Rattle.octets.proofs.Writing.{two_written}
+use Rattle.lines.proofs.Line.{row_within, line_written}
 use native.Mathlib.Omega.{arith}
 use borrow.Author.Rules.{rules}
 use Rattle.lines.proofs.put.put_line.Statement.{statement}
@@ -12,8 +12,8 @@ use Rattle.lines.proofs.put.put_line.Tie as tie
 
 -- The width is a record's, at the row and at the line's place, and the row lies within the table.
 widths : (c : tie.After-row-bytes) → let a = c.before.before.before.args in
-    (c.row-bytes.result * a.r ≡ rowBytes a.f * a.r) × (c.row-bytes.result * a.place ≡ rowBytes a.f * a.place)
-    × (rowBytes a.f * a.r + rowBytes a.f ≤ length a.table.now)
+    (c.row-bytes.result * a.r ≡ row_bytes a.f * a.r) × (c.row-bytes.result * a.place ≡ row_bytes a.f * a.place)
+    × (row_bytes a.f * a.r + row_bytes a.f ≤ length a.table.now)
 widths c =
     let s : tie.Start = search in
     let e = c.row-bytes.ensures in
@@ -99,12 +99,12 @@ returns c =
     let s = m.before.before.before in
     let a = s.args in
     let u = widths m in
-    line-written a.f a.table.now a.r s.pre.row_in
+    line_written a.f a.table.now a.r s.pre.row_in
     a.level a.label a.number a.at a.position (omega (arith, s.good, s.pre)) s.pre.at_in (omega (arith, s.good, s.pre))
     a.new.now _ w.before.put_word.last.0 n.before.put-number.last.0 p.before.put-word2.last.0 v.put-value.last.0 _ _ _ _ _ _ _
     (omega (arith, u)) (omega (arith, u)) (omega (arith, u)) (omega (arith, u)) (omega (arith, u, m.row-bytes.ensures))
-    (two-written a.new.now _ _ _ _ _ _ (omega (arith, u)) (omega arith) (omega arith)) w.before.put_word.ensures n.before.put-number.ensures
-    p.before.put-word2.ensures v.put-value.ensures w.before.before.before.value-at-lem.ensures (omega (arith, u, m.row-bytes.ensures))
+    (two_written a.new.now _ _ _ _ _ _ (omega (arith, u)) (omega arith) (omega arith)) w.before.put_word.ensures n.before.put-number.ensures
+    p.before.put-word2.ensures v.put-value.ensures w.before.before.before.value_at_lem.ensures (omega (arith, u, m.row-bytes.ensures))
 
 pub put-line-spec : {M : Type 1} → statement M
 put-line-spec =

@@ -1,9 +1,9 @@
 -- `put_number`: what is still to be written are the components from place k on. Assumes nothing.
 use Prim.Native.Nat.{◌+◌, ◌*◌, ◌-◌, ◌≤◌}
 use lib.ListN.{drop}
-use Rattle.paper.specs.Lists.{joinMap}
+use Rattle.paper.specs.Lists.{join_map}
 use Rattle.paper.specs.Format.{bytes}
-use Rattle.bytes.proofs.Writing.{Writing, all_left, all-written, number-written, numbers-end}
+use Rattle.octets.proofs.Writing.{Writing, all_left, all_written, number_written, numbers_end}
 use native.Mathlib.Omega.{arith}
 use borrow.Author.Rules.{rules}
 use Rattle.lines.proofs.put.put_number.Statement.{statement}
@@ -11,7 +11,7 @@ use Rattle.lines.proofs.put.put_number.Tie as tie
 
 abbrev invariant-loop : tie.invariant-loop
 invariant-loop new₀ at number k₀ new k =
-    (k ≤ 8) × Writing new₀ at (joinMap (bytes 2) number) new (at + 2 * k) (joinMap (bytes 2) (drop k number))
+    (k ≤ 8) × Writing new₀ at (join_map (bytes 2) number) new (at + 2 * k) (join_map (bytes 2) (drop k number))
 
 abbrev decreases-loop : tie.decreases-loop
 decreases-loop new₀ at number k₀ new k = 8 - k
@@ -24,12 +24,12 @@ loop-again c =
     let p = c.before.before in
     let l = p.before.before.before in
     let a = l.before.before.args in
-    (omega arith, number-written l.loop.k a.t3 l.loop.invariant.1 (omega arith) p.put_word.new.0 p.put_word.ensures)
+    (omega arith, number_written l.loop.k a.t3 l.loop.invariant.1 (omega arith) p.put_word.new.0 p.put_word.ensures)
 
 returns : tie.Need-returns invariant-loop decreases-loop
 returns c =
     let a = c.before.before.before.args in
-    all-written c.before.loop.invariant.1 (numbers-end a.t3 c.before.loop.k (omega arith))
+    all_written c.before.loop.invariant.1 (numbers_end a.t3 c.before.loop.k (omega arith))
 
 pub put-number-spec : {M : Type 1} → statement M
 put-number-spec =

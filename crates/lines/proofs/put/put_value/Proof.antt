@@ -1,7 +1,7 @@
 -- `put_value`: what is still to be written are the bytes from place k on. Assumes nothing.
 use Prim.Native.Nat.{◌+◌, ◌-◌, ◌≤◌}
 use lib.ListN.{drop, drop_of_length-le}
-use Rattle.bytes.proofs.Writing.{Writing, all_left, all-written, byte-written}
+use Rattle.octets.proofs.Writing.{Writing, all_left, all_written, byte_written}
 use native.Mathlib.Omega.{arith}
 use borrow.Author.Rules.{rules}
 use Rattle.lines.proofs.put.put_value.Statement.{statement}
@@ -19,12 +19,12 @@ loop-holds c = (omega arith, all_left c.args.new.now c.args.at _ _ (omega arith)
 loop-again : tie.Need-loop-preserved invariant-loop decreases-loop
 loop-again c =
     let l = c.before in
-    (omega arith, byte-written l.loop.k l.before.args.t3 l.loop.invariant.1 (omega (arith, l.before.well-formed)))
+    (omega arith, byte_written l.loop.k l.before.args.t3 l.loop.invariant.1 (omega (arith, l.before.well-formed)))
 
 returns : tie.Need-returns invariant-loop decreases-loop
 returns c =
     let l = c.before in
-    all-written l.loop.invariant.1 (drop_of_length-le l.before.args.t3 {i = l.loop.k} (omega (arith, l.before.well-formed)))
+    all_written l.loop.invariant.1 (drop_of_length-le l.before.args.t3 {i = l.loop.k} (omega (arith, l.before.well-formed)))
 
 pub put-value-spec : {M : Type 1} → statement M
 put-value-spec =

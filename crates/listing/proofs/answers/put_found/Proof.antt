@@ -2,14 +2,14 @@
 use native.Mathlib.Omega.{arith}
 use Rattle.io.proofs.Counting.{prefix_len_of_le}
 use Rattle.grammar.specs.Text.{followed, parted}
-use Rattle.listing.specs.Listing.{verdictText}
+use Rattle.listing.specs.Listing.{verdict_text}
 use Rattle.names.proofs.Putting.{as_long, put_then, put_last}
 use borrow.Author.Rules.{rules}
 use Rattle.listing.proofs.answers.put_found.Statement.{statement}
 use Rattle.listing.proofs.answers.put_found.Tie as tie
 
 returns : tie.Need-returns
-unfolding followed parted verdictText
+unfolding followed parted verdict_text
 returns c =
     let second = c.before.before in
     let first = second.before.before in

@@ -2,14 +2,14 @@
 use native.Mathlib.Omega.{arith}
 use Rattle.io.proofs.Counting.{prefix_len_of_le}
 use Rattle.grammar.specs.Text.{followed, parted}
-use Rattle.listing.specs.Listing.{verdictText}
+use Rattle.listing.specs.Listing.{verdict_text}
 use Rattle.names.proofs.Putting.{as_long, put_then, put_last}
 use borrow.Author.Rules.{rules}
 use Rattle.listing.proofs.answers.put_kept.Statement.{statement}
 use Rattle.listing.proofs.answers.put_kept.Tie as tie
 
 returns : tie.Need-returns
-unfolding followed parted verdictText
+unfolding followed parted verdict_text
 returns c =
     let a = c.before.before in
     let w = a.before.before in

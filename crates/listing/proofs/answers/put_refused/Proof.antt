@@ -2,21 +2,21 @@
 use native.Mathlib.Omega.{arith}
 use Rattle.io.proofs.Counting.{prefix_len_of_le}
 use Rattle.grammar.specs.Text.{followed, parted}
-use Rattle.listing.specs.Listing.{refusedText}
-use Rattle.names.proofs.Putting.{as_long, put_then, put_last, put-figure}
+use Rattle.listing.specs.Listing.{refused_text}
+use Rattle.names.proofs.Putting.{as_long, put_then, put_last, put_figure}
 use borrow.Author.Rules.{rules}
 use Rattle.listing.proofs.answers.put_refused.Statement.{statement}
 use Rattle.listing.proofs.answers.put_refused.Tie as tie
 
 returns : tie.Need-returns
-unfolding followed parted refusedText
+unfolding followed parted refused_text
 returns c =
     let place = c.before.before in
     let number = place.before.before in
     let word = number.before.before in
     let a = word.before.before.before.args in
-    let first = put-figure number.put-after.ensures.0 a.number (omega arith) in
-    let second = put-figure place.put-after2.ensures.0 a.place (omega arith) in
+    let first = put_figure number.put-after.ensures.0 a.number (omega arith) in
+    let second = put_figure place.put-after2.ensures.0 a.place (omega arith) in
     let parts = put_then word.put-bytes.ensures (put_then first (put_last second)) in
     let whole = put_then parts c.put_byte.ensures in
     (whole, prefix_len_of_le c.put_byte.result c.put_byte.new.0 (omega (arith, as_long whole, c.put_byte.ensures.ends)))

@@ -2,14 +2,14 @@
 use native.Mathlib.Omega.{arith}
 use Rattle.io.proofs.Counting.{prefix_len_of_le}
 use Rattle.grammar.specs.Text.{followed, parted}
-use Rattle.listing.specs.Listing.{edgeText}
+use Rattle.listing.specs.Listing.{edge_text}
 use Rattle.names.proofs.Putting.{as_long, put_then}
 use borrow.Author.Rules.{rules}
 use Rattle.listing.proofs.edge.put_edge.Statement.{statement}
 use Rattle.listing.proofs.edge.put_edge.Tie as tie
 
 returns : tie.Need-returns
-unfolding followed parted edgeText
+unfolding followed parted edge_text
 returns c =
     let numbers = c.before.before in
     let entry = numbers.before.before in

@@ -3,7 +3,7 @@ use mathlib.Core.Path.{sym, ◌∙◌, ap}
 use Prim.Native.Nat.{min}
 use lib.ListN.{get_or}
 use Rattle.paper.specs.Tables.{row_of}
-use Rattle.listing.specs.Listing.{deweyText}
+use Rattle.listing.specs.Listing.{dewey_text}
 use Rattle.names.proofs.Putting.{put_as}
 use Rattle.listing.proofs.Dewey.{take_words}
 use borrow.Author.Rules.{rules}
@@ -20,7 +20,7 @@ returns c =
     let row = a.row.now in
     let least = s.smaller.ensures ∙ ap (λ k. min k a.f.levels) w.wide.ensures.0 in
     let all = sym (take_words (get_or row 0 0) a.f.levels s.smaller.result row 4 least) in
-    (put_as l.put-list.ensures.0 (ap deweyText all), l.put-list.ensures.1)
+    (put_as l.put-list.ensures.0 (ap dewey_text all), l.put-list.ensures.1)
 
 pub put-dewey-spec : {M : Type 1} → statement M
 put-dewey-spec =

@@ -4,8 +4,8 @@ use mathlib.Core.Path.{◌≡◌, refl, ap}
 use lib.ListN.{length}
 use Rattle.grammar.specs.Text.{dot, decimal, followed}
 use Rattle.names.specs.Put.{Put}
-use Rattle.names.proofs.Putting.{as_long, put-none, put_as}
-use Rattle.listing.proofs.Dewey.{further, leading-put}
+use Rattle.names.proofs.Putting.{as_long, put_none, put_as}
+use Rattle.listing.proofs.Dewey.{further, leading_put}
 use native.Mathlib.Omega.{arith}
 use borrow.Author.Rules.{rules}
 use Rattle.listing.proofs.line.put_further.Statement.{statement}
@@ -19,7 +19,7 @@ decreases-loop out₀ at held n p₀ k₀ out p k = n - k
 
 loop-holds : tie.Need-loop-init invariant-loop decreases-loop
 unfolding followed
-loop-holds c = (omega arith, omega arith, refl, put-none c.before.before.args.out.now c.before.before.args.at)
+loop-holds c = (omega arith, omega arith, refl, put_none c.before.before.args.out.now c.before.before.args.at)
 
 loop-again : tie.Need-loop-preserved invariant-loop decreases-loop
 loop-again c =
@@ -27,7 +27,7 @@ loop-again c =
     let w = a.before in
     let l = w.before.before.before in
     let held = l.before.before.before.args.held.now in
-    let said = leading-put decimal dot held 6 l.loop.k w.word.result w.word.ensures.0 in
+    let said = leading_put decimal dot held 6 l.loop.k w.word.result w.word.ensures.0 in
     let put = said l.loop.invariant.3 a.put-after.ensures.0 in
     (omega arith, omega (arith, a.put-after.ensures.1), as_long put, put)
 

@@ -4,17 +4,17 @@ use native.Mathlib.Omega.{arith}
 use mathlib.Core.Path.{ap}
 use Rattle.io.proofs.Counting.{prefix_len_of_le}
 use Rattle.paper.specs.Tables.{row_of}
-use Rattle.paper.specs.NewTable.{entryUnit}
+use Rattle.paper.specs.NewTable.{entry_unit}
 use Rattle.grammar.specs.Text.{followed, parted}
-use Rattle.grammar.specs.Names.{nameText}
-use Rattle.listing.specs.Listing.{lineText}
-use Rattle.names.proofs.Putting.{as_long, put_then, put_last, put_as, put-figure}
+use Rattle.grammar.specs.Names.{name_text}
+use Rattle.listing.specs.Listing.{line_text}
+use Rattle.names.proofs.Putting.{as_long, put_then, put_last, put_as, put_figure}
 use borrow.Author.Rules.{rules}
 use Rattle.listing.proofs.line.put_line.Statement.{statement}
 use Rattle.listing.proofs.line.put_line.Tie as tie
 
 returns : tie.Need-returns
-unfolding row_of followed parted lineText
+unfolding row_of followed parted line_text
 returns c =
     let v = c.before.before in
     let g = v.before.before in
@@ -25,10 +25,10 @@ returns c =
     let e = h.before.before in
     let d = e.before.before in
     let value = put_last (put_then g.put-byte2.ensures v.put-value.ensures.0) in
-    let name = put_then h.put_byte.ensures (put_as n.put-name.ensures.0 (ap nameText w.word.ensures.0)) in
+    let name = put_then h.put_byte.ensures (put_as n.put-name.ensures.0 (ap name_text w.word.ensures.0)) in
     let source = d.before.before.before.args.source in
-    let entry = put-figure e.put-after.ensures.0 (source / entryUnit) (omega arith) in
-    let origin = put-figure o.put-after2.ensures.0 (source % entryUnit) (omega arith) in
+    let entry = put_figure e.put-after.ensures.0 (source / entry_unit) (omega arith) in
+    let origin = put_figure o.put-after2.ensures.0 (source % entry_unit) (omega arith) in
     let after = put_then entry (put_then name (put_then origin value)) in
     let whole = put_then (put_then d.put-dewey.ensures.0 after) c.put-byte3.ensures in
     let from : h.put_byte.result ≤ 189 = omega (arith, d.put-dewey.ensures.1, e.put-after.ensures.1, h.put_byte.ensures.ends) in

@@ -4,8 +4,8 @@ use mathlib.Core.Path.{◌∙◌, ap}
 use mathlib.Core.List.{◌++◌}
 use Prim.Native.Nat.{◌-◌}
 use Rattle.grammar.specs.Text.{decimal}
-use Rattle.names.proofs.Putting.{put-none, put_then, put_as}
-use Rattle.listing.proofs.Dewey.{further, list-parts, no-numbers}
+use Rattle.names.proofs.Putting.{put_none, put_then, put_as}
+use Rattle.listing.proofs.Dewey.{further, list_parts, no_numbers}
 use borrow.Author.Rules.{rules}
 use Rattle.listing.proofs.line.put_list.Statement.{statement}
 use Rattle.listing.proofs.line.put_list.Tie as tie
@@ -13,7 +13,7 @@ use Rattle.listing.proofs.line.put_list.Tie as tie
 returns : tie.Need-returns
 returns c =
     let s : tie.Start = search in let a = s.args in
-    (put_as (put-none a.out.now a.at) (no-numbers a.n a.held.now c.if1.true), omega arith)
+    (put_as (put_none a.out.now a.at) (no_numbers a.n a.held.now c.if1.true), omega arith)
 
 returns-2 : tie.Need-returns-2
 returns-2 c =
@@ -23,7 +23,7 @@ returns-2 c =
     let f : tie.After-put-further = search in
     let whole = put_then p.put-number.ensures.0 f.put-further.ensures.0 in
     let first = ap (λ x. decimal x ++ further (a.n - 1) a.held.now) w.word.ensures.0 in (
-      put_as whole (first ∙ list-parts a.n a.held.now (omega arith)),
+      put_as whole (first ∙ list_parts a.n a.held.now (omega arith)),
       omega (arith, p.put-number.ensures.1, f.put-further.ensures.1),
     )
 

@@ -4,7 +4,7 @@ use mathlib.Core.Path.{◌∙◌, ap}
 use Rattle.paper.specs.Format.{number, span}
 use Rattle.paper.specs.Tables.{row_of}
 use Rattle.names.proofs.Putting.{put_as}
-use Rattle.listing.proofs.Values.{not-below, below}
+use Rattle.listing.proofs.Values.{not_below, below}
 use borrow.Author.Rules.{rules}
 use Rattle.listing.proofs.line.put_value.Statement.{statement}
 use Rattle.listing.proofs.line.put_value.Tie as tie
@@ -18,7 +18,7 @@ returns c =
     let a = e.before.before.before.args in
     let row = a.row.now in
     let is = v.long.ensures ∙ ap (λ i. number (span 8 row i)) e.entry-bytes.ensures in (
-      put_as n.put-number.ensures.0 (not-below (row_of a.f row).value v.long.result is (omega arith)),
+      put_as n.put-number.ensures.0 (not_below (row_of a.f row).value v.long.result is (omega arith)),
       omega (arith, n.put-number.ensures.1),
     )
 

@@ -5,7 +5,7 @@ use mathlib.Core.Bool.{Bool}
 use mathlib.Core.List.{List, [], ◌++◌, map}
 use lib.ListN.{length, get_or, take, replicate}
 use Rattle.paper.specs.Lists.{same, count}
-use Rattle.paper.proofs.Lists.{same-eq, all-has, has-count}
+use Rattle.paper.proofs.Lists.{same_eq, all-has, has-count}
 use Rattle.grammar.specs.Text.{space}
 use Rattle.grammar.specs.Names.{names, named, name_of}
 use borrow.Author.Rules.{rules}
@@ -25,7 +25,7 @@ returns : tie.Need-returns
 unfolding names name_of right
 returns c =
     let k = c.before.args.k in
-    same-eq (take (length (name_of k)) (held k)) (name_of k) (all-has right k (count 0 named) refl (has-count 0 named k (search rules) (search rules)))
+    same_eq (take (length (name_of k)) (held k)) (name_of k) (all-has right k (count 0 named) refl (has-count 0 named k (search rules) (search rules)))
 
 pub name-bytes-spec : {M : Type 1} → statement M
 name-bytes-spec = tie.close (tie.spec (λ c. search rules) (λ c. search rules) returns)

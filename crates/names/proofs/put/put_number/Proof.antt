@@ -1,7 +1,7 @@
 -- `put::put_number`: the library's digits, copied to their place. Assumes nothing.
 use native.Mathlib.Omega.{arith}
 use mathlib.Core.Path.{◌∙◌}
-use Rattle.names.proofs.Digits.{few-digits, spelled}
+use Rattle.names.proofs.Digits.{few_digits, spelled}
 use Rattle.names.proofs.Putting.{put_as}
 use borrow.Author.Rules.{rules}
 use Rattle.names.proofs.put.put_number.Statement.{statement}
@@ -10,14 +10,14 @@ use Rattle.names.proofs.put.put_number.Tie as tie
 put-bytes-requires : tie.Need-put-bytes-requires
 put-bytes-requires c κs =
     let d = c.before.before in
-    let few = few-digits d.decimal.result d.before.before.before.args.n d.decimal.ensures.1.0 (omega arith) in
+    let few = few_digits d.decimal.result d.before.before.before.args.n d.decimal.ensures.1.0 (omega arith) in
     omega (arith, d.decimal.ensures.0.1)
 
 returns : tie.Need-returns
 returns c =
     let b = c.before.before in
     let d = b.before.before.before in
-    let few = few-digits d.decimal.result d.before.before.before.args.n d.decimal.ensures.1.0 (omega arith) in (
+    let few = few_digits d.decimal.result d.before.before.before.args.n d.decimal.ensures.1.0 (omega arith) in (
       put_as b.put-bytes.ensures (d.decimal.ensures.1.1 ∙ spelled d.decimal.result d.before.before.before.args.n d.decimal.ensures.1.0),
       omega (arith, b.put-bytes.ensures.ends, d.decimal.ensures.0.1),
     )

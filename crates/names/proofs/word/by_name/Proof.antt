@@ -6,7 +6,7 @@ use lib.ListN.{length}
 use Rattle.paper.specs.Lists.{first_or}
 use borrow.Author.Rules.{rules}
 use Rattle.names.specs.Word.{Guessed}
-use Rattle.names.proofs.Guesses.{first-of-lem, empty-part, long-part, no-guess, other-part, named-part}
+use Rattle.names.proofs.Guesses.{first_of_lem, empty_part, long_part, no_guess, other_part, named_part}
 use Rattle.names.proofs.word.by_name.Statement.{statement}
 use Rattle.names.proofs.word.by_name.Tie as tie
 
@@ -19,26 +19,26 @@ part_at g = (some g).before.before.args.part.now
 
 -- the guess is by the part's own first byte
 guessed : (g : tie.After-guess) → Guessed (first_or 0 (part_at g)) (length (part_at g)) g.guess.result
-guessed g = subst (λ a. Guessed a (length (part_at g)) g.guess.result) (first-of-lem (part_at g)) g.guess.ensures
+guessed g = subst (λ a. Guessed a (length (part_at g)) g.guess.result) (first_of_lem (part_at g)) g.guess.ensures
 
 returns : tie.Need-returns
-returns c = empty-part _ c.if1.true
+returns c = empty_part _ c.if1.true
 
 returns-2 : tie.Need-returns-2
-returns-2 c = long-part _ c.if2.true
+returns-2 c = long_part _ c.if2.true
 
 returns-3 : tie.Need-returns-3
-returns-3 c = no-guess (part_at c.before) c.before.guess.result (guessed c.before) c.if3.true
+returns-3 c = no_guess (part_at c.before) c.before.guess.result (guessed c.before) c.if3.true
 
 returns-4 : tie.Need-returns-4
 returns-4 c =
     let g : tie.After-guess = search in
-    named-part (part_at g) g.guess.result (guessed g) c.before.before.if3.false (sym c.before.is_name.ensures ∙ c.if4.true)
+    named_part (part_at g) g.guess.result (guessed g) c.before.before.if3.false (sym c.before.is_name.ensures ∙ c.if4.true)
 
 returns-5 : tie.Need-returns-5
 returns-5 c =
     let g : tie.After-guess = search in
-    other-part (part_at g) g.guess.result (guessed g) (sym c.before.is_name.ensures ∙ c.if4.false)
+    other_part (part_at g) g.guess.result (guessed g) (sym c.before.is_name.ensures ∙ c.if4.false)
 
 pub by_name-spec : {M : Type 1} → statement M
 by_name-spec =

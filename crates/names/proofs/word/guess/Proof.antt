@@ -4,13 +4,13 @@ use mathlib.Core.Path.{◌∙◌, ap}
 use lib.ListN.{get_or}
 use Rattle.grammar.specs.Names.{names}
 use borrow.Author.Rules.{rules}
-use Rattle.names.proofs.Guesses.{guesses, guessed-by}
+use Rattle.names.proofs.Guesses.{guesses, guessed_by}
 use Rattle.names.proofs.word.guess.Statement.{statement}
 use Rattle.names.proofs.word.guess.Tie as tie
 
 returns : tie.Need-returns
 unfolding names guesses
-returns c = guessed-by _ _ _ (c.wide2.ensures.0 ∙ ap (λ n. get_or guesses ((n + 21 * c.before.before.args.size) % 64) 0) c.before.wide.ensures.0)
+returns c = guessed_by _ _ _ (c.wide2.ensures.0 ∙ ap (λ n. get_or guesses ((n + 21 * c.before.before.args.size) % 64) 0) c.before.wide.ensures.0)
 
 pub guess-spec : {M : Type 1} → statement M
 guess-spec = tie.close (tie.spec (λ c κs. search rules) (λ c. search rules) (λ c. search rules) (λ c. search rules) (λ c κs. search rules) returns)

@@ -6,7 +6,7 @@ use lib.ListN.{length, get_or}
 use borrow.Author.Count.{below_more}
 use borrow.Author.Rules.{rules}
 use Rattle.grammar.specs.Text.{dot}
-use Rattle.names.proofs.Parting.{part-ends}
+use Rattle.names.proofs.Parting.{part_ends}
 use Rattle.names.proofs.word.part_end.Statement.{statement}
 use Rattle.names.proofs.word.part_end.Tie as tie
 
@@ -23,7 +23,7 @@ returns : tie.Need-returns invariant-loop decreases-loop
 returns c =
     let l = c.before.before.before in
     let i = l.loop.invariant in
-    part-ends l.before.args.word.now l.before.args.p l.loop.q i.0 i.1 (λ j le lt. i.2 j lt le) (λ _. c.if1.true)
+    part_ends l.before.args.word.now l.before.args.p l.loop.q i.0 i.1 (λ j le lt. i.2 j lt le) (λ _. c.if1.true)
 
 loop-again : tie.Need-loop-preserved invariant-loop decreases-loop
 loop-again c =
@@ -34,7 +34,7 @@ returns-2 : tie.Need-returns-2 invariant-loop decreases-loop
 returns-2 c =
     let l = c.before in
     let i = l.loop.invariant in
-    part-ends l.before.args.word.now l.before.args.p l.loop.q i.0 i.1 (λ j le lt. i.2 j lt le) (λ lt. absurd (let z : ⊥ = omega (arith, c.loop-test.false) in z))
+    part_ends l.before.args.word.now l.before.args.p l.loop.q i.0 i.1 (λ j le lt. i.2 j lt le) (λ lt. absurd (let z : ⊥ = omega (arith, c.loop-test.false) in z))
 
 pub part-end-spec : {M : Type 1} → statement M
 part-end-spec =

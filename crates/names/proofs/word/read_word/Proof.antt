@@ -8,7 +8,7 @@ use lib.Dec.{eqb}
 use lib.ListN.{length}
 use borrow.Author.Rules.{rules}
 use Rattle.names.proofs.Labelled.{label_small}
-use Rattle.names.proofs.Reading.{Read, first-within, none_read, no-label-read, held-read, full-read, all_read}
+use Rattle.names.proofs.Reading.{Read, first-within, none_read, no_label_read, held_read, full_read, all_read}
 use Rattle.names.proofs.word.read_word.Statement.{statement}
 use Rattle.names.proofs.word.read_word.Tie as tie
 
@@ -21,7 +21,7 @@ decreases-loop word f start labels₀ size₀ p₀ labels size p = length word +
 loop-holds : tie.Need-loop-init invariant-loop decreases-loop
 loop-holds c =
     let w = c.before.before.args.word.now in
-    (omega (arith, c.first-at-lem.ensures, first-within w), omega arith, none_read _ w _ _ c.first-at-lem.ensures refl)
+    (omega (arith, c.first_at_lem.ensures, first-within w), omega arith, none_read _ w _ _ c.first_at_lem.ensures refl)
 
 sub-label-of : tie.Need-overflow-sub-label-of invariant-loop decreases-loop
 sub-label-of c = omega (arith, c.part-end.ensures.begins)
@@ -42,7 +42,7 @@ returns c =
     let none = c.no_name.ensures in
     record {
       name = _;
-      spells-none = λ _. no-label-read e.before.before.loop.inv.2 e.part-end.ensures l.label_of.result l.label_of.ensures c.before.if1.true;
+      spells_none = λ _. no_label_read e.before.before.loop.inv.2 e.part-end.ensures l.label_of.result l.label_of.ensures c.before.if1.true;
       spells_one = λ q. absurd (false≢true (sym none.says_none ∙ q));
       held = none.empty;
     }
@@ -63,8 +63,8 @@ loop-again c =
       omega (arith, e.part-end.ensures.within),
       omega (arith, e.part-end.ensures.begins, r.1),
       ⊎_elim
-          (λ w. subst (Read _ _ _ _) (sym w.1) (held-read r.2 e.part-end.ensures l.label_of.result l.label_of.ensures some w.0.taken))
-          (λ w. subst (Read _ _ _ _) (sym w.1) (full-read r.2 e.part-end.ensures l.label_of.result l.label_of.ensures some w.0.left))
+          (λ w. subst (Read _ _ _ _) (sym w.1) (held_read r.2 e.part-end.ensures l.label_of.result l.label_of.ensures some w.0.taken))
+          (λ w. subst (Read _ _ _ _) (sym w.1) (full_read r.2 e.part-end.ensures l.label_of.result l.label_of.ensures some w.0.left))
           c.if2.branch,
     )
 
@@ -74,9 +74,9 @@ returns-2 c =
     let r = l.loop.invariant.2 in
     record {
       name = _;
-      spells-none = λ q. absurd (true≢false q);
+      spells_none = λ q. absurd (true≢false q);
       spells_one = λ _. all_read r c.loop-test.false;
-      held = record { whole_is = ap (λ i. eqb i 1) l.before.first-at-lem.ensures; size_is = r.sized; labels-are = r.kept };
+      held = record { whole_is = ap (λ i. eqb i 1) l.before.first_at_lem.ensures; size_is = r.sized; labels_are = r.kept };
     }
 
 pub read-word-spec : {M : Type 1} → statement M

@@ -4,13 +4,13 @@ use native.Mathlib.Omega.{arith}
 use mathlib.Core.Path.{◌≡◌, sym, ◌∙◌}
 use borrow.Author.Count.{below_more}
 use borrow.Author.Rules.{rules}
-use Rattle.partners.specs.Eight.{noNumber}
-use Rattle.partners.specs.Edges.{ofEntry}
+use Rattle.partners.specs.Eight.{no_number}
+use Rattle.partners.specs.Edges.{of_entry}
 use Rattle.partners.proofs.edges.first_alone.Statement.{statement}
 use Rattle.partners.proofs.edges.first_alone.Tie as tie
 
 abbrev invariant-loop : tie.invariant-loop
-invariant-loop low high entries c₀ c = (1 ≤ c) × (c ≤ entries) × ((e : ℕ) → e < c → 1 ≤ e → ofEntry low high e ≡ noNumber)
+invariant-loop low high entries c₀ c = (1 ≤ c) × (c ≤ entries) × ((e : ℕ) → e < c → 1 ≤ e → of_entry low high e ≡ no_number)
 
 abbrev decreases-loop : tie.decreases-loop
 decreases-loop low high entries c₀ c = entries - c
@@ -25,7 +25,7 @@ returns c =
       some = l.loop.invariant.0;
       few = l.loop.invariant.1;
       passed = l.loop.invariant.2;
-      here = λ lt. omega (arith, c.if1.true, c.before.of-entry-lem.ensures.0, c.before.of-entry-lem.ensures.1);
+      here = λ lt. omega (arith, c.if1.true, c.before.of_entry_lem.ensures.0, c.before.of_entry_lem.ensures.1);
     }
 
 loop-again : tie.Need-loop-preserved invariant-loop decreases-loop
@@ -34,8 +34,8 @@ loop-again c =
     let a = l.before.args in (
       omega arith,
       omega (arith, c.before.before.loop-test.true),
-      below_more (λ e. 1 ≤ e → ofEntry a.low a.high e ≡ noNumber) l.loop.c l.loop.invariant.2
-          (λ le. sym c.before.of-entry-lem.ensures.0 ∙ c.if1.false),
+      below_more (λ e. 1 ≤ e → of_entry a.low a.high e ≡ no_number) l.loop.c l.loop.invariant.2
+          (λ le. sym c.before.of_entry_lem.ensures.0 ∙ c.if1.false),
     )
 
 returns-2 : tie.Need-returns-2 invariant-loop decreases-loop

@@ -5,7 +5,7 @@ use mathlib.Core.Path.{refl, ap}
 use borrow.Author.Rules.{rules}
 use Rattle.shapes.specs.Shape.{type_of}
 use Rattle.partners.specs.Eight.{places}
-use Rattle.partners.proofs.Groups.{has-edge, no_edge, walking-edge, walking-none, Filling, filling-none, filling-more}
+use Rattle.partners.proofs.Groups.{has_edge, no_edge, walking_edge, walking_none, Filling, filling_none, filling_more}
 use Rattle.partners.proofs.edges.group_from.Statement.{statement}
 use Rattle.partners.proofs.edges.group_from.Tie as tie
 
@@ -16,7 +16,7 @@ abbrev decreases-loop : tie.decreases-loop
 decreases-loop first shape bounds₀ over₀ own₀ e₀ bounds over own e = places - e
 
 loop-holds : tie.Need-loop-init invariant-loop decreases-loop
-loop-holds c = (omega arith, filling-none _ _ _ _ _ refl refl refl)
+loop-holds c = (omega arith, filling_none _ _ _ _ _ refl refl refl)
 
 -- the turn of the loop, and its entry
 abbrev turn : tie.Then1 invariant-loop decreases-loop → tie.At-loop invariant-loop decreases-loop
@@ -27,7 +27,7 @@ entry l = l.before.args.first + l.loop.e
 
 -- the entry has an edge
 inside : (c : tie.Then1 invariant-loop decreases-loop) → (0 < entry (turn c)) × (entry (turn c) < (turn c).before.args.t1.entries)
-inside c = let s : tie.Start invariant-loop decreases-loop = search in let l : tie.At-loop invariant-loop decreases-loop = search in has-edge s.args.t1 (entry l) c.if1.true
+inside c = let s : tie.Start invariant-loop decreases-loop = search in let l : tie.At-loop invariant-loop decreases-loop = search in has_edge s.args.t1 (entry l) c.if1.true
 
 element-copy-out-over : tie.Need-element-copy-out-over invariant-loop decreases-loop
 element-copy-out-over c =
@@ -48,7 +48,7 @@ loop-again c =
     let b : tie.After-run-bound invariant-loop decreases-loop = search in
     let a = l.before.args in (
       omega arith,
-      filling-more _ _ (omega arith) l.loop.inv.1 _ _ _ (walking-edge a.t1 (entry l) b.run-bound.ensures (inside t).0 (inside t).1
+      filling_more _ _ (omega arith) l.loop.inv.1 _ _ _ (walking_edge a.t1 (entry l) b.run-bound.ensures (inside t).0 (inside t).1
           (ap (type_of a.t1) c.before.before.wide.ensures.0) refl),
     )
 
@@ -56,8 +56,8 @@ loop-again-2 : tie.Need-loop-preserved-2 invariant-loop decreases-loop
 loop-again-2 c =
     let l : tie.At-loop invariant-loop decreases-loop = search in (
       omega arith,
-      filling-more _ _ (omega arith) l.loop.inv.1 _ _ _
-          (walking-none l.before.args.t1 (entry l) (no_edge l.before.args.t1 (entry l) c.if1.false)),
+      filling_more _ _ (omega arith) l.loop.inv.1 _ _ _
+          (walking_none l.before.args.t1 (entry l) (no_edge l.before.args.t1 (entry l) c.if1.false)),
     )
 
 returns : tie.Need-returns invariant-loop decreases-loop

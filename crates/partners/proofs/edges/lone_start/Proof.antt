@@ -9,19 +9,19 @@ use Rattle.partners.proofs.edges.lone_start.Statement.{statement}
 use Rattle.partners.proofs.edges.lone_start.Tie as tie
 
 sub-run-start : tie.Need-overflow-sub-run-start
-sub-run-start c = let o = c.before in omega (arith, o.of-entry-lem.ensures.0, (o.before.before.before.requires.1 o.before.if1.false).0)
+sub-run-start c = let o = c.before in omega (arith, o.of_entry_lem.ensures.0, (o.before.before.before.requires.1 o.before.if1.false).0)
 
 run-start-requires : tie.Need-run-start-requires
 run-start-requires c κs =
     let o = c.before in
     let within = o.before.before.before.requires.1 o.before.if1.false in
-    omega (arith, o.of-entry-lem.ensures.0, within.0, within.1)
+    omega (arith, o.of_entry_lem.ensures.0, within.0, within.1)
 
 returns-2 : tie.Need-returns-2
 returns-2 c lt =
     let o = c.before.before in
     let a = o.before.before.before.args in
-    c.run-start.ensures ∙ ap (λ n. start_of a.levels.now (edge_of a.t2 a.c) (n - 1)) o.of-entry-lem.ensures.0
+    c.run-start.ensures ∙ ap (λ n. start_of a.levels.now (edge_of a.t2 a.c) (n - 1)) o.of_entry_lem.ensures.0
 
 pub lone-start-spec : {M : Type 1} → statement M
 lone-start-spec =

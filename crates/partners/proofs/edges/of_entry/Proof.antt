@@ -1,7 +1,7 @@
 -- `partners::edges::of_entry` meets its contract. Assumes nothing.
 use native.Mathlib.Omega.{arith}
 use mathlib.Core.Path.{sym, ◌∙◌}
-use Rattle.partners.proofs.Groups.{of-high, of_low}
+use Rattle.partners.proofs.Groups.{of_high, of_low}
 use borrow.Author.Rules.{rules}
 use Rattle.partners.proofs.edges.of_entry.Statement.{statement}
 use Rattle.partners.proofs.edges.of_entry.Tie as tie
@@ -9,7 +9,7 @@ use Rattle.partners.proofs.edges.of_entry.Tie as tie
 returns : tie.Need-returns
 returns c =
     let a = c.before.before.args in
-    (c.wide16.ensures.0 ∙ sym (of-high a.t1 a.t2 a.c c.before.if1.true), omega (arith, c.wide16.ensures.1))
+    (c.wide16.ensures.0 ∙ sym (of_high a.t1 a.t2 a.c c.before.if1.true), omega (arith, c.wide16.ensures.1))
 
 returns-2 : tie.Need-returns-2
 returns-2 c =

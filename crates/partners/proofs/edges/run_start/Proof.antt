@@ -7,15 +7,15 @@ use mathlib.Core.Bool.{false}
 use mathlib.Core.List.{List}
 use borrow.Author.Rules.{rules}
 use Rattle.closest.specs.Runs.{begins, start_of}
-use Rattle.closest.proofs.Starts.{start_first, start-begins, start-on}
-use Rattle.partners.proofs.Rows.{begins-within, on-above}
+use Rattle.closest.proofs.Starts.{start_first, start_begins, start_on}
+use Rattle.partners.proofs.Rows.{begins-within, on_above}
 use Rattle.partners.proofs.edges.run_start.Statement.{statement}
 use Rattle.partners.proofs.edges.run_start.Tie as tie
 
 -- a row that begins no run is of the run of the row before it
 start_back : (levels : List ℕ) (l i : ℕ) → 0 < i → begins levels l i ≡ false → start_of levels l (i - 1) ≡ start_of levels l i
 start_back levels l zero pos on = absurd (not-suc-le-zero pos)
-start_back levels l (suc i) pos on = let back : suc i - 1 ≡ i = omega arith in ap (start_of levels l) back ∙ sym (start-on levels l i on)
+start_back levels l (suc i) pos on = let back : suc i - 1 ≡ i = omega arith in ap (start_of levels l) back ∙ sym (start_on levels l i on)
 
 abbrev invariant-loop : tie.invariant-loop
 invariant-loop levels l row bound i₀ i = (i ≤ row) × (start_of levels l i ≡ start_of levels l row)
@@ -30,7 +30,7 @@ returns : tie.Need-returns invariant-loop decreases-loop
 returns c =
     let w = c.before.before.before in
     let a = w.before.before.before.args in
-    sym (start-begins a.levels.now a.l w.loop.i
+    sym (start_begins a.levels.now a.l w.loop.i
     (begins-within a.levels.now a.l w.before.run-bound.result w.loop.i w.before.run-bound.ensures
     (c.before.shared-slice-known2.given w.loop.i).fits c.if1.true)) ∙ w.loop.invariant.1
 
@@ -40,7 +40,7 @@ loop-again c =
     let a = w.before.before.before.args in (
       omega (arith, w.loop.invariant.0),
       start_back a.levels.now a.l w.loop.i c.before.before.loop-test.true
-          (on-above a.levels.now a.l w.before.run-bound.result w.loop.i w.before.run-bound.ensures
+          (on_above a.levels.now a.l w.before.run-bound.result w.loop.i w.before.run-bound.ensures
           (c.before.shared-slice-known2.given w.loop.i).fits c.if1.false) ∙ w.loop.invariant.1,
     )
 

@@ -1,5 +1,5 @@
 -- `partners::edges::walk_edges` meets its contract. Assumes nothing.
-use Rattle.partners.proofs.Shaped.{end-within, edged}
+use Rattle.partners.proofs.Shaped.{end_within, edged}
 use borrow.Author.Rules.{rules}
 use Rattle.partners.proofs.edges.walk_edges.Statement.{statement}
 use Rattle.partners.proofs.edges.walk_edges.Tie as tie
@@ -31,7 +31,7 @@ lone-start-requires c κs =
     let g = walked c in
     let s = begun g in (
       s.pre.1.few,
-      end-within s.args.levels.now s.args.types.now s.args.rows s.pre.0 s.args.shape s.pre.1 g.before.walk-group.ensures
+      end_within s.args.levels.now s.args.types.now s.args.rows s.pre.0 s.args.shape s.pre.1 g.before.walk-group.ensures
           g.walk-group2.ensures c.first_alone.ensures,
     )
 

@@ -1,7 +1,7 @@
 -- `partners::edges::walk_group` meets its contract. Assumes nothing.
 use borrow.Author.Rules.{rules}
-use Rattle.partners.proofs.Groups.{none-there}
-use Rattle.partners.proofs.Found.{group-found, nothing-found}
+use Rattle.partners.proofs.Groups.{none_there}
+use Rattle.partners.proofs.Found.{group_found, nothing_found}
 use Rattle.partners.proofs.edges.walk_group.Statement.{statement}
 use Rattle.partners.proofs.edges.walk_group.Tie as tie
 
@@ -17,8 +17,8 @@ returns c =
     let t = c.before in
     let s = begun t.before in
     let a = s.args in
-    nothing-found a.levels.now a.types.now a.rows s.pre.0 (λ i lt. ((known t.before).shared-slice-known.given i).fits) a.shape
-    (none-there a.shape a.first t.if1.true) c.nothing.ensures
+    nothing_found a.levels.now a.types.now a.rows s.pre.0 (λ i lt. ((known t.before).shared-slice-known.given i).fits) a.shape
+    (none_there a.shape a.first t.if1.true) c.nothing.ensures
 
 returns-2 : tie.Need-returns-2
 returns-2 c =
@@ -26,7 +26,7 @@ returns-2 c =
     let k = g.before.before in
     let s = begun k in
     let a = s.args in
-    group-found a.levels.now a.types.now a.rows s.pre.0 (λ i lt. ((known k).shared-slice-known.given i).fits) a.shape
+    group_found a.levels.now a.types.now a.rows s.pre.0 (λ i lt. ((known k).shared-slice-known.given i).fits) a.shape
     g.group-from.ensures c.walk-eight.ensures
 
 pub walk-group-spec : {M : Type 1} → statement M

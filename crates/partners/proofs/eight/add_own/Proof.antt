@@ -6,7 +6,7 @@ use mathlib.Core.Logic.{⊎_elim}
 use lib.ListN.{get_or}
 use Rattle.closest.proofs.Filled.{Filled, filled_none, filled_more}
 use Rattle.partners.specs.Eight.{places, single}
-use Rattle.partners.proofs.Places.{single-own, single-other}
+use Rattle.partners.proofs.Places.{single_own, single_other}
 use borrow.Author.Rules.{rules}
 use Rattle.partners.proofs.eight.add_own.Statement.{statement}
 use Rattle.partners.proofs.eight.add_own.Tie as tie
@@ -40,7 +40,7 @@ lane c =
     let l = turn c in
     let a = l.before.args in
     let wanted = get_or a.t2 l.loop.e 0 in
-    ⊎_elim (λ w. omega (arith, w.1, single-own wanted a.k w.0.taken)) (λ w. omega (arith, w.1, single-other wanted a.k w.0.left))
+    ⊎_elim (λ w. omega (arith, w.1, single_own wanted a.k w.0.taken)) (λ w. omega (arith, w.1, single_other wanted a.k w.0.left))
     c.if1.branch
 
 loop-again : tie.Need-loop-preserved invariant-loop decreases-loop

@@ -1,7 +1,7 @@
 -- `eight::close`: what each call gives, over the rows counted in the runs that end. Assumes nothing.
 use mathlib.Core.Path.{◌∙◌, ap}
 use lib.ListN.{get_or}
-use Rattle.partners.specs.Eight.{fewer, more, firstEnd}
+use Rattle.partners.specs.Eight.{fewer, more, first_end}
 use borrow.Author.Rules.{rules}
 use Rattle.partners.proofs.eight.close.Statement.{statement}
 use Rattle.partners.proofs.eight.close.Tie as tie
@@ -16,16 +16,16 @@ returns c =
     let parents-ended = children-ended.before in
     let a = parents-ended.before.args in
     record {
-      least-children-lem = λ e lt. few-children.fewest.ensures e lt
+      least_children_lem = λ e lt. few-children.fewest.ensures e lt
           ∙ ap (fewer (get_or a.found.least_children e 0) (get_or a.children e 0)) (parents-ended.ended.ensures e lt);
-      greatest-children-lem = λ e lt. most-children.greatest.ensures e lt
+      greatest_children_lem = λ e lt. most-children.greatest.ensures e lt
           ∙ ap (more (get_or a.found.greatest_children e 0) (get_or a.children e 0)) (parents-ended.ended.ensures e lt);
-      least-parents-lem = λ e lt. few-parents.fewest2.ensures e lt
+      least_parents_lem = λ e lt. few-parents.fewest2.ensures e lt
           ∙ ap (fewer (get_or a.found.least_parents e 0) (get_or a.parents e 0)) (children-ended.ended2.ensures e lt);
-      greatest-parents-lem = λ e lt. many-parents.greatest2.ensures e lt
+      greatest_parents_lem = λ e lt. many-parents.greatest2.ensures e lt
           ∙ ap (more (get_or a.found.greatest_parents e 0) (get_or a.parents e 0)) (children-ended.ended2.ensures e lt);
       lone_is = λ e lt. c.first-end.ensures e lt
-          ∙ ap (λ x. firstEnd (get_or a.found.lone e 0) (get_or a.parents e 0) x a.i) (children-ended.ended2.ensures e lt);
+          ∙ ap (λ x. first_end (get_or a.found.lone e 0) (get_or a.parents e 0) x a.i) (children-ended.ended2.ensures e lt);
     }
 
 pub close_spec : {M : Type 1} → statement M

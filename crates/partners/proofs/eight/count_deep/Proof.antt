@@ -30,13 +30,13 @@ add-own-requires : tie.Need-add-own-requires invariant-loop decreases-loop
 add-own-requires c κs e lt =
     let s : tie.Start invariant-loop decreases-loop = search in
     let l : tie.At-loop invariant-loop decreases-loop = search in
-    omega (arith, l.loop.inv.few.parents-few e lt, s.pre.0.few)
+    omega (arith, l.loop.inv.few.parents_few e lt, s.pre.0.few)
 
 add-own-requires-2 : tie.Need-add-own-requires-2 invariant-loop decreases-loop
 add-own-requires-2 c κs e lt =
     let s : tie.Start invariant-loop decreases-loop = search in
     let l : tie.At-loop invariant-loop decreases-loop = search in
-    omega (arith, l.loop.inv.few.children-few e lt, s.pre.0.few)
+    omega (arith, l.loop.inv.few.children_few e lt, s.pre.0.few)
 
 loop-again : tie.Need-loop-preserved invariant-loop decreases-loop
 loop-again c =

@@ -6,7 +6,7 @@ use mathlib.Core.Logic.{⊎_elim}
 use lib.ListN.{get_or}
 use Rattle.closest.proofs.Filled.{Filled, filled_none, filled_more}
 use Rattle.partners.specs.Eight.{places, single, onward}
-use Rattle.partners.proofs.Places.{single-own, single-other, onward-within, onward-above}
+use Rattle.partners.proofs.Places.{single_own, single_other, onward-within, onward_above}
 use borrow.Author.Rules.{rules}
 use Rattle.partners.proofs.eight.count_on.Statement.{statement}
 use Rattle.partners.proofs.eight.count_on.Tie as tie
@@ -47,10 +47,10 @@ lane c =
     let wanted = get_or a.t2 l.loop.e 0 in
     let bound = get_or a.t3 l.loop.e 0 in
     let own : c.if2.own ≡ single wanted a.k =
-    ⊎_elim (λ w. omega (arith, w.1, single-own wanted a.k w.0.taken))
-    (λ w. omega (arith, w.1, single-other wanted a.k w.0.left)) c.if2.branch in
+    ⊎_elim (λ w. omega (arith, w.1, single_own wanted a.k w.0.taken))
+    (λ w. omega (arith, w.1, single_other wanted a.k w.0.left)) c.if2.branch in
     ⊎_elim (λ w. omega (arith, w.1, own, onward-within bound a.level wanted a.k count w.0.taken))
-    (λ w. omega (arith, w.1, own, onward-above bound a.level wanted a.k count w.0.left)) c.before.if1.branch
+    (λ w. omega (arith, w.1, own, onward_above bound a.level wanted a.k count w.0.left)) c.before.if1.branch
 
 loop-again : tie.Need-loop-preserved invariant-loop decreases-loop
 loop-again c =

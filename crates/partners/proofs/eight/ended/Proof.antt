@@ -6,7 +6,7 @@ use mathlib.Core.Logic.{⊎_elim}
 use lib.ListN.{get_or}
 use Rattle.closest.proofs.Filled.{Filled, filled_none, filled_more}
 use Rattle.partners.specs.Eight.{places, ended}
-use Rattle.partners.proofs.Places.{ended-within, ended-above}
+use Rattle.partners.proofs.Places.{ended-within, ended_above}
 use borrow.Author.Rules.{rules}
 use Rattle.partners.proofs.eight.ended.Statement.{statement}
 use Rattle.partners.proofs.eight.ended.Tie as tie
@@ -31,7 +31,7 @@ lane c =
     let bound = get_or a.t2 l.loop.e 0 in
     let count = get_or a.t1 l.loop.e 0 in
     ⊎_elim (λ w. omega (arith, w.1, ended-within bound a.level count w.0.taken))
-    (λ w. omega (arith, w.1, ended-above bound a.level count w.0.left)) c.if1.branch
+    (λ w. omega (arith, w.1, ended_above bound a.level count w.0.left)) c.if1.branch
 
 loop-again : tie.Need-loop-preserved invariant-loop decreases-loop
 loop-again c =

@@ -5,15 +5,15 @@ use mathlib.Core.Path.{◌≡◌}
 use mathlib.Core.Logic.{⊎_elim}
 use lib.ListN.{get_or}
 use Rattle.closest.proofs.Filled.{Filled, filled_none, filled_more}
-use Rattle.partners.specs.Eight.{places, fewer, firstEnd}
-use Rattle.partners.proofs.Places.{fewer-none, fewer-some, firstEnd-none, firstEnd-some, number_fits}
+use Rattle.partners.specs.Eight.{places, fewer, first_end}
+use Rattle.partners.proofs.Places.{fewer-none, fewer-some, first_end-none, first_end-some, number_fits}
 use borrow.Author.Rules.{rules}
 use Rattle.partners.proofs.eight.first_end.Statement.{statement}
 use Rattle.partners.proofs.eight.first_end.Tie as tie
 
 abbrev invariant-loop : tie.invariant-loop
 invariant-loop i lone parents children first₀ e₀ first e =
-    (e ≤ places) × Filled (λ j. firstEnd (get_or lone j 0) (get_or parents j 0) (get_or children j 0) i) 0 places e first
+    (e ≤ places) × Filled (λ j. first_end (get_or lone j 0) (get_or parents j 0) (get_or children j 0) i) 0 places e first
 
 abbrev decreases-loop : tie.decreases-loop
 decreases-loop i lone parents children first₀ e₀ first e = places - e
@@ -26,7 +26,7 @@ lane : (c : tie.Joined3 invariant-loop decreases-loop) →
     let l = c.before.before.before.before in
     let a = l.before.args in
     let e = l.loop.e in
-    c.if3.first ≡ firstEnd (get_or a.t1 e 0) (get_or a.t2 e 0) (get_or a.t3 e 0) a.i
+    c.if3.first ≡ first_end (get_or a.t1 e 0) (get_or a.t2 e 0) (get_or a.t3 e 0) a.i
 lane c =
     let l = c.before.before.before.before in
     let a = l.before.args in
@@ -39,8 +39,8 @@ lane c =
     c.before.before.if1.branch in
     let least : c.if3.first ≡ min m c.before.if2.end =
     ⊎_elim (λ w. omega (arith, w.0.taken, w.1)) (λ w. omega (arith, w.0.left, w.1)) c.if3.branch in
-    ⊎_elim (λ w. omega (arith, w.1, least, own, firstEnd-none m parents children a.i w.0.taken))
-    (λ w. omega (arith, w.1, least, fits, firstEnd-some m parents children a.i w.0.left)) c.before.if2.branch
+    ⊎_elim (λ w. omega (arith, w.1, least, own, first_end-none m parents children a.i w.0.taken))
+    (λ w. omega (arith, w.1, least, fits, first_end-some m parents children a.i w.0.left)) c.before.if2.branch
 
 loop-again : tie.Need-loop-preserved invariant-loop decreases-loop
 loop-again c =

@@ -7,7 +7,7 @@ use lib.ListN.{get_or}
 use Rattle.partners.specs.declared.eight.Eight.{Eight}
 use Rattle.partners.specs.Eight.{Few, WalkedAll}
 use Rattle.partners.proofs.Walked.{WalkedTo, walked_none, walked_more, walked_all}
-use Rattle.partners.proofs.Deep.{up_to, walked-few, walked-deep}
+use Rattle.partners.proofs.Deep.{up_to, walked_few, walked-deep}
 use borrow.Author.Rules.{rules}
 use Rattle.partners.proofs.eight.walk_eight.Statement.{statement}
 use Rattle.partners.proofs.eight.walk_eight.Tie as tie
@@ -40,7 +40,7 @@ Walks l = let a = (begun l).args in WalkedTo a.levels.now a.types.now a.bounds a
 few : (l : tie.At-loop invariant-loop decreases-loop) → Few (begun l).args.rows (up_to l.loop.parents l.loop.children l.loop.i)
 few l =
     let s : tie.Start invariant-loop decreases-loop = search in let a = s.args in
-    walked-few a.levels.now a.types.now a.bounds a.over a.own l.loop.invariant.1 a.rows l.loop.invariant.0
+    walked_few a.levels.now a.types.now a.bounds a.over a.own l.loop.invariant.1 a.rows l.loop.invariant.0
 
 -- the level of this turn's row, where there is one
 level-is : (k : tie.After-shared-slice-known3 invariant-loop decreases-loop) →
@@ -54,14 +54,14 @@ one_more : (c : tie.After-count-on2 invariant-loop decreases-loop) →
     let p = c.before in
     let d = closed p.before in
     let l = turn d in
-    Walks l (l.loop.i + 1) d.close.result p.count-on.result c.count-on2.result
+    Walks l (l.loop.i + 1) d.close.result p.count_on.result c.count-on2.result
 one_more c =
     let s : tie.Start invariant-loop decreases-loop = search in let a = s.args in
     let l : tie.At-loop invariant-loop decreases-loop = search in
     let d : tie.After-close invariant-loop decreases-loop = search in
     let p = c.before in
     walked_more a.levels.now a.types.now a.bounds a.over a.own l.loop.inv.1 (level-is p.before) d.close.ensures
-    p.count-on.ensures c.count-on2.ensures
+    p.count_on.ensures c.count-on2.ensures
 
 loop-holds : tie.Need-loop-init invariant-loop decreases-loop
 loop-holds c =
@@ -69,7 +69,7 @@ loop-holds c =
     (omega arith, walked_none a.levels.now a.types.now a.bounds a.over a.own c.nothing.ensures)
 
 level-at-requires : tie.Need-level-at-requires invariant-loop decreases-loop
-level-at-requires c κs = let s : tie.Start invariant-loop decreases-loop = search in s.pre.levels-long
+level-at-requires c κs = let s : tie.Start invariant-loop decreases-loop = search in s.pre.levels_long
 
 returns : tie.Need-returns invariant-loop decreases-loop
 returns c =
@@ -88,18 +88,18 @@ count-on-requires : tie.Need-count-on-requires invariant-loop decreases-loop
 count-on-requires c κs e lt =
     let s : tie.Start invariant-loop decreases-loop = search in
     let l : tie.At-loop invariant-loop decreases-loop = search in
-    omega (arith, (few l).parents-few e lt, s.pre.few)
+    omega (arith, (few l).parents_few e lt, s.pre.few)
 
 count-on-requires-2 : tie.Need-count-on-requires-2 invariant-loop decreases-loop
 count-on-requires-2 c κs e lt =
     let s : tie.Start invariant-loop decreases-loop = search in
     let l : tie.At-loop invariant-loop decreases-loop = search in
-    omega (arith, (few l).children-few e lt, s.pre.few)
+    omega (arith, (few l).children_few e lt, s.pre.few)
 
 count-deep-requires : tie.Need-count-deep-requires invariant-loop decreases-loop
 count-deep-requires c κs =
     let s : tie.Start invariant-loop decreases-loop = search in let a = s.args in
-    (s.pre, walked-few a.levels.now a.types.now a.bounds a.over a.own (one_more c) a.rows (omega arith))
+    (s.pre, walked_few a.levels.now a.types.now a.bounds a.over a.own (one_more c) a.rows (omega arith))
 
 loop-less : tie.Need-loop-smaller invariant-loop decreases-loop
 loop-less c =

@@ -1,5 +1,5 @@
 -- `edges::parent_at` is safe. Assumes nothing.
-use Rattle.bytes.specs.Served.{Served}
+use Rattle.octets.specs.Served.{Served}
 use borrow.Author.Rules.{rules}
 use Rattle.printing.proofs.edges.parent_at.Statement.{statement}
 use Rattle.printing.proofs.edges.parent_at.Tie as tie

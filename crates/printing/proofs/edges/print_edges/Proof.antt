@@ -1,6 +1,6 @@
 -- `edges::print_edges` is safe: each edge is one of 16. Assumes nothing.
 use Prim.Native.Nat.{◌-◌, ◌≤◌}
-use Rattle.bytes.specs.Served.{Served}
+use Rattle.octets.specs.Served.{Served}
 use borrow.Author.Rules.{rules}
 use Rattle.printing.proofs.edges.print_edges.Statement.{statement}
 use Rattle.printing.proofs.edges.print_edges.Tie as tie

@@ -35,7 +35,7 @@ use denote.Exit.{yes}
 use Rattle.paper.specs.declared.Width.{Width}
 use Rattle.paper.specs.contracts.Width as E
 use Rattle.paper.proofs.Width.TheLaws as E'
-use Rattle.reading.proofs.Held.{tag, cell, Table, width-typed}
+use Rattle.reading.proofs.Held.{tag, cell, Table, width_typed}
 use Rattle.reading.proofs.reader.make.Symbol as make_def
 use Rattle.reading.proofs.reader.make.Symbol.{name as #make}
 use Rattle.reading.proofs.reader.make.Met as make_thm
@@ -79,7 +79,7 @@ module _ {M : Type 1} {𝓤 : Ura M} (𝓛 : Logic 𝓤) (mem : Memory → SProp
         split ! $ move ! (1 ∷ []) $ split ! $ move ! (1 ∷ []) $ split ! $ enter ! 𝓣.C 𝓣.Λ code.function (tag w ∷ cell s ∷ cell z ∷ vint w64 n ∷ []) _ $
         alloc1 ! (λ l₀. alloc1 ! (λ l₁. alloc1 ! (λ l₂. alloc1 ! (λ l₃. alloc1 ! (λ l₄. alloc1 ! (λ l₅. alloc1 ! (λ l₆. alloc1 ! (λ l₇.
         alloc1 ! (λ l₈. alloc1 ! (λ l₉. alloc1 ! (λ l₁₀. alloc1 ! (λ l₁₁. alloc1 ! (λ l₁₂. alloc0 ! $ params1 ! $
-        pass1 ! (init ! 22 refl (width-typed 𝓛 w)) $
+        pass1 ! (init ! 22 refl (width_typed 𝓛 w)) $
         pass1 ! (init ! 20 refl ((shr_slice_Lawful 𝓛 (named 0) κ u8).typed s (cell s ∷ []) p).0) $
         pass1 ! (init ! 18 refl ((shr_slice_Lawful 𝓛 (named 1) κ' u32).typed z (cell z ∷ []) p').0) $
         pass1 ! (init ! 16 refl (tt, record { fits = ok })) $ pass0 ! $

@@ -2,7 +2,7 @@
 use Prim.Native.Nat.{◌*◌, ◌≤◌}
 use native.Mathlib.Omega.{arith}
 use Rattle.io.proofs.Counting.{prefix_len_of_le}
-use Rattle.printing.proofs.Entries.{few-entries, in-shape}
+use Rattle.printing.proofs.Entries.{few_entries, in_shape}
 use borrow.Author.Rules.{rules}
 use Rattle.printing.proofs.typed_tree.read_typed.Statement.{statement}
 use Rattle.printing.proofs.typed_tree.read_typed.Tie as tie
@@ -10,7 +10,7 @@ use Rattle.printing.proofs.typed_tree.read_typed.Tie as tie
 room : (c : tie.After-entry-bytes) → let r : tie.After-read-tree = search in r.read-tree.result.entries * c.entry-bytes.result ≤ 320
 room c =
     let r : tie.After-read-tree = search in
-    in-shape r.read-tree.result.entries c.entry-bytes.result (few-entries _ _ _ _ _ r.read-tree.ensures) (search rules)
+    in_shape r.read-tree.result.entries c.entry-bytes.result (few_entries _ _ _ _ _ r.read-tree.ensures) (search rules)
 
 mul-t13 : tie.Need-overflow-mul-t13
 mul-t13 c = record { fits = omega (arith, room c) }

@@ -43,7 +43,7 @@ use Rattle.paper.specs.declared.Width.{Width}
 use Rattle.paper.specs.contracts.Width as E
 use Rattle.paper.proofs.Width.TheLaws as E'
 use Rattle.reading.specs.declared.reader.Reader.{Reader}
-use Rattle.reading.proofs.Held.{tag, width_is, cell, Table, width-typed, lent, passed, reader, Made, made-is, Found, make-said, row-said}
+use Rattle.reading.proofs.Held.{tag, width_is, cell, Table, width_typed, lent, passed, reader, Made, made_is, Found, make_said, row-said}
 use Rattle.reading.specs.contracts.reader.Reader as T
 use Rattle.reading.proofs.reader.Reader.TheLaws as T'
 use Rattle.reading.specs.contracts.reader.make as make
@@ -112,12 +112,12 @@ module _ {M : Type 1} {𝓤 : Ura M} (𝓛 : Logic 𝓤) (mem : Memory → SProp
     walk : Is (ShrSlice (named 0) κ u8) s (cell s ∷ []) → ent 𝓤 (on_entry 𝓛 handed.signature (κ, tt) (q, tt) (w, (s, (n, tt))) at) (WpFn 𝓤 H C Λ code.function (tag w ∷ cell s ∷ vint w64 n ∷ []) Post)
     walk p =
         qed 𝓛 (raw (on_entry 𝓛 handed.signature (κ, tt) (q, tt) (w, (s, (n, tt))) at) ∷ []) ∵ enter ! C Λ code.function (tag w ∷ cell s ∷ vint w64 n ∷ []) _ $
-        alloc1 ! (λ l₀. alloc1 ! (λ l₁. alloc1 ! (λ l₂. alloc1 ! (λ l₃. alloc1 ! (λ l₄. alloc0 ! $ params1 ! $ pass1 ! (init ! 6 refl (width-typed 𝓛 w)) $
+        alloc1 ! (λ l₀. alloc1 ! (λ l₁. alloc1 ! (λ l₂. alloc1 ! (λ l₃. alloc1 ! (λ l₄. alloc0 ! $ params1 ! $ pass1 ! (init ! 6 refl (width_typed 𝓛 w)) $
         pass1 ! (init ! 4 refl ((shr_slice_Lawful 𝓛 (named 0) κ u8).typed s (cell s ∷ []) p).0) $ pass1 ! (init ! 2 refl (tt, record { fits = ok })) $ pass0 ! $
         move ! (10 ∷ []) $ use1 𝓛 (raw ((Make 𝓛 mem run).pre to_make) ⊛ ‵ Own) (lent 𝓛 κ q w s n) $ split ! $
         calls_at ! fm (Make 𝓛 mem run) known-make to_make (and_then ! (load ! (from ! (stop !)) (look ! 8 refl)) (and_then ! (load ! (from ! (stop !)) (look ! 6 refl)) (and_then ! (load ! (from ! (stop !)) (look ! 4 refl)) (no_more !)))) (λ u.
         use1 𝓛 (later (some (λ (r : Reader). ((‵ (flft κ q) ⊛ ‵ ftrue) ⊛ ‵ ((B (κ, tt)).own r (u ∷ []))) ⊛ raw (ensured 𝓛 make.ended (make.clauses 𝓛 mem run) (κ, tt) (w, (s, (n, tt))) tt r)))) (id⊢ 𝓤 _) $ await ! tt $ pick ! (λ r.
-        split ! $ move ! (1 ∷ []) $ use1 𝓛 (raw (fact 𝓤 (Made w s n r))) (make-said 𝓛 mem run κ w s n r) $ heard ! (Made w s n r) (λ e. split ! $ move ! (1 ∷ []) $
+        split ! $ move ! (1 ∷ []) $ use1 𝓛 (raw (fact 𝓤 (Made w s n r))) (make_said 𝓛 mem run κ w s n r) $ heard ! (Made w s n r) (λ e. split ! $ move ! (1 ∷ []) $
         -- [what the struct owns; the token; what s owns; room for _4; …; _3; …; _2; …; _1; …; room for _0; …]
         peeks ! (B (κ, tt)) (Is (B (κ, tt))) (shows 𝓛 (B (κ, tt))) r (u ∷ []) (λ is.
         land ! (from ! (stop !)) (init ! 3 refl ((LL.lawful (T.the_type αᵉ) (T'.the_laws αᵉ) 𝓛).typed r _ is).0) $
@@ -129,7 +129,7 @@ module _ {M : Type 1} {𝓤 : Ura M} (𝓛 : Logic 𝓤) (mem : Memory → SProp
         peeks ! (ShrSlice (named 0) κ u8) (Is (ShrSlice (named 0) κ u8)) (shows 𝓛 (ShrSlice (named 0) κ u8)) t (x ∷ []) (λ the.
         land ! (from ! (stop !)) (init ! 11 refl ((shr_slice_Lawful 𝓛 (named 0) κ u8).typed t _ the).0) $
         returns ! (look ! 11 refl) $ forget ! 3 refl $ forget ! 5 refl $ forget ! 7 refl $ forget ! 9 refl $ forget ! 11 refl $
-        move ! (11 ∷ 12 ∷ []) $ free1 ! $ move ! (9 ∷ 10 ∷ []) $ free1 ! $ move ! (7 ∷ 8 ∷ []) $ free1 ! $ move ! (5 ∷ 6 ∷ []) $ free1 ! $ move ! (3 ∷ 4 ∷ []) $ free1 ! $ free0 ! $ by ! (exits t x (subst (λ y. Found y t) (made-is w s n r e) h)))))))))))))))
+        move ! (11 ∷ 12 ∷ []) $ free1 ! $ move ! (9 ∷ 10 ∷ []) $ free1 ! $ move ! (7 ∷ 8 ∷ []) $ free1 ! $ move ! (5 ∷ 6 ∷ []) $ free1 ! $ move ! (3 ∷ 4 ∷ []) $ free1 ! $ free0 ! $ by ! (exits t x (subst (λ y. Found y t) (made_is w s n r e) h)))))))))))))))
 
 module _ {M : Type 1} {𝓤 : Ura M} (𝓛 : Logic 𝓤) (mem : Memory → SProp 𝓤) (run : Routine → Fun 𝓤) where
   open 𝓛 use {H}

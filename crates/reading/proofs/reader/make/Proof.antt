@@ -38,7 +38,7 @@ use Rattle.paper.specs.declared.Width.{Width}
 use Rattle.paper.specs.contracts.Width as E
 use Rattle.paper.proofs.Width.TheLaws as E'
 use Rattle.reading.specs.declared.reader.Reader.{Reader}
-use Rattle.reading.proofs.Held.{tag, width_is, D, L, fields, word, cell, Table, Arg-table, width-typed, reader}
+use Rattle.reading.proofs.Held.{tag, width_is, D, L, fields, word, cell, Table, Arg-table, width_typed, reader}
 use Rattle.reading.specs.contracts.reader.make.Key.{name as #make}
 use Rattle.reading.specs.contracts.reader.make as make
 use Rattle.reading.proofs.reader.make.Statement as stated
@@ -74,7 +74,7 @@ module _ {M : Type 1} {𝓤 : Ura M} (𝓛 : Logic 𝓤) (mem : Memory → SProp
     walk : Is (ShrSlice (named 0) κ u8) s (cell s ∷ []) → ent 𝓤 (on_entry 𝓛 make.signature (κ, tt) (q, tt) (w, (s, (n, tt))) at) (WpFn 𝓤 H C Λ code.function (tag w ∷ cell s ∷ vint w64 n ∷ []) Post)
     walk p =
         qed 𝓛 (raw (on_entry 𝓛 make.signature (κ, tt) (q, tt) (w, (s, (n, tt))) at) ∷ []) ∵ enter ! C Λ code.function (tag w ∷ cell s ∷ vint w64 n ∷ []) _ $
-        alloc1 ! (λ l₀. alloc1 ! (λ l₁. alloc1 ! (λ l₂. alloc1 ! (λ l₃. alloc0 ! $ params1 ! $ pass1 ! (init ! 4 refl (width-typed 𝓛 w)) $
+        alloc1 ! (λ l₀. alloc1 ! (λ l₁. alloc1 ! (λ l₂. alloc1 ! (λ l₃. alloc0 ! $ params1 ! $ pass1 ! (init ! 4 refl (width_typed 𝓛 w)) $
         pass1 ! (init ! 2 refl ((shr_slice_Lawful 𝓛 (named 0) κ u8).typed s (cell s ∷ []) p).0) $ pass1 ! (init ! 0 refl (tt, record { fits = ok })) $ pass0 ! $
         assigns ! (agg ! (and_then ! (load ! (from ! (stop !)) (look ! 2 refl)) (and_then ! (load ! (from ! (stop !)) (look ! 0 refl)) (and_then ! (load ! (from ! (stop !)) (look ! 4 refl)) (no_more !))))) (from ! (stop !))
         (init ! 6 refl ((LL.lawful (D κ) (L κ) 𝓛).typed made (word κ made ∷ []) (LL.owes (D κ) (L κ) made (p, ((refl, ok), (width_is w, tt))))).0) $

@@ -41,7 +41,7 @@ use denote.Triple.Walked.{says, Stays, stay_none, walk_of, Goes-none, Walks, end
 use denote.Exit.{yes}
 use denote.Triple.Clauses.{ensured, lasts}
 use Rattle.reading.specs.declared.reader.Reader.{Reader}
-use Rattle.reading.proofs.Held.{tag, D, L, fields, word, cell, Held, width-typed, apart, reader, onward}
+use Rattle.reading.proofs.Held.{tag, D, L, fields, word, cell, Held, width_typed, apart, reader, onward}
 use Rattle.reading.specs.contracts.reader.Reader as T
 use Rattle.reading.proofs.reader.Reader.TheLaws as T'
 use Rattle.reading.specs.contracts.reader.place_after as place_after
@@ -107,7 +107,7 @@ module _ {M : Type 1} {𝓤 : Ura M} (𝓛 : Logic 𝓤) (mem : Memory → SProp
     walk wt =
         qed 𝓛 (raw (on_entry 𝓛 next.signature (κ, tt) (q, tt) (d, tt) (mach ∷ [], tt)) ∷ []) ∵ enter ! C Λ code.function (mach ∷ []) _ $
         alloc1 ! (λ l₀. alloc1 ! (λ l₁. alloc1 ! (λ l₂. alloc1 ! (λ l₃. alloc1 ! (λ l₄. alloc1 ! (λ l₅. alloc1 ! (λ l₆. alloc1 ! (λ l₇. alloc0 ! $ params1 ! $ pass1 ! (init ! 12 refl wt) $ pass0 ! $
-        assigns ! (of_opd ! (load ! (from ! (fld ! refl (stop !))) (look_in ! 12 (sub ! 2 refl (whole !))))) (from ! (stop !)) (init ! 8 refl (width-typed 𝓛 d.width)) $
+        assigns ! (of_opd ! (load ! (from ! (fld ! refl (stop !))) (look_in ! 12 (sub ! 2 refl (whole !))))) (from ! (stop !)) (init ! 8 refl (width_typed 𝓛 d.width)) $
         assigns ! (of_opd ! (load ! (from ! (fld ! refl (stop !))) (look_in ! 12 (sub ! 0 refl (whole !))))) (from ! (stop !)) (init ! 6 refl (tt, wt.1.0)) $
         assigns ! (of_opd ! (load ! (from ! (fld ! refl (stop !))) (look_in ! 12 (sub ! 1 refl (whole !))))) (from ! (stop !)) (init ! 4 refl (tt, wt.1.1.0)) $
         move ! (16 ∷ []) $ use1 𝓛 (raw ((PlaceAfter 𝓛 mem run).pre to) ⊛ ‵ Own) (apart 𝓛 κ q d wt.1.1.0.fits) $ split ! $
@@ -118,7 +118,7 @@ module _ {M : Type 1} {𝓤 : Ura M} (𝓛 : Logic 𝓤) (mem : Memory → SProp
         -- [the token; what the struct owns; room for _7; …; room for _6; …; _5; …; _4; …; _3; …; room for _2; …; _1; …; room for _0; …]
         land ! (from ! (stop !)) (init ! 12 refl ((uint_Lawful 𝓛 w64).typed r _ is).0) $ rewrite ! 12 (λ (x : Val). ‵ (fat full_share (ty_int w64) l₂ 0 x)) (ap only is.0) refl $
         assigns ! (of_opd ! (load ! (from ! (fld ! refl (stop !))) (look_in ! 14 (sub ! 0 refl (whole !))))) (from ! (stop !)) (init ! 4 refl (tt, wt.1.0)) $
-        assigns ! (of_opd ! (load ! (from ! (fld ! refl (stop !))) (look_in ! 14 (sub ! 2 refl (whole !))))) (from ! (stop !)) (init ! 2 refl (width-typed 𝓛 d.width)) $
+        assigns ! (of_opd ! (load ! (from ! (fld ! refl (stop !))) (look_in ! 14 (sub ! 2 refl (whole !))))) (from ! (stop !)) (init ! 2 refl (width_typed 𝓛 d.width)) $
         assigns ! (agg ! (and_then ! (load ! (from ! (stop !)) (look ! 4 refl)) (and_then ! (load ! (from ! (stop !)) (look ! 12 refl)) (and_then ! (load ! (from ! (stop !)) (look ! 2 refl)) (no_more !))))) (from ! (stop !))
         (init ! 16 refl (wt.0, (wt.1.0, (record { fits = is.1 }, wt.1.1.1)))) $
         returns ! (look ! 16 refl) $ forget ! 2 refl $ forget ! 4 refl $ forget ! 6 refl $ forget ! 8 refl $ forget ! 10 refl $ forget ! 12 refl $ forget ! 14 refl $ forget ! 16 refl $

@@ -5,10 +5,10 @@ use native.Mathlib.Nat.{div-le_self}
 use native.Mathlib.Numerals.{add-one}
 use mathlib.Core.Path.{◌≡◌, sym, ap, ◌∙◌, subst}
 use lib.ListN.{length}
-use Rattle.paper.specs.Format.{rowBytes, whole}
+use Rattle.paper.specs.Format.{row_bytes, whole}
 use Rattle.paper.specs.Widths.{format_of}
-use Rattle.bytes.proofs.Laws.{format-served}
-use Rattle.reading.proofs.Reading.{readerNext-row, readerNext-end}
+use Rattle.octets.proofs.Laws.{format_served}
+use Rattle.reading.proofs.Reading.{reader_next-row, reader_next_end}
 use borrow.Author.Rules.{rules}
 use Rattle.reading.proofs.reader.place_after.Statement.{statement}
 use Rattle.reading.proofs.reader.place_after.Tie as tie
@@ -17,12 +17,12 @@ abbrev begun : tie.After-row-bytes → tie.Start
 begun c = c.before.before.before
 
 -- a row's bytes are those of the width
-wide : (c : tie.After-row-bytes) → c.row-bytes.result ≡ rowBytes (format_of (begun c).args.width)
-wide c = c.row-bytes.ensures ∙ ap rowBytes c.before.format-of.ensures
+wide : (c : tie.After-row-bytes) → c.row-bytes.result ≡ row_bytes (format_of (begun c).args.width)
+wide c = c.row-bytes.ensures ∙ ap row_bytes c.before.format-of.ensures
 
 row-bytes-requires : tie.Need-row-bytes-requires
 row-bytes-requires c κs =
-    omega (arith, (format-served c.format-of.result c.before.before.args.width c.format-of.ensures).shallow)
+    omega (arith, (format_served c.format-of.result c.before.before.args.width c.format-of.ensures).shallow)
 
 add-result : tie.Need-overflow-add-result
 add-result c =
@@ -33,12 +33,12 @@ returns : tie.Need-returns
 returns c =
     let a = (begun c.before).args in
     add-one a.at
-    ∙ sym (readerNext-row (format_of a.width) a.table.now a.at (subst (λ w. a.at < whole w a.table.now) (wide c.before) c.if1.true))
+    ∙ sym (reader_next-row (format_of a.width) a.table.now a.at (subst (λ w. a.at < whole w a.table.now) (wide c.before) c.if1.true))
 
 returns-2 : tie.Need-returns-2
 returns-2 c =
     let a = (begun c.before).args in
-    sym (readerNext-end (format_of a.width) a.table.now a.at (subst (λ w. whole w a.table.now ≤ a.at) (wide c.before) c.if1.false))
+    sym (reader_next_end (format_of a.width) a.table.now a.at (subst (λ w. whole w a.table.now ≤ a.at) (wide c.before) c.if1.false))
 
 pub place-after-spec : {M : Type 1} → statement M
 place-after-spec =

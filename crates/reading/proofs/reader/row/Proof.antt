@@ -40,7 +40,7 @@ use denote.Triple.Walked.{says, Stays, stay_none, walk_of, Goes-none, Walks, end
 use denote.Exit.{yes}
 use denote.Triple.Clauses.{ensured, lasts}
 use Rattle.reading.specs.declared.reader.Reader.{Reader}
-use Rattle.reading.proofs.Held.{tag, word, cell, Held, width-typed, apart, Found}
+use Rattle.reading.proofs.Held.{tag, word, cell, Held, width_typed, apart, Found}
 use Rattle.reading.specs.contracts.reader.Reader as T
 use Rattle.reading.proofs.reader.Reader.TheLaws as T'
 use Rattle.reading.specs.contracts.reader.row_at as row_at
@@ -98,7 +98,7 @@ module _ {M : Type 1} {𝓤 : Ura M} (𝓛 : Logic 𝓤) (mem : Memory → SProp
     walk wt =
         qed 𝓛 (raw (on_entry 𝓛 row.signature (κ, tt) (q, tt) (d, tt) (mach ∷ [], tt)) ∷ []) ∵ enter ! C Λ code.function (mach ∷ []) _ $
         alloc1 ! (λ l₀. alloc1 ! (λ l₁. alloc1 ! (λ l₂. alloc1 ! (λ l₃. alloc1 ! (λ l₄. alloc0 ! $ params1 ! $ pass1 ! (init ! 6 refl wt) $ pass0 ! $
-        assigns ! (of_opd ! (load ! (from ! (fld ! refl (stop !))) (look_in ! 6 (sub ! 2 refl (whole !))))) (from ! (stop !)) (init ! 4 refl (width-typed 𝓛 d.width)) $
+        assigns ! (of_opd ! (load ! (from ! (fld ! refl (stop !))) (look_in ! 6 (sub ! 2 refl (whole !))))) (from ! (stop !)) (init ! 4 refl (width_typed 𝓛 d.width)) $
         assigns ! (of_opd ! (load ! (from ! (fld ! refl (stop !))) (look_in ! 6 (sub ! 0 refl (whole !))))) (from ! (stop !)) (init ! 2 refl (tt, wt.1.0)) $
         assigns ! (of_opd ! (load ! (from ! (fld ! refl (stop !))) (look_in ! 6 (sub ! 1 refl (whole !))))) (from ! (stop !)) (init ! 0 refl (tt, wt.1.1.0)) $
         move ! (10 ∷ []) $ use1 𝓛 (raw ((RowAt 𝓛 mem run).pre to) ⊛ ‵ Own) (apart 𝓛 κ q d wt.1.1.0.fits) $ split ! $

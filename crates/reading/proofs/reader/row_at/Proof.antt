@@ -4,11 +4,11 @@ use native.Mathlib.Nat.{mul-div-le}
 use native.Mathlib.Omega.{arith}
 use mathlib.Core.Path.{◌≡◌, ap, ◌∙◌, subst}
 use lib.ListN.{length, take, drop}
-use Rattle.paper.specs.Format.{rowBytes, whole}
+use Rattle.paper.specs.Format.{row_bytes, whole}
 use Rattle.paper.specs.Widths.{format_of}
-use Rattle.bytes.specs.Part.{OwnFrom}
-use Rattle.bytes.proofs.Laws.{record-in, format-served}
-use Rattle.reading.proofs.Reading.{row-handed, end-handed}
+use Rattle.octets.specs.Part.{OwnFrom}
+use Rattle.octets.proofs.Laws.{record_in, format_served}
+use Rattle.reading.proofs.Reading.{row_handed, end_handed}
 use borrow.Author.Rules.{rules}
 use Rattle.reading.proofs.reader.row_at.Statement.{statement}
 use Rattle.reading.proofs.reader.row_at.Tie as tie
@@ -17,26 +17,26 @@ abbrev begun : tie.After-row-bytes → tie.Start
 begun c = c.before.before.before
 
 -- a row's bytes are those of the width
-wide : (c : tie.After-row-bytes) → c.row-bytes.result ≡ rowBytes (format_of (begun c).args.width)
-wide c = c.row-bytes.ensures ∙ ap rowBytes c.before.format-of.ensures
+wide : (c : tie.After-row-bytes) → c.row-bytes.result ≡ row_bytes (format_of (begun c).args.width)
+wide c = c.row-bytes.ensures ∙ ap row_bytes c.before.format-of.ensures
 
 row-bytes-requires : tie.Need-row-bytes-requires
 row-bytes-requires c κs =
-    omega (arith, (format-served c.format-of.result c.before.before.args.width c.format-of.ensures).shallow)
+    omega (arith, (format_served c.format-of.result c.before.before.args.width c.format-of.ensures).shallow)
 
 record-requires : tie.Need-record-requires
 record-requires c κs =
     let a = (begun c.before).args in
     let w = c.before.row-bytes.result in
     let n = length a.table.now in
-    record-in w a.at (whole w a.table.now) n c.if1.true (mul-div-le n w)
+    record_in w a.at (whole w a.table.now) n c.if1.true (mul-div-le n w)
 
 returns : tie.Need-returns
 returns c =
     let x = c.before.before in
     let a = (begun x).args in
     let r = c.«record» in
-    row-handed (format_of a.width) a.table a.at (subst (λ w. a.at < whole w a.table.now) (wide x) c.before.if1.true)
+    row_handed (format_of a.width) a.table a.at (subst (λ w. a.at < whole w a.table.now) (wide x) c.before.if1.true)
     r.result (subst (λ w. r.result.now ≡ take w (drop (w * a.at) a.table.now)) (wide x) r.ensures.0)
     (subst (λ w. OwnFrom a.table (w * a.at) r.result) (wide x) r.ensures.2)
 
@@ -44,7 +44,7 @@ returns-2 : tie.Need-returns-2
 returns-2 c =
     let e = c.before in
     let a = (begun e.before).args in
-    end-handed (format_of a.width) a.table a.at (subst (λ w. whole w a.table.now ≤ a.at) (wide e.before) e.if1.false)
+    end_handed (format_of a.width) a.table a.at (subst (λ w. whole w a.table.now ≤ a.at) (wide e.before) e.if1.false)
 
 pub row-at-spec : {M : Type 1} → statement M
 row-at-spec =

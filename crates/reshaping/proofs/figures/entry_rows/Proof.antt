@@ -3,17 +3,17 @@ use Prim.Native.Nat.{◌-◌, ◌≤◌, zero-le, min}
 use native.Mathlib.Omega.{arith}
 use mathlib.Core.Path.{◌≡◌, refl, ◌∙◌, ap}
 use borrow.Author.Rules.{rules}
-use Rattle.reshaping.specs.Figures.{heldBy, differentIn}
-use Rattle.reshaping.proofs.Figured.{sum_row, sum-other}
+use Rattle.reshaping.specs.Figures.{held_by, different_in}
+use Rattle.reshaping.proofs.Figured.{sum_row, sum_other}
 use Rattle.reshaping.proofs.figures.entry_rows.Statement.{statement}
 use Rattle.reshaping.proofs.figures.entry_rows.Tie as tie
 
 abbrev invariant-loop : tie.invariant-loop
-invariant-loop types rows k shows e entry-at-lem held₀ different₀ i₀ held different i =
-    (i ≤ rows) × (held ≤ i) × (different ≤ i) × (held ≡ heldBy types i k) × (different ≡ differentIn types i k shows e)
+invariant-loop types rows k shows e entry_at_lem held₀ different₀ i₀ held different i =
+    (i ≤ rows) × (held ≤ i) × (different ≤ i) × (held ≡ held_by types i k) × (different ≡ different_in types i k shows e)
 
 abbrev decreases-loop : tie.decreases-loop
-decreases-loop types rows k shows e entry-at-lem held₀ different₀ i₀ held different i = rows - i
+decreases-loop types rows k shows e entry_at_lem held₀ different₀ i₀ held different i = rows - i
 
 loop-holds : tie.Need-loop-init invariant-loop decreases-loop
 loop-holds c = (zero-le, zero-le, zero-le, refl, refl)
@@ -50,8 +50,8 @@ loop-again-2 c =
       omega arith,
       omega arith,
       omega arith,
-      sum-other a.types.now a.k v.i v.held (λ _. 1) held other,
-      sum-other a.types.now a.k v.i v.different _ different other,
+      sum_other a.types.now a.k v.i v.held (λ _. 1) held other,
+      sum_other a.types.now a.k v.i v.different _ different other,
     )
 
 returns : tie.Need-returns invariant-loop decreases-loop
@@ -60,7 +60,7 @@ returns c =
     let l = c.before in
     let (le, _, _, held, different) = l.loop.invariant in
     let all : l.loop.i ≡ a.rows = omega (arith, c.loop-test.false) in
-    (held ∙ ap (λ n. heldBy a.types.now n a.k) all, different ∙ ap (λ n. differentIn a.types.now n a.k a.shows.now a.e) all)
+    (held ∙ ap (λ n. held_by a.types.now n a.k) all, different ∙ ap (λ n. different_in a.types.now n a.k a.shows.now a.e) all)
 
 pub entry-rows-spec : {M : Type 1} → statement M
 entry-rows-spec =

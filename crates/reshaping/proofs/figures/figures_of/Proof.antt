@@ -4,17 +4,17 @@ use native.Mathlib.Omega.{arith}
 use mathlib.Core.Path.{◌≡◌, refl, ap}
 use lib.ListN.{get_or}
 use borrow.Author.Rules.{rules}
-use Rattle.reshaping.specs.Figures.{heldBy, differentIn}
-use Rattle.reshaping.proofs.Figured.{Filling, filling-none, filling-more, filling-end}
+use Rattle.reshaping.specs.Figures.{held_by, different_in}
+use Rattle.reshaping.proofs.Figured.{Filling, filling_none, filling_more, filling_end}
 use Rattle.reshaping.proofs.figures.figures_of.Statement.{statement}
 use Rattle.reshaping.proofs.figures.figures_of.Tie as tie
 
 abbrev invariant-loop : tie.invariant-loop
 invariant-loop types rows entries shows wanted lines held₀ copies₀ different₀ e₀ held copies different e =
     (e ≤ entries)
-    × Filling (λ e. heldBy types rows (get_or wanted e 0)) e held
-    × Filling (λ e. get_or lines e 0 - differentIn types rows (get_or wanted e 0) shows e) e copies
-    × Filling (λ e. differentIn types rows (get_or wanted e 0) shows e) e different
+    × Filling (λ e. held_by types rows (get_or wanted e 0)) e held
+    × Filling (λ e. get_or lines e 0 - different_in types rows (get_or wanted e 0) shows e) e copies
+    × Filling (λ e. different_in types rows (get_or wanted e 0) shows e) e different
 
 abbrev decreases-loop : tie.decreases-loop
 decreases-loop types rows entries shows wanted lines held₀ copies₀ different₀ e₀ held copies different e = entries - e
@@ -28,7 +28,7 @@ place : (c : tie.In-loop invariant-loop decreases-loop) → c.before.loop.e < 16
 place c = omega (arith, (begun c.before).pre.0.2, c.loop-test.true)
 
 loop-holds : tie.Need-loop-init invariant-loop decreases-loop
-loop-holds c = (omega arith, filling-none, filling-none, filling-none)
+loop-holds c = (omega arith, filling_none, filling_none, filling_none)
 
 array-read-entry-rows : tie.Need-array-read-entry-rows invariant-loop decreases-loop
 array-read-entry-rows c = place c
@@ -61,12 +61,12 @@ loop-again c =
     let r = c.before in
     let t = r.before in
     let l = t.before in
-    let (held-is, different-is) = r.entry-rows.ensures in
+    let (held_is, different_is) = r.entry-rows.ensures in
     let (_, held, copies, different) = l.loop.invariant in (
       omega arith,
-      filling-more held (place t) held-is,
-      filling-more copies (place t) (ap (λ d. get_or (begun l).args.t6 l.loop.e 0 - d) different-is),
-      filling-more different (place t) different-is,
+      filling_more held (place t) held_is,
+      filling_more copies (place t) (ap (λ d. get_or (begun l).args.t6 l.loop.e 0 - d) different_is),
+      filling_more different (place t) different_is,
     )
 
 returns : tie.Need-returns invariant-loop decreases-loop
@@ -76,9 +76,9 @@ returns c =
     record {
       accepted = (refl, refl);
       lines_are = refl;
-      rows_are = filling-end held all;
-      copies-are = filling-end copies all;
-      different-are = filling-end different all;
+      rows_are = filling_end held all;
+      copies_are = filling_end copies all;
+      different_are = filling_end different all;
     }
 
 pub figures-of-spec : {M : Type 1} → statement M

@@ -1,7 +1,7 @@
 -- `reshaping::reshape::reshape` meets its contract. Assumes nothing.
 use native.Mathlib.Omega.{arith}
 use mathlib.Core.Path.{refl}
-use Rattle.paper.specs.Calls.{tests1-4}
+use Rattle.paper.specs.Calls.{tests1_4}
 use Rattle.paper.proofs.Seam.{seam}
 use Rattle.reshaping.proofs.Seam.{refused-reshape}
 use Rattle.reshaping.proofs.Lent.{leaves}
@@ -15,7 +15,7 @@ returns c =
     let x : tie.After-read-rows = search in
     let a = s.args in
     let r = x.read-rows.result in
-    let call = (seam a.f a.table.now (tests1-4 a.f a.table.now) refl).reshapes a.shape.now a.new.now a.sources.now in
+    let call = (seam a.f a.table.now (tests1_4 a.f a.table.now) refl).reshapes a.shape.now a.new.now a.sources.now in
     leaves s.pre _ _ a.new.now a.sources.now c.refused.result r.number r.place c.refused.ensures
     (refused-reshape a.shape.now a.new.now a.sources.now call x.read-rows.ensures c.before.if1.true)
 
@@ -24,7 +24,7 @@ next-rows-requires c κs =
     let u : tie.Else1 = search in
     let x : tie.After-read-rows = search in
     let y = (x.read-rows.ensures.read u.if1.left).rows_are in
-    ((y.few, y.types_long, search rules), y.type-few)
+    ((y.few, y.types_long, search rules), y.type_few)
 
 slice-aggregate-reshape-rows-3 : tie.Need-slice-aggregate-reshape-rows-3
 slice-aggregate-reshape-rows-3 c = search rules

@@ -5,12 +5,12 @@ use lib.ListN.{length}
 use Rattle.paper.specs.Tables.{rows}
 use Rattle.paper.specs.Closeness.{nodes}
 use Rattle.paper.specs.NewTable.{lines}
-use Rattle.paper.specs.Calls.{roomIn}
-use Rattle.shapes.specs.Tests.{shapeIn}
-use Rattle.reshaping.proofs.Answers.{reshape-refused, reshape-full}
+use Rattle.paper.specs.Calls.{room_in}
+use Rattle.shapes.specs.Tests.{shape_in}
+use Rattle.reshaping.proofs.Answers.{reshape-refused, reshape_full}
 use Rattle.reshaping.proofs.Paper.{length-is}
-use Rattle.reshaping.proofs.Summed.{counted-here, count_fits, count-exceeds}
-use Rattle.reshaping.proofs.Lent.{reshapes, leaves, runs-named, next-as, left-at-front, fits, lines_left, table-left, sources-left-lem}
+use Rattle.reshaping.proofs.Summed.{counted_here, count_fits, count_exceeds}
+use Rattle.reshaping.proofs.Lent.{reshapes, leaves, runs-named, next_as, left_at_front, fits, lines_left, table_left, sources_left_lem}
 use borrow.Author.Rules.{rules}
 use Rattle.reshaping.proofs.reshape.reshape_rows.Statement.{statement}
 use Rattle.reshaping.proofs.reshape.reshape_rows.Tie as tie
@@ -38,7 +38,7 @@ count-lines-requires c κs =
     let y = (p.prepare.ensures _ s.pre.0.1).ready u.if1.left in (
       y.rows_are,
       y.shaped.sized,
-      record { runs-long = omega (arith, slice-aggregate-count-lines c.before); list-long = omega (arith, slice-aggregate-count-lines-2 c) },
+      record { runs_long = omega (arith, slice-aggregate-count-lines c.before); list_long = omega (arith, slice-aggregate-count-lines-2 c) },
     )
 
 returns-2 : tie.Need-returns-2
@@ -51,9 +51,9 @@ returns-2 c =
     let r = d.before.room_in in
     let y = (p.prepare.ensures _ s.pre.0.1).ready u.if1.left in
     let a = s.args in
-    let over = count-exceeds (counted-here y n.count-lines.ensures.1) r.result (omega (arith, r.ensures)) d.if2.true in
+    let over = count_exceeds (counted_here y n.count-lines.ensures.1) r.result (omega (arith, r.ensures)) d.if2.true in
     leaves s.pre.0.0 _ _ a.new.now a.sources.now c.refused2.result 8 0 c.refused2.ensures
-    (reshape-full y a.new.now a.sources.now (omega (arith, over, length-is y, r.ensures)))
+    (reshape_full y a.new.now a.sources.now (omega (arith, over, length-is y, r.ensures)))
 
 slice-aggregate-write-table : tie.Need-slice-aggregate-write-table
 slice-aggregate-write-table c = search rules
@@ -71,11 +71,11 @@ write-table-requires c κs =
     let u : tie.Else1 = search in
     let p : tie.After-prepare = search in
     let y = (p.prepare.ensures _ s.pre.0.1).ready u.if1.left in
-    let few = count_fits (counted-here y n.count-lines.ensures.1) r.room_in.result (omega (arith, r.room_in.ensures)) b.if2.left in
+    let few = count_fits (counted_here y n.count-lines.ensures.1) r.room_in.result (omega (arith, r.room_in.ensures)) b.if2.left in
     let left = n.count-lines.last.1.1.1.1 in
     let named = runs-named y {runs = left.0} {lists = left.1.0} n.count-lines.ensures.0
-    (record { runs-long = omega (arith, slice-aggregate-write-table l.before); list-long = omega (arith, slice-aggregate-write-table-2 l) }) in
-    (named, (next-as y s.pre.0.1 s.args.next.now s.pre.1, fits y _ _ (omega (arith, r.room_in.ensures, length-is y, few))))
+    (record { runs_long = omega (arith, slice-aggregate-write-table l.before); list_long = omega (arith, slice-aggregate-write-table-2 l) }) in
+    (named, (next_as y s.pre.0.1 s.args.next.now s.pre.1, fits y _ _ (omega (arith, r.room_in.ensures, length-is y, few))))
 
 returns-3 : tie.Need-returns-3
 returns-3 c =
@@ -88,15 +88,15 @@ returns-3 c =
     let k : tie.After-shared-slice-known5 = search in
     let s : tie.Start = search in
     let y = (p.prepare.ensures _ s.pre.0.1).ready u.if1.left in
-    let few = count_fits (counted-here y n.count-lines.ensures.1) r.room_in.result (omega (arith, r.room_in.ensures)) b.if2.left in
+    let few = count_fits (counted_here y n.count-lines.ensures.1) r.room_in.result (omega (arith, r.room_in.ensures)) b.if2.left in
     let a = s.args in
     let new = a.new.now in
     let sources = a.sources.now in
-    let all = lines (nodes (rows a.f a.table.now)) (shapeIn a.f a.table.now a.shape.now) a.f.levels in
-    let le : length all ≤ roomIn a.f new sources = omega (arith, r.room_in.ensures, length-is y, few) in
-    let (ec, (et, ep)) = left-at-front v.write-table.ensures in
+    let all = lines (nodes (rows a.f a.table.now)) (shape_in a.f a.table.now a.shape.now) a.f.levels in
+    let le : length all ≤ room_in a.f new sources = omega (arith, r.room_in.ensures, length-is y, few) in
+    let (ec, (et, ep)) = left_at_front v.write-table.ensures in
     let er = lines_left y new sources le v.write-table.result ec in
-    reshapes s.pre.0.0 _ _ _ er (table-left y new sources le _ et) (sources-left-lem y new sources le _ ep)
+    reshapes s.pre.0.0 _ _ _ er (table_left y new sources le _ et) (sources_left_lem y new sources le _ ep)
 
 pub reshape-rows-spec : {M : Type 1} → statement M
 reshape-rows-spec =

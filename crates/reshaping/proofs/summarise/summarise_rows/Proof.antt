@@ -2,10 +2,10 @@
 use native.Mathlib.Omega.{arith}
 use mathlib.Core.Path.{◌≡◌, sym, ◌∙◌}
 use lib.ListN.{length}
-use Rattle.paper.specs.Format.{mostLines}
-use Rattle.reshaping.proofs.Answers.{summary-refused, summary-full, summary-given}
+use Rattle.paper.specs.Format.{most_lines}
+use Rattle.reshaping.proofs.Answers.{summary_refused, summary_full, summary_given}
 use Rattle.reshaping.proofs.Paper.{length-is}
-use Rattle.reshaping.proofs.Summed.{counted-here, different-fits, summed, count_fits, count-exceeds}
+use Rattle.reshaping.proofs.Summed.{counted_here, different_fits, summed, count_fits, count_exceeds}
 use borrow.Author.Rules.{rules}
 use Rattle.reshaping.proofs.summarise.summarise_rows.Statement.{statement}
 use Rattle.reshaping.proofs.summarise.summarise_rows.Tie as tie
@@ -18,7 +18,7 @@ returns c t rows =
     let p : tie.After-prepare = search in
     let s : tie.Start = search in let a = s.args in
     let e = (p.prepare.ensures t rows).refused-is c.before.if1.true in
-    c.refused.ensures ∙ sym (summary-refused a.f t a.shape.now _ _ e)
+    c.refused.ensures ∙ sym (summary_refused a.f t a.shape.now _ _ e)
 
 slice-aggregate-count-lines : tie.Need-slice-aggregate-count-lines
 slice-aggregate-count-lines c = search rules
@@ -34,7 +34,7 @@ count-lines-requires c κs =
     let y = (p.prepare.ensures t rows).ready u.if1.left in (
       y.rows_are,
       y.shaped.sized,
-      record { runs-long = omega (arith, slice-aggregate-count-lines c.before); list-long = omega (arith, slice-aggregate-count-lines-2 c) },
+      record { runs_long = omega (arith, slice-aggregate-count-lines c.before); list_long = omega (arith, slice-aggregate-count-lines-2 c) },
     )
 
 returns-2 : tie.Need-returns-2
@@ -44,8 +44,8 @@ returns-2 c t rows =
     let p : tie.After-prepare = search in
     let d = c.before in
     let y = (p.prepare.ensures t rows).ready u.if1.left in
-    let over = count-exceeds (counted-here y n.count-lines.ensures.1) mostLines (omega arith) d.if2.true in
-    c.refused2.ensures ∙ sym (summary-full y (omega (arith, over, length-is y)))
+    let over = count_exceeds (counted_here y n.count-lines.ensures.1) most_lines (omega arith) d.if2.true in
+    c.refused2.ensures ∙ sym (summary_full y (omega (arith, over, length-is y)))
 
 slice-aggregate-figures-of : tie.Need-slice-aggregate-figures-of
 slice-aggregate-figures-of c = search rules
@@ -58,9 +58,9 @@ figures-of-requires c κs =
     let p : tie.After-prepare = search in
     let s : tie.Start = search in let (t, rows) = s.pre.1 in
     let y = (p.prepare.ensures t rows).ready u.if1.left in
-    let counted = counted-here y n.count-lines.ensures.1 in (
+    let counted = counted_here y n.count-lines.ensures.1 in (
       (y.rows_are.types_long, y.rows_are.few, y.shaped.sized.few, omega (arith, slice-aggregate-figures-of c)),
-      different-fits y counted (count_fits counted mostLines (omega arith) e.if2.left),
+      different_fits y counted (count_fits counted most_lines (omega arith) e.if2.left),
     )
 
 returns-3 : tie.Need-returns-3
@@ -70,10 +70,10 @@ returns-3 c t rows =
     let u : tie.Else1 = search in
     let p : tie.After-prepare = search in
     let y = (p.prepare.ensures t rows).ready u.if1.left in
-    let counted = counted-here y n.count-lines.ensures.1 in
-    let le = count_fits counted mostLines (omega arith) e.if2.left in
+    let counted = counted_here y n.count-lines.ensures.1 in
+    let le = count_fits counted most_lines (omega arith) e.if2.left in
     summed y counted le c.figures-of.result (lines_long n) c.figures-of.ensures
-    ∙ sym (summary-given y (omega (arith, le, length-is y)))
+    ∙ sym (summary_given y (omega (arith, le, length-is y)))
 
 pub summarise-rows-spec : {M : Type 1} → statement M
 summarise-rows-spec =

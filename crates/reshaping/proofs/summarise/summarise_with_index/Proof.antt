@@ -1,6 +1,6 @@
 -- `reshaping::summarise::summarise_with_index` meets its contract. Assumes nothing.
-use Rattle.paper.proofs.WithIndex.{summarise-with-lem}
-use Rattle.reshaping.proofs.Seam.{refused-summary, summarised-rows}
+use Rattle.paper.proofs.WithIndex.{summarise_with_lem}
+use Rattle.reshaping.proofs.Seam.{refused_summary, summarised-rows}
 use borrow.Author.Rules.{rules}
 use Rattle.reshaping.proofs.summarise.summarise_with_index.Statement.{statement}
 use Rattle.reshaping.proofs.summarise.summarise_with_index.Tie as tie
@@ -10,7 +10,7 @@ returns c =
     let s : tie.Start = search in
     let x : tie.After-read-indexed = search in
     let a = s.args in
-    refused-summary a.shape.now (summarise-with-lem a.f a.table.now a.shape.now a.last.now a.next.now) x.read-indexed.ensures.reads
+    refused_summary a.shape.now (summarise_with_lem a.f a.table.now a.shape.now a.last.now a.next.now) x.read-indexed.ensures.reads
     c.before.if1.true c.refused.ensures
 
 summarise-rows-requires : tie.Need-summarise-rows-requires
@@ -26,7 +26,7 @@ returns-2 c =
     let x : tie.After-read-indexed = search in
     let u : tie.Else1 = search in
     let a = s.args in
-    summarised-rows a.shape.now (summarise-with-lem a.f a.table.now a.shape.now a.last.now a.next.now) x.read-indexed.ensures.reads
+    summarised-rows a.shape.now (summarise_with_lem a.f a.table.now a.shape.now a.last.now a.next.now) x.read-indexed.ensures.reads
     u.if1.left c.summarise-rows.ensures
 
 pub summarise-with-index-spec : {M : Type 1} → statement M

@@ -3,8 +3,8 @@ use Prim.Native.Nat.{◌+◌, ◌≤◌}
 use native.Mathlib.Omega.{arith}
 use mathlib.Core.Path.{◌≡◌}
 use lib.ListN.{length}
-use Rattle.screens.specs.Screens.{countsText}
-use Rattle.screens.proofs.Lines.{put-comma}
+use Rattle.screens.specs.Screens.{counts_text}
+use Rattle.screens.proofs.Lines.{put_comma}
 use borrow.Author.Rules.{rules}
 use Rattle.screens.proofs.figures.put_counts.Statement.{statement}
 use Rattle.screens.proofs.figures.put_counts.Tie as tie
@@ -24,7 +24,7 @@ same_length : tie.Need-same-length
 same_length c = let copies : tie.After-put-counted3 = search in omega (arith, room copies)
 
 returns : tie.Need-returns
-unfolding countsText
+unfolding counts_text
 returns c =
     let different : tie.After-put-counted4 = search in
     let comma3 : tie.After-put-bytes3 = search in
@@ -33,9 +33,9 @@ returns c =
     let rows : tie.After-put-counted2 = search in
     let comma : tie.After-put-bytes = search in
     let lines : tie.After-put-counted = search in
-    let two = put-comma lines.put-counted.ensures.0 comma.put-bytes.ensures rows.put-counted2.ensures.0 in
-    let three = put-comma two comma2.put-bytes2.ensures copies.put-counted3.ensures.0 in
-    (put-comma three comma3.put-bytes3.ensures different.put-counted4.ensures.0, omega arith)
+    let two = put_comma lines.put-counted.ensures.0 comma.put-bytes.ensures rows.put-counted2.ensures.0 in
+    let three = put_comma two comma2.put-bytes2.ensures copies.put-counted3.ensures.0 in
+    (put_comma three comma3.put-bytes3.ensures different.put-counted4.ensures.0, omega arith)
 
 pub put-counts-spec : {M : Type 1} → statement M
 put-counts-spec =

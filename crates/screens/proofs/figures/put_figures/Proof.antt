@@ -1,14 +1,14 @@
 -- `figures::put_figures`: the parts of the line, one after the other. Assumes nothing.
 use native.Mathlib.Omega.{arith}
 use Rattle.names.proofs.Putting.{put_then}
-use Rattle.screens.specs.Screens.{figuresText}
+use Rattle.screens.specs.Screens.{figures_text}
 use Rattle.screens.proofs.Lines.{fits}
 use borrow.Author.Rules.{rules}
 use Rattle.screens.proofs.figures.put_figures.Statement.{statement}
 use Rattle.screens.proofs.figures.put_figures.Tie as tie
 
 returns : tie.Need-returns
-unfolding figuresText
+unfolding figures_text
 returns c =
     let figures = c.before.before in
     let colon = figures.before.before in

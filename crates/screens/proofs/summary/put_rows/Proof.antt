@@ -1,13 +1,13 @@
 -- `summary::put_rows`: the indent, the name, a space, and the rows. Assumes nothing.
 use native.Mathlib.Omega.{arith}
 use Rattle.names.proofs.Putting.{put_then}
-use Rattle.screens.specs.Screens.{rowsText}
+use Rattle.screens.specs.Screens.{rows_text}
 use borrow.Author.Rules.{rules}
 use Rattle.screens.proofs.summary.put_rows.Statement.{statement}
 use Rattle.screens.proofs.summary.put_rows.Tie as tie
 
 returns : tie.Need-returns
-unfolding rowsText
+unfolding rows_text
 returns c =
     let rows : tie.After-put-counted = search in
     let gap : tie.After-put-byte = search in

@@ -2,7 +2,7 @@
 use native.Mathlib.Omega.{arith}
 use Rattle.adorned.specs.Told.{told}
 use Rattle.names.proofs.Putting.{put_then, put_as}
-use Rattle.screens.proofs.Lines.{fits, root_line, lower-line}
+use Rattle.screens.proofs.Lines.{fits, root_line, lower_line}
 use borrow.Author.Rules.{rules}
 use Rattle.screens.proofs.summary.put_type.Statement.{statement}
 use Rattle.screens.proofs.summary.put_type.Tie as tie
@@ -22,7 +22,7 @@ returns-2 c =
     let rows = test.before.before in
     let a = rows.before.before.args in
     let parts = put_then rows.put-rows.ensures.0 under.Put-under.ensures.0 in
-    let whole = put_as (put_then parts c.put-byte2.ensures) (lower-line (told a.s) a.above test.if1.false) in
+    let whole = put_as (put_then parts c.put-byte2.ensures) (lower_line (told a.s) a.above test.if1.false) in
     fits whole (omega arith)
 
 pub put-type-spec : {M : Type 1} → statement M

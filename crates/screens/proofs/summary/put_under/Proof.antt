@@ -1,13 +1,13 @@
 -- `summary::put_under`: the parts between the rows and the end of the line. Assumes nothing.
 use native.Mathlib.Omega.{arith}
 use Rattle.names.proofs.Putting.{put_then}
-use Rattle.screens.specs.Screens.{underText}
+use Rattle.screens.specs.Screens.{under_text}
 use borrow.Author.Rules.{rules}
 use Rattle.screens.proofs.summary.put_under.Statement.{statement}
 use Rattle.screens.proofs.summary.put_under.Tie as tie
 
 returns : tie.Need-returns
-unfolding underText
+unfolding under_text
 returns c =
     let name : tie.After-put-with-article = search in
     let under : tie.After-put-bytes3 = search in

@@ -6,7 +6,7 @@ use mathlib.Core.List.{[], ◌∷◌}
 use lib.ListN.{length}
 use Rattle.grammar.specs.Text.{space}
 use Rattle.names.specs.Put.{Put}
-use Rattle.names.proofs.Putting.{as_long, put-none, put_then, put_as}
+use Rattle.names.proofs.Putting.{as_long, put_none, put_then, put_as}
 use Rattle.screens.specs.Screens.{indent}
 use Rattle.screens.proofs.Parts.{indent-first, indent-more, indent-same}
 use borrow.Author.Rules.{rules}
@@ -21,7 +21,7 @@ abbrev decreases-loop : tie.decreases-loop
 decreases-loop out₀ at level p₀ l₀ two out p l = level - l
 
 loop-holds : tie.Need-loop-init invariant-loop decreases-loop
-loop-holds c = let a = c.before.args in (omega arith, omega arith, omega arith, refl, refl, put_as (put-none a.out.now a.at) indent-first)
+loop-holds c = let a = c.before.args in (omega arith, omega arith, omega arith, refl, refl, put_as (put_none a.out.now a.at) indent-first)
 
 loop-again : tie.Need-loop-preserved invariant-loop decreases-loop
 loop-again c =

@@ -1,13 +1,13 @@
 -- `words::put_with_article`: the article, a space, and the name. Assumes nothing.
 use native.Mathlib.Omega.{arith}
 use Rattle.names.proofs.Putting.{put_then}
-use Rattle.screens.specs.Screens.{withArticle}
+use Rattle.screens.specs.Screens.{with_article}
 use borrow.Author.Rules.{rules}
 use Rattle.screens.proofs.words.put_with_article.Statement.{statement}
 use Rattle.screens.proofs.words.put_with_article.Tie as tie
 
 returns : tie.Need-returns
-unfolding withArticle
+unfolding with_article
 returns c =
     let name = c.before.before in
     let gap = name.before.before.before.before in

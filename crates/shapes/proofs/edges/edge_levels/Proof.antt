@@ -5,24 +5,24 @@ use mathlib.Core.Path.{refl, ◌∙◌, ap}
 use mathlib.Core.List.{List}
 use lib.ListN.{get_or}
 use borrow.Author.Rules.{rules}
-use Rattle.paper.specs.Format.{mostEntries}
+use Rattle.paper.specs.Format.{most_entries}
 use Rattle.closest.proofs.Filled.{Filled, filled_none, filled_more}
-use Rattle.shapes.specs.Edges.{meetingOf}
+use Rattle.shapes.specs.Edges.{meeting_of}
 use Rattle.shapes.proofs.edges.edge_levels.Statement.{statement}
 use Rattle.shapes.proofs.edges.edge_levels.Tie as tie
 
 -- the level of the edge of entry e
 abbrev level : List ℕ → List ℕ → List ℕ → ℕ → ℕ
-level meetings types parents e = meetingOf meetings types (get_or parents e 0) e
+level meetings types parents e = meeting_of meetings types (get_or parents e 0) e
 
 abbrev invariant-loop : tie.invariant-loop
-invariant-loop meetings types entries parents edges₀ c₀ edges c = (c ≤ entries) × Filled (level meetings types parents) 0 mostEntries c edges
+invariant-loop meetings types entries parents edges₀ c₀ edges c = (c ≤ entries) × Filled (level meetings types parents) 0 most_entries c edges
 
 abbrev decreases-loop : tie.decreases-loop
 decreases-loop meetings types entries parents edges₀ c₀ edges c = entries - c
 
 loop-holds : tie.Need-loop-init invariant-loop decreases-loop
-loop-holds c = let a = c.before.args in (omega arith, filled_none (level a.meetings.now a.types a.t3) 0 mostEntries _ refl)
+loop-holds c = let a = c.before.args in (omega arith, filled_none (level a.meetings.now a.types a.t3) 0 most_entries _ refl)
 
 array-read-wide : tie.Need-array-read-wide invariant-loop decreases-loop
 array-read-wide c = omega (arith, c.loop-test.true, c.before.before.before.requires.0.inside.few)
@@ -48,9 +48,9 @@ loop-again c =
     let i = c.before.before in
     let l = i.before.loop in
     let a = i.before.before.before.args in
-    let here = ap (λ p. meetingOf a.meetings.now a.types p l.c) c.before.wide.ensures.0 in (
+    let here = ap (λ p. meeting_of a.meetings.now a.types p l.c) c.before.wide.ensures.0 in (
       omega (arith, i.loop-test.true),
-      filled_more (level a.meetings.now a.types a.t3) 0 mostEntries l.c l.edges c.meeting.result
+      filled_more (level a.meetings.now a.types a.t3) 0 most_entries l.c l.edges c.meeting.result
           (array-read-wide i) l.invariant.1 (c.meeting.ensures.0 ∙ here),
     )
 

@@ -5,7 +5,7 @@ use mathlib.Core.Path.{refl}
 use lib.ListN.{get_or}
 use borrow.Author.Rules.{rules}
 use Rattle.closest.proofs.Deepest.{zeros-at}
-use Rattle.shapes.proofs.Ends.{Ending, ending-start, ending-next, ending-end}
+use Rattle.shapes.proofs.Ends.{Ending, ending_start, ending_next, ending_end}
 use Rattle.shapes.proofs.edges.entry_ends.Statement.{statement}
 use Rattle.shapes.proofs.edges.entry_ends.Tie as tie
 
@@ -21,7 +21,7 @@ entry : (c : tie.After-wide invariant-loop decreases-loop) → let s = c.before.
 entry c = let s = c.before.before.before in (s.requires.under c.before.before.loop.c c.before.loop-test.true, s.requires.few)
 
 loop-holds : tie.Need-loop-init invariant-loop decreases-loop
-loop-holds c = ending-start _ _ _ refl (zeros-at 16) 1 refl
+loop-holds c = ending_start _ _ _ refl (zeros-at 16) 1 refl
 
 array-write-ends : tie.Need-array-write-ends invariant-loop decreases-loop
 array-write-ends c = omega (arith, c.wide.ensures.0, (entry c).0, (entry c).1)
@@ -29,10 +29,10 @@ array-write-ends c = omega (arith, c.wide.ensures.0, (entry c).0, (entry c).1)
 loop-again : tie.Need-loop-preserved invariant-loop decreases-loop
 loop-again c =
     let l = c.before.before.loop in
-    ending-next _ _ l.ends l.c c.wide.result _ l.invariant c.before.loop-test.true (array-write-ends c) c.wide.ensures.0 refl _ refl
+    ending_next _ _ l.ends l.c c.wide.result _ l.invariant c.before.loop-test.true (array-write-ends c) c.wide.ensures.0 refl _ refl
 
 returns : tie.Need-returns invariant-loop decreases-loop
-returns c = ending-end _ _ c.before.loop.ends c.before.loop.c c.before.loop.invariant c.loop-test.false
+returns c = ending_end _ _ c.before.loop.ends c.before.loop.c c.before.loop.invariant c.loop-test.false
 
 pub entry-ends-spec : {M : Type 1} → statement M
 entry-ends-spec =

@@ -4,9 +4,9 @@ use borrow.Author.Rules.{rules}
 use borrow.Author.Tests.{not-true, not-false}
 use Prim.Native.Nat.{◌-◌}
 use mathlib.Core.Path.{◌≡◌, sym, ◌∙◌, ap}
-use Rattle.paper.specs.Format.{entryBytes, whole}
+use Rattle.paper.specs.Format.{entry_bytes, whole}
 use Rattle.tables.proofs.Rows.{rec, row_in}
-use Rattle.shapes.proofs.Breaks.{Search, search-start, search-stop, search-step, search-end}
+use Rattle.shapes.proofs.Breaks.{Search, search_start, search_stop, search_step, search_end}
 use Rattle.shapes.proofs.entry.bad_entry.Statement.{statement}
 use Rattle.shapes.proofs.entry.bad_entry.Tie as tie
 
@@ -26,13 +26,13 @@ turn k = k.before.before.before
 entry-is : (c : tie.After-record invariant-loop decreases-loop) →
     let l = c.before.before in
     let a = (begun l).args in
-    c.«record».result.now ≡ rec (entryBytes a.f) l.loop.e a.shape.now
+    c.«record».result.now ≡ rec (entry_bytes a.f) l.loop.e a.shape.now
 entry-is c =
     let l = c.before.before in
     c.«record».ensures.0 ∙ ap (λ w. rec w l.loop.e (begun l).args.shape.now) l.before.entry-bytes.ensures
 
 loop-holds : tie.Need-loop-init invariant-loop decreases-loop
-loop-holds c = let a = c.before.before.args in search-start a.f a.shape.now
+loop-holds c = let a = c.before.before.args in search_start a.f a.shape.now
 
 record-requires : tie.Need-record-requires invariant-loop decreases-loop
 record-requires c κs =
@@ -47,8 +47,8 @@ returns c =
     let l = turn k in
     let p = begun l in
     let a = p.args in (
-      search-stop a.f a.shape.now a.entries p.pre.0 l.loop.before l.loop.e l.loop.inv (omega arith)
-          k.before.«record».result.now (entry-is k.before) (sym k.entry-kept-lem.ensures ∙ not-true _ c.if1.true),
+      search_stop a.f a.shape.now a.entries p.pre.0 l.loop.before l.loop.e l.loop.inv (omega arith)
+          k.before.«record».result.now (entry-is k.before) (sym k.entry_kept_lem.ensures ∙ not-true _ c.if1.true),
       omega arith,
     )
 
@@ -58,8 +58,8 @@ loop-again c =
     let l = turn k in
     let p = begun l in
     let a = p.args in
-    search-step a.f a.shape.now a.entries p.pre.0 l.loop.before l.loop.e l.loop.inv (omega arith)
-    k.before.«record».result.now (entry-is k.before) (sym k.entry-kept-lem.ensures ∙ not-false _ c.before.before.if1.false)
+    search_step a.f a.shape.now a.entries p.pre.0 l.loop.before l.loop.e l.loop.inv (omega arith)
+    k.before.«record».result.now (entry-is k.before) (sym k.entry_kept_lem.ensures ∙ not-false _ c.before.before.if1.false)
     c.wide.result c.wide.ensures.0 (omega arith)
 
 returns-2 : tie.Need-returns-2 invariant-loop decreases-loop
@@ -67,7 +67,7 @@ returns-2 c =
     let l = c.before in
     let p = begun l in
     let a = p.args in
-    (search-end a.f a.shape.now a.entries p.pre.0 l.loop.before l.loop.e l.loop.invariant (omega arith), omega arith)
+    (search_end a.f a.shape.now a.entries p.pre.0 l.loop.before l.loop.e l.loop.invariant (omega arith), omega arith)
 
 pub bad-entry-spec : {M : Type 1} → statement M
 bad-entry-spec =

@@ -6,7 +6,7 @@ use mathlib.Core.Path.{◌≡◌, sym, ◌∙◌}
 use lib.ListN.{take, drop}
 use Rattle.paper.specs.Lists.{all, between}
 use Rattle.paper.specs.Format.{words}
-use Rattle.shapes.proofs.Kept.{below, above, within, label-stop, label-step, label-end}
+use Rattle.shapes.proofs.Kept.{below, above, within, label_stop, label_step, label_end}
 use Rattle.shapes.proofs.entry.labels_within.Statement.{statement}
 use Rattle.shapes.proofs.entry.labels_within.Tie as tie
 
@@ -22,7 +22,7 @@ returns c =
     let p = c.before in
     let l = p.before.before in
     let a = l.before.before.args in
-    sym (label-stop a.f a.size a.entry.now (omega arith) l.loop.k
+    sym (label_stop a.f a.size a.entry.now (omega arith) l.loop.k
     p.component.result (omega arith) p.component.ensures.0 (below _ _ _ c.if1.true))
     ∙ l.loop.invariant
 
@@ -31,7 +31,7 @@ returns-2 c =
     let p = c.before.before.before in
     let l = p.before.before in
     let a = l.before.before.args in
-    sym (label-stop a.f a.size a.entry.now (omega arith) l.loop.k
+    sym (label_stop a.f a.size a.entry.now (omega arith) l.loop.k
     p.component.result (omega arith) p.component.ensures.0 (above _ _ _ c.if2.true))
     ∙ l.loop.invariant
 
@@ -40,7 +40,7 @@ loop-again c =
     let p = c.before.before.before in
     let l = p.before.before in
     let a = l.before.before.args in
-    sym (label-step a.f a.size a.entry.now (omega arith) l.loop.k
+    sym (label_step a.f a.size a.entry.now (omega arith) l.loop.k
     p.component.result (omega arith) p.component.ensures.0 (within _ _ _ c.before.before.if1.false c.if2.false))
     ∙ l.loop.invariant
 
@@ -48,7 +48,7 @@ returns-3 : tie.Need-returns-3 invariant-loop decreases-loop
 returns-3 c =
     let l = c.before in
     let a = l.before.before.args in
-    sym (label-end a.f a.size a.entry.now (omega arith) l.loop.k c.loop-test.false) ∙ l.loop.invariant
+    sym (label_end a.f a.size a.entry.now (omega arith) l.loop.k c.loop-test.false) ∙ l.loop.invariant
 
 pub labels-within-spec : {M : Type 1} → statement M
 labels-within-spec =

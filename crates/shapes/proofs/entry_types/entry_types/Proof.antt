@@ -4,18 +4,18 @@ use native.Mathlib.Omega.{arith}
 use mathlib.Core.Path.{◌≡◌, ◌∙◌, ap}
 use borrow.Author.Rules.{rules}
 use lib.ListN.{length, length-set}
-use Rattle.paper.specs.Format.{mostEntries, entryBytes, byte, whole}
+use Rattle.paper.specs.Format.{most_entries, entry_bytes, byte, whole}
 use Rattle.paper.specs.Shapes.{named}
 use Rattle.tables.proofs.Rows.{rec, row_in}
 use Rattle.shapes.specs.EntryTypes.{Numbers}
 use Rattle.shapes.proofs.Entries.{entry, entry-size}
-use Rattle.shapes.proofs.Numbers.{Numbered, read-numbers, numbered_step, numbered-stop, numbered-end}
+use Rattle.shapes.proofs.Numbers.{Numbered, read_numbers, numbered_step, numbered_stop, numbered_end}
 use Rattle.shapes.proofs.entry_types.entry_types.Statement.{statement}
 use Rattle.shapes.proofs.entry_types.entry_types.Tie as tie
 
 abbrev invariant-loop : tie.invariant-loop
 invariant-loop s f entries parents labels count w types₀ e₀ types e =
-    (e ≤ entries) × (length types ≡ mostEntries) × Numbered f s parents labels count e types
+    (e ≤ entries) × (length types ≡ most_entries) × Numbered f s parents labels count e types
 
 abbrev decreases-loop : tie.decreases-loop
 decreases-loop s f entries parents labels count w types₀ e₀ types e = entries - e
@@ -35,14 +35,14 @@ read k = k.before.before.before
 -- entry e is an entry of the shape
 here : (r : tie.After-record invariant-loop decreases-loop) →
     let a = (begun (turn r)).args in
-    (turn r).loop.e < whole (entryBytes a.f) a.shape.now
+    (turn r).loop.e < whole (entry_bytes a.f) a.shape.now
 here r = let s : tie.Start invariant-loop decreases-loop = search in omega (arith, s.pre.0.0, r.before.loop-test.true)
 
 -- and the bytes that are looked at are its own
 entry-is : (r : tie.After-record invariant-loop decreases-loop) →
     let l = turn r in
     let a = (begun l).args in
-    r.«record».result.now ≡ rec (entryBytes a.f) l.loop.e a.shape.now
+    r.«record».result.now ≡ rec (entry_bytes a.f) l.loop.e a.shape.now
 entry-is r =
     let s : tie.Start invariant-loop decreases-loop = search in
     let l : tie.At-loop invariant-loop decreases-loop = search in
@@ -52,13 +52,13 @@ entry-is r =
 number_is : (k : tie.After-type-of invariant-loop decreases-loop) →
     let l = turn (read k) in
     let a = (begun l).args in
-    Numbers a.parents.now a.labels.now a.count (named (entry a.f a.shape.now l.loop.e)) k.type-of-lem.result
+    Numbers a.parents.now a.labels.now a.count (named (entry a.f a.shape.now l.loop.e)) k.type_of_lem.result
 number_is k =
     let s : tie.Start invariant-loop decreases-loop = search in let a = s.args in
     let l : tie.At-loop invariant-loop decreases-loop = search in
     let r : tie.After-record invariant-loop decreases-loop = search in
-    read-numbers a.f a.shape.now a.parents.now a.labels.now a.count l.loop.e r.«record».result.now k.before.wide.result
-    k.type-of-lem.result (entry-is r) k.before.wide.ensures.0 k.type-of-lem.ensures.1
+    read_numbers a.f a.shape.now a.parents.now a.labels.now a.count l.loop.e r.«record».result.now k.before.wide.result
+    k.type_of_lem.result (entry-is r) k.before.wide.ensures.0 k.type_of_lem.ensures.1
 
 record-requires : tie.Need-record-requires invariant-loop decreases-loop
 record-requires c κs =
@@ -84,8 +84,8 @@ returns c =
     let r : tie.After-record invariant-loop decreases-loop = search in
     let k = c.before in
     let a = s.args in
-    numbered-stop a.f a.shape.now a.parents.now a.labels.now a.count l.loop.e l.loop.types l.loop.inv.2 (here r)
-    k.type-of-lem.result (number_is k) (omega (arith, c.if1.true)) a.entries s.pre.0.0
+    numbered_stop a.f a.shape.now a.parents.now a.labels.now a.count l.loop.e l.loop.types l.loop.inv.2 (here r)
+    k.type_of_lem.result (number_is k) (omega (arith, c.if1.true)) a.entries s.pre.0.0
 
 loop-again : tie.Need-loop-preserved invariant-loop decreases-loop
 loop-again c =
@@ -95,9 +95,9 @@ loop-again c =
     let k = c.before in
     let v = l.loop in (
       omega arith,
-      length-set v.types v.e k.type-of-lem.result ∙ v.inv.1,
+      length-set v.types v.e k.type_of_lem.result ∙ v.inv.1,
       numbered_step a.f a.shape.now a.parents.now a.labels.now a.count v.e v.types v.inv.2 (here r)
-          k.type-of-lem.result (number_is k) (omega arith) (omega (arith, c.if1.false)),
+          k.type_of_lem.result (number_is k) (omega arith) (omega (arith, c.if1.false)),
     )
 
 returns-2 : tie.Need-returns-2 invariant-loop decreases-loop
@@ -105,7 +105,7 @@ returns-2 c =
     let s : tie.Start invariant-loop decreases-loop = search in
     let l = c.before in
     let a = s.args in
-    numbered-end a.f a.shape.now a.parents.now a.labels.now a.count l.loop.e l.loop.types l.loop.invariant.2
+    numbered_end a.f a.shape.now a.parents.now a.labels.now a.count l.loop.e l.loop.types l.loop.invariant.2
     a.entries s.pre.0.0 (omega (arith, l.loop.invariant.0))
 
 pub entry-types-spec : {M : Type 1} → statement M

@@ -5,7 +5,7 @@ use native.Mathlib.Omega.{arith}
 use mathlib.Core.Path.{◌≡◌}
 use mathlib.Core.List.{List}
 use borrow.Author.Rules.{rules}
-use Rattle.paper.specs.Format.{mostTypes, words}
+use Rattle.paper.specs.Format.{most_types, words}
 use Rattle.paper.proofs.Tables.{length-words}
 use Rattle.shapes.proofs.Down.{Walked, walk_start, walk_step, walk-stop, walk_end}
 use Rattle.shapes.proofs.entry_types.type_of.Statement.{statement}
@@ -13,7 +13,7 @@ use Rattle.shapes.proofs.entry_types.type_of.Tie as tie
 
 abbrev invariant-loop : tie.invariant-loop
 invariant-loop entry f size parents labels count p₀ k₀ p k =
-    (k ≤ size) × (p ≤ mostTypes) × (0 < k → p < count) × Walked parents labels count (words f.levels entry 4) k p
+    (k ≤ size) × (p ≤ most_types) × (0 < k → p < count) × Walked parents labels count (words f.levels entry 4) k p
 
 abbrev decreases-loop : tie.decreases-loop
 decreases-loop entry f size parents labels count p₀ k₀ p k = size - k
@@ -25,14 +25,14 @@ abbrev turn : tie.After-find-type invariant-loop decreases-loop → tie.At-loop 
 turn q = q.before.before.before
 
 -- the labels of the entry
-abbrev labelsOf : tie.Start invariant-loop decreases-loop → List ℕ
-labelsOf s = words s.args.f.levels s.args.entry.now 4
+abbrev labels_of : tie.Start invariant-loop decreases-loop → List ℕ
+labels_of s = words s.args.f.levels s.args.entry.now 4
 
 loop-holds : tie.Need-loop-init invariant-loop decreases-loop
 loop-holds c =
     let s = c.before.before.before in
     let a = s.args in
-    (omega arith, omega arith, λ lt. absurd (not-suc-le-zero lt), walk_start a.parents.now a.labels.now a.count (labelsOf s))
+    (omega arith, omega arith, λ lt. absurd (not-suc-le-zero lt), walk_start a.parents.now a.labels.now a.count (labels_of s))
 
 returns : tie.Need-returns invariant-loop decreases-loop
 returns c =
@@ -43,7 +43,7 @@ returns c =
     let long = length-words a.f.levels a.entry.now 4 in
     let label = q.before.component in (
       omega arith,
-      walk-stop a.parents.now a.labels.now a.count (labelsOf s) l.loop.k l.loop.p label.result q.find-type.result l.loop.inv.3
+      walk-stop a.parents.now a.labels.now a.count (labels_of s) l.loop.k l.loop.p label.result q.find-type.result l.loop.inv.3
           (omega (arith, long)) label.ensures.0 q.find-type.ensures a.size (omega arith) (omega (arith, long)) (omega (arith, c.if1.true)),
     )
 
@@ -58,7 +58,7 @@ loop-again c =
       omega arith,
       omega arith,
       λ lt. omega (arith, c.if1.false),
-      walk_step a.parents.now a.labels.now a.count (labelsOf s) l.loop.k l.loop.p label.result q.find-type.result l.loop.inv.3
+      walk_step a.parents.now a.labels.now a.count (labels_of s) l.loop.k l.loop.p label.result q.find-type.result l.loop.inv.3
           (omega (arith, long)) label.ensures.0 q.find-type.ensures (omega (arith, c.if1.false)),
     )
 
@@ -71,7 +71,7 @@ returns-2 c =
     let k : l.loop.k ≡ a.size = omega (arith, l.loop.invariant.0) in
     let lt : l.loop.p < a.count = l.loop.invariant.2 (omega arith) in (
       omega arith,
-      walk_end a.parents.now a.labels.now a.count (labelsOf s) l.loop.k l.loop.p a.size l.loop.invariant.3 k (omega arith)
+      walk_end a.parents.now a.labels.now a.count (labels_of s) l.loop.k l.loop.p a.size l.loop.invariant.3 k (omega arith)
           (omega (arith, long)),
     )
 

@@ -3,7 +3,7 @@ use Prim.Native.Nat.{ℕ}
 use native.Mathlib.Omega.{arith}
 use mathlib.Core.List.{List}
 use Rattle.paper.specs.Format.{Format}
-use Rattle.shapes.proofs.Passed.{Shaped, refusal, shape-refused, shape-passed, shape-asked, types-missing, passes}
+use Rattle.shapes.proofs.Passed.{Shaped, refusal, shape-refused, shape_passed, shape_asked, types_missing, passes}
 use borrow.Author.Rules.{rules}
 use Rattle.shapes.proofs.tests.tests5_7.Statement.{statement}
 use Rattle.shapes.proofs.tests.tests5_7.Tie as tie
@@ -22,7 +22,7 @@ abbrev format : tie.After-examine-shape → Format
 format x = (begun x).args.f
 
 shaped : (c : tie.Else1) → Shaped (format c.before) (shape c.before) c.before.examine-shape.result.entries
-shaped c = let x = c.before in shape-passed (format x) (shape x) x.examine-shape.result x.examine-shape.ensures c.if1.false
+shaped c = let x = c.before in shape_passed (format x) (shape x) x.examine-shape.result x.examine-shape.ensures c.if1.false
 
 returns : tie.Need-returns
 returns c t table told =
@@ -34,7 +34,7 @@ returns c t table told =
 entry-types-requires : tie.Need-entry-types-requires
 entry-types-requires c κs =
     let s : tie.Start = search in
-    let ((whole, some, deep), kept) = shape-asked s.pre.0.0 (shaped c) in
+    let ((whole, some, deep), kept) = shape_asked s.pre.0.0 (shaped c) in
     ((whole, some, omega arith), (kept, s.pre.1))
 
 returns-2 : tie.Need-returns-2
@@ -43,13 +43,13 @@ returns-2 c t table told =
     let s : tie.Else1 = search in
     let k : tie.After-entry-types = search in
     refusal (format x) t (shape x) c.refused2.result _ 7 k.entry-types.result.place c.refused2.ensures (λ z. omega (arith, z))
-    (types-missing t table told (shaped s) k.entry-types.result k.entry-types.ensures (omega (arith, c.before.if2.true)))
+    (types_missing t table told (shaped s) k.entry-types.result k.entry-types.ensures (omega (arith, c.before.if2.true)))
 
 entry-ways-requires : tie.Need-entry-ways-requires
 entry-ways-requires c κs =
     let start : tie.Start = search in
     let s : tie.Else1 = search in
-    let (asked, kept) = shape-asked start.pre.0.0 (shaped s) in
+    let (asked, kept) = shape_asked start.pre.0.0 (shaped s) in
     (asked, (kept, start.pre.0.1))
 
 returns-3 : tie.Need-returns-3

@@ -1,9 +1,9 @@
 -- `ways::entry_ways`: the entries so far are read. Assumes nothing.
 use Prim.Native.Nat.{◌≤◌, ◌<◌, ◌-◌}
 use mathlib.Core.Path.{◌≡◌, refl, ◌∙◌, ap}
-use Rattle.paper.specs.Format.{mostEntries, entryBytes, whole}
+use Rattle.paper.specs.Format.{most_entries, entry_bytes, whole}
 use Rattle.tables.proofs.Rows.{rec, row_in}
-use Rattle.shapes.specs.Ways.{wayPlaces}
+use Rattle.shapes.specs.Ways.{way_places}
 use Rattle.shapes.proofs.Reading.{Asked, Read, read_none, size-read, level-read, read_more, read_all}
 use native.Mathlib.Omega.{arith}
 use borrow.Author.Rules.{rules}
@@ -40,7 +40,7 @@ here r = r.before.loop-test.true
 entry-is : (r : tie.After-record invariant-loop decreases-loop) →
     let l = turn r in
     let a = (begun l).args in
-    r.«record».result.now ≡ rec (entryBytes a.f) l.loop.e a.shape.now
+    r.«record».result.now ≡ rec (entry_bytes a.f) l.loop.e a.shape.now
 entry-is r =
     let l = turn r in
     r.«record».ensures.0 ∙ ap (λ w. rec w l.loop.e (begun l).args.shape.now) l.before.entry-bytes.ensures
@@ -57,11 +57,11 @@ size_fits z =
     size-read a.f a.shape.now a.entries (asked l) l.loop.e (here r) r.«record».result.now (entry-is r)
     z.wide2.result z.wide2.ensures.0
 
-level-fits : (w : tie.After-wide invariant-loop decreases-loop) →
+level_fits : (w : tie.After-wide invariant-loop decreases-loop) →
     let e = (turn (levelled w)).loop.e in
     let l = w.wide.result in
-    (e < mostEntries) × (1 ≤ l) × (l ≤ wayPlaces) × (e ≡ 0 → l ≡ 1)
-level-fits w =
+    (e < most_entries) × (1 ≤ l) × (l ≤ way_places) × (e ≡ 0 → l ≡ 1)
+level_fits w =
     let r = levelled w in
     let l = turn r in
     let s = begun l in
@@ -98,14 +98,14 @@ component-requires c κs =
 put-way-requires : tie.Need-put-way-requires invariant-loop decreases-loop
 put-way-requires c κs =
     let w = sized c.before.before.before in
-    let (inside, lo, hi, first) = level-fits w in
-    ((turn (levelled w)).loop.inv.1.ways-long, inside, lo, hi, first)
+    let (inside, lo, hi, first) = level_fits w in
+    ((turn (levelled w)).loop.inv.1.ways_long, inside, lo, hi, first)
 
 parent-of-requires : tie.Need-parent-of-requires invariant-loop decreases-loop
 parent-of-requires c κs =
     let w = sized (placed c).before.before.before.before in
-    let (inside, lo, hi, first) = level-fits w in
-    (omega (arith, (turn (levelled w)).loop.inv.1.ways-long), inside, lo, hi)
+    let (inside, lo, hi, first) = level_fits w in
+    (omega (arith, (turn (levelled w)).loop.inv.1.ways_long), inside, lo, hi)
 
 loop-again : tie.Need-loop-preserved invariant-loop decreases-loop
 loop-again c =
@@ -120,8 +120,8 @@ loop-again c =
     let v = l.loop in (
       omega (arith, here r),
       read_more a.f a.shape.now a.entries (asked l) v.e (here r) r.«record».result.now (entry-is r) w.wide.result w.wide.ensures.0
-          v.levels v.labels v.parents v.ways v.inv.1 _ y.put-way.ensures (omega (arith, v.inv.1.ways-long)) _ _ _ z.wide2.result
-          refl z.wide2.ensures.0 x.component.ensures.0 c.parent-of-lem.ensures,
+          v.levels v.labels v.parents v.ways v.inv.1 _ y.put-way.ensures (omega (arith, v.inv.1.ways_long)) _ _ _ z.wide2.result
+          refl z.wide2.ensures.0 x.component.ensures.0 c.parent_of_lem.ensures,
     )
 
 returns : tie.Need-returns invariant-loop decreases-loop

@@ -1,6 +1,6 @@
 -- `ways::put_way`: the way of the entry before is copied so far. Assumes nothing.
 use Prim.Native.Nat.{◌+◌, ◌-◌, ◌≤◌}
-use Rattle.shapes.proofs.Places.{Copied, later, copied_none, copied_more, copied-put}
+use Rattle.shapes.proofs.Places.{Copied, later, copied_none, copied_more, copied_put}
 use native.Mathlib.Omega.{arith}
 use borrow.Author.Rules.{rules}
 use Rattle.shapes.proofs.ways.put_way.Statement.{statement}
@@ -36,7 +36,7 @@ returns : tie.Need-returns invariant-loop decreases-loop
 returns c =
     let l = c.before in
     let a = (begun l).args in
-    copied-put a.ways.now a.e l.loop.k l.loop.ways l.loop.invariant.1 a.l (omega arith) (omega arith) (omega arith)
+    copied_put a.ways.now a.e l.loop.k l.loop.ways l.loop.invariant.1 a.l (omega arith) (omega arith) (omega arith)
 
 pub put-way-spec : {M : Type 1} → statement M
 put-way-spec =

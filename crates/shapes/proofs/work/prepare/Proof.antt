@@ -11,7 +11,7 @@ use Rattle.shapes.proofs.work.prepare.Tie as tie
 
 -- what the lent lists hold after them
 abbrev ways : tie.After-tests5-7 → List ℕ
-ways p = p.tests5-7.new.1.1.1.1.1.0
+ways p = p.tests5_7.new.1.1.1.1.1.0
 
 abbrev meetings : tie.After-meetings → List ℕ
 meetings m = m.meetings.new.1.1.1.1.0
@@ -29,12 +29,12 @@ tests5-7-requires c κs =
     let l = c.before in
     let (served, (t, rows), blank) = s.pre in
     let few = rows.told.few in
-    ((served, blank.ways-long), (omega (arith, slice-aggregate-tests5-7 p), omega (arith, slice-aggregate-tests5-7-2 l), few))
+    ((served, blank.ways_long), (omega (arith, slice-aggregate-tests5-7 p), omega (arith, slice-aggregate-tests5-7-2 l), few))
 
 returns : tie.Need-returns
 returns c t rows =
     let p : tie.After-tests5-7 = search in
-    laws.refusal _ t _ p.tests5-7.result (ways p) _ (laws.tested rows p.tests5-7.ensures) c.before.if1.true c.unprepared.ensures
+    laws.refusal _ t _ p.tests5_7.result (ways p) _ (laws.tested rows p.tests5_7.ensures) c.before.if1.true c.unprepared.ensures
 
 draw-requires : tie.Need-draw-requires
 draw-requires c κs =
@@ -43,8 +43,8 @@ draw-requires c κs =
     let u : tie.Else1 = search in
     let p : tie.After-tests5-7 = search in
     let (t, rows) = s.pre.1 in (
-      laws.known rows (laws.tested rows p.tests5-7.ensures) u.if1.left,
-      omega (arith, ap length s.pre.2.none-met, v.meetings2.given),
+      laws.known rows (laws.tested rows p.tests5_7.ensures) u.if1.left,
+      omega (arith, ap length s.pre.2.none_met, v.meetings2.given),
     )
 
 returns-2 : tie.Need-returns-2
@@ -54,7 +54,7 @@ returns-2 c t rows =
     let p : tie.After-tests5-7 = search in
     let k : tie.After-slice-known2 = search in
     let s : tie.Start = search in
-    laws.prepared rows (laws.tested rows p.tests5-7.ensures) u.if1.left (meetings m) m.meetings.ensures
+    laws.prepared rows (laws.tested rows p.tests5_7.ensures) u.if1.left (meetings m) m.meetings.ensures
     c.draw.result c.draw.ensures s.pre.0
 
 pub prepare-spec : {M : Type 1} → statement M

@@ -3,20 +3,20 @@ use Prim.Native.Nat.{◌*◌, ◌-◌, ◌≤◌}
 use native.Mathlib.Omega.{arith}
 use mathlib.Core.Path.{◌≡◌, ◌∙◌, ap}
 use lib.ListN.{drop}
-use Rattle.paper.specs.Format.{mostEntries, entryBytes}
+use Rattle.paper.specs.Format.{most_entries, entry_bytes}
 use Rattle.paper.specs.Shapes as Shapes
-use Rattle.bytes.specs.Served.{mostLevels}
+use Rattle.octets.specs.Served.{most_levels}
 use Rattle.tables.proofs.Rows.{rec}
-use Rattle.spelling.proofs.Left.{left-all}
+use Rattle.spelling.proofs.Left.{left_all}
 use Rattle.spelling.proofs.Entries.{behind}
-use Rattle.spelling.proofs.Walk.{Going, count_fits, entry_in, level_in, size_in, going-first, going_on, going-last}
+use Rattle.spelling.proofs.Walk.{Going, count_fits, entry_in, level_in, size_in, going_first, going_on, going_last}
 use borrow.Author.Rules.{rules}
 use Rattle.spelling.proofs.line.put_line.Statement.{statement}
 use Rattle.spelling.proofs.line.put_line.Tie as tie
 
 abbrev invariant-loop : tie.invariant-loop
 invariant-loop out₀ shape f entries w p₀ level₀ e₀ out p level e =
-    (1 ≤ e) × (e ≤ entries) × (p ≤ 95 * e) × (level ≤ mostLevels)
+    (1 ≤ e) × (e ≤ entries) × (p ≤ 95 * e) × (level ≤ most_levels)
     × Going f shape out₀ p₀ (behind level₀ (drop 1 (Shapes.entries f shape))) out p level e
 
 abbrev decreases-loop : tie.decreases-loop
@@ -36,35 +36,35 @@ abbrev start : tie.At-loop invariant-loop decreases-loop → tie.Start invariant
 start l = begun (opened l.before).before
 
 -- there is an entry, and no more than 16
-fits : (s : tie.Start invariant-loop decreases-loop) → (1 ≤ s.args.entries) × (s.args.entries ≤ mostEntries)
+fits : (s : tie.Start invariant-loop decreases-loop) → (1 ≤ s.args.entries) × (s.args.entries ≤ most_entries)
 fits s = let a = s.args in count_fits a.f a.shape.now a.entries s.requires
 
 -- the first entry's bytes
 first-is : (r : tie.After-record invariant-loop decreases-loop) →
     let a = (begun r.before).args in
-    r.«record».result.now ≡ rec (entryBytes a.f) 0 a.shape.now
+    r.«record».result.now ≡ rec (entry_bytes a.f) 0 a.shape.now
 first-is r =
     let a = (begun r.before).args in
     r.«record».ensures.0 ∙ ap (λ w. rec w 0 a.shape.now) r.before.entry-bytes.ensures
 
 -- the next entry's bytes
-next-is : (r : tie.After-record2 invariant-loop decreases-loop) →
+next_is : (r : tie.After-record2 invariant-loop decreases-loop) →
     let l = r.before.before in
     let a = (start l).args in
-    r.record2.result.now ≡ rec (entryBytes a.f) l.loop.e a.shape.now
-next-is r =
+    r.record2.result.now ≡ rec (entry_bytes a.f) l.loop.e a.shape.now
+next_is r =
     let l = r.before.before in
     let a = (start l).args in
     r.record2.ensures.0 ∙ ap (λ w. rec w l.loop.e a.shape.now) (opened l.before).before.entry-bytes.ensures
 
 -- its level
-next_level : (w : tie.After-wide3 invariant-loop decreases-loop) → (1 ≤ w.wide3.result) × (w.wide3.result ≤ mostLevels)
+next_level : (w : tie.After-wide3 invariant-loop decreases-loop) → (1 ≤ w.wide3.result) × (w.wide3.result ≤ most_levels)
 next_level w =
     let r = w.before.before in
     let l = r.before.before in
     let s = start l in
     let a = s.args in
-    level_in a.f a.shape.now a.entries s.pre l.loop.e r.before.loop-test.true r.record2.result.now (next-is r)
+    level_in a.f a.shape.now a.entries s.pre l.loop.e r.before.loop-test.true r.record2.result.now (next_is r)
     w.wide3.result w.wide3.ensures.0
 
 record-requires : tie.Need-record-requires invariant-loop decreases-loop
@@ -92,7 +92,7 @@ loop-holds c =
     let some = (fits s).0 in
     let level = level_in a.f a.shape.now a.entries s.pre 0 some r.«record».result.now (first-is r)
     c.wide2.result c.wide2.ensures.0 in
-    (omega arith, some, omega (arith, q.put-path.ensures.1), level.1, left-all _ _ _)
+    (omega arith, some, omega (arith, q.put-path.ensures.1), level.1, left_all _ _ _)
 
 record-requires-2 : tie.Need-record-requires-2 invariant-loop decreases-loop
 record-requires-2 c κs =
@@ -126,7 +126,7 @@ put-path-requires-2 c κs =
     let s = start l in
     let a = s.args in
     let few = (fits s).1 in
-    let size = size_in a.f a.shape.now a.entries s.pre l.loop.e r.before.loop-test.taken r.record2.result.now (next-is r)
+    let size = size_in a.f a.shape.now a.entries s.pre l.loop.e r.before.loop-test.taken r.record2.result.now (next_is r)
     c.wide4.result c.wide4.ensures.0 in
     let long = r.record2.ensures.1 ∙ (opened l.before).before.entry-bytes.ensures in
     (s.pre.served, long, size.1, omega (arith, g.put_byte.ensures.ends, b.put-brackets.ensures.1, l.loop.inv.2, r.before.loop-test.taken))
@@ -154,7 +154,7 @@ loop-again c =
       omega (arith, lt),
       omega (arith, l.loop.inv.2, c.put-path2.ensures.1, g.put_byte.ensures.ends, b.put-brackets.ensures.1),
       (next_level w).1,
-      going_on a.f a.shape.now a.entries s.pre l.loop.level l.loop.e l.loop.inv.4 lt r.record2.result.now (next-is r)
+      going_on a.f a.shape.now a.entries s.pre l.loop.level l.loop.e l.loop.inv.4 lt r.record2.result.now (next_is r)
           w.wide3.result v.wide4.result w.wide3.ensures.0 v.wide4.ensures.0 b.put-brackets.ensures.0 g.put_byte.ensures
           c.put-path2.ensures.0,
     )
@@ -173,9 +173,9 @@ returns c =
     let s = start l in
     let a = s.args in
     let few = (fits s).1 in
-    let first = going-first a.f a.shape.now a.entries s.pre r.«record».result.now (first-is r) x.wide2.result q.before.wide.result
+    let first = going_first a.f a.shape.now a.entries s.pre r.«record».result.now (first-is r) x.wide2.result q.before.wide.result
     x.wide2.ensures.0 q.before.wide.ensures.0 a.out.now _ _ q.put-path.ensures.0 in
-    let rest = going-last a.f a.shape.now a.entries s.pre l.loop.level l.loop.e l.loop.invariant.4 c.before.before.loop-test.false
+    let rest = going_last a.f a.shape.now a.entries s.pre l.loop.level l.loop.e l.loop.invariant.4 c.before.before.loop-test.false
     c.put-brackets2.ensures.0 in
     (first.asked _ _ rest, omega (arith, l.loop.invariant.1, l.loop.invariant.2, few, c.put-brackets2.ensures.1))
 

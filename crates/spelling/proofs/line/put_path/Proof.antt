@@ -7,11 +7,11 @@ use lib.ListN.{length, take, drop, length-take}
 use lib.Seq.{get_or-take}
 use Rattle.paper.specs.Format.{Format, words}
 use Rattle.paper.proofs.Tables.{length-words}
-use Rattle.grammar.proofs.Length.{part-short}
+use Rattle.grammar.proofs.Length.{part_short}
 use Rattle.names.proofs.Putting.{put_then}
 use Rattle.spelling.specs.Line.{path_text}
-use Rattle.spelling.proofs.Left.{Left, left-all, left_less, left-none}
-use Rattle.spelling.proofs.Parts.{path-next, path-end}
+use Rattle.spelling.proofs.Left.{Left, left_all, left_less, left_none}
+use Rattle.spelling.proofs.Parts.{path_next, path_end}
 use borrow.Author.Rules.{rules}
 use Rattle.spelling.proofs.line.put_path.Statement.{statement}
 use Rattle.spelling.proofs.line.put_path.Tie as tie
@@ -33,7 +33,7 @@ decreases-loop out₀ at entry f n p₀ k₀ out p k = n - k
 loop-holds : tie.Need-loop-init invariant-loop decreases-loop
 loop-holds c =
     let a = c.before.before.args in
-    let left = left-all a.out.now a.at (path_text (labels a.entry.now a.f a.n)) in
+    let left = left_all a.out.now a.at (path_text (labels a.entry.now a.f a.n)) in
     (omega arith, omega arith, left.long, left)
 
 loop-again : tie.Need-loop-preserved invariant-loop decreases-loop
@@ -48,10 +48,10 @@ loop-again c =
     let ls = labels a.entry.now a.f a.n in
     let lt : k < a.n = search rules in
     let label = x.component.ensures.0 ∙ sym (get_or-take a.n (words a.f.levels a.entry.now 4) k 0 lt) in
-    let next = path-next ls k x.component.result (omega (arith, lt, count-labels a.entry.now a.f a.n s.requires.2)) label in
+    let next = path_next ls k x.component.result (omega (arith, lt, count-labels a.entry.now a.f a.n s.requires.2)) label in
     let put = put_then b.put_byte.ensures n.put-name.ensures.0 in
     let left = left_less l.loop.invariant.3 (path_text (drop (k + 1) ls)) next put in
-    let short = part-short x.component.result x.component.ensures.1 in
+    let short = part_short x.component.result x.component.ensures.1 in
     (omega arith, omega (arith, n.put-name.ensures.0.ends, b.put_byte.ensures.ends, short), left.long, left)
 
 returns : tie.Need-returns invariant-loop decreases-loop
@@ -60,8 +60,8 @@ returns c =
     let s = l.before.before.before in
     let a = s.args in
     let ls = labels a.entry.now a.f a.n in
-    let none = path-end ls l.loop.k (omega (arith, count-labels a.entry.now a.f a.n s.requires.2)) in
-    (left-none l.loop.invariant.3 none, omega (arith, s.requires.0.shallow, s.requires.2))
+    let none = path_end ls l.loop.k (omega (arith, count-labels a.entry.now a.f a.n s.requires.2)) in
+    (left_none l.loop.invariant.3 none, omega (arith, s.requires.0.shallow, s.requires.2))
 
 pub put-path-spec : {M : Type 1} → statement M
 put-path-spec =

@@ -4,12 +4,12 @@ use mathlib.Core.Path.{◌≡◌, sym, ◌∙◌, ap, subst}
 use lib.ListN.{length}
 use lib.Seq.{sets}
 use Rattle.paper.specs.Shapes.{entries}
-use Rattle.paper.specs.Calls.{given, tests5-6}
-use Rattle.grammar.specs.Typed.{printTree}
+use Rattle.paper.specs.Calls.{given, tests5_6}
+use Rattle.grammar.specs.Typed.{print_tree}
 use Rattle.shapes.proofs.Examined.{examined-refused, examined-given, counted}
 use Rattle.spelling.specs.Printed.{Prints}
 use Rattle.spelling.specs.declared.print.TreePrinted.{TreePrinted}
-use Rattle.spelling.proofs.Answers.{still-fits, front-is, shape-refused, too-short-lem, printed}
+use Rattle.spelling.proofs.Answers.{still_fits, front_is, shape-refused, too_short_lem, printed}
 use borrow.Author.Rules.{rules}
 use Rattle.spelling.proofs.print.print_tree.Statement.{statement}
 use Rattle.spelling.proofs.print.print_tree.Tie as tie
@@ -19,12 +19,12 @@ begun x = x.before.before.before
 
 -- what is met, and left as it was, by an answer
 abbrev Left : (s : tie.Start) → TreePrinted → Type 0
-Left s r = let a = s.args in Prints (printTree a.f a.shape.now a.text.now) r a.text.now
+Left s r = let a = s.args in Prints (print_tree a.f a.shape.now a.text.now) r a.text.now
 
 -- the shape passes its tests
 passes : (e : tie.Else1) →
     let a = (begun e.before).args in
-    tests5-6 a.f a.shape.now ≡ given (entries a.f a.shape.now)
+    tests5_6 a.f a.shape.now ≡ given (entries a.f a.shape.now)
 passes e =
     let x = e.before in
     let a = (begun x).args in
@@ -61,23 +61,23 @@ returns-2 c =
     let s = begun e.before in
     let a = s.args in
     subst (Left s) (sym c.refused2.ensures)
-    (too-short-lem a.f a.shape.now a.text.now (passes e) p.put-line.result (front-is p.put-line.ensures.0 p.put-line.ensures.1).0
+    (too_short_lem a.f a.shape.now a.text.now (passes e) p.put-line.result (front_is p.put-line.ensures.0 p.put-line.ensures.1).0
     c.before.if2.true)
 
 array-share-prefix-line : tie.Need-array-share-prefix-line
-array-share-prefix-line c = let p = c.before.before in still-fits p.put-line.ensures.0 p.put-line.ensures.1
+array-share-prefix-line c = let p = c.before.before in still_fits p.put-line.ensures.0 p.put-line.ensures.1
 
 slice-aggregate-put : tie.Need-slice-aggregate-put
 slice-aggregate-put c =
     let p = c.before.before.before in
-    let front = front-is p.put-line.ensures.0 p.put-line.ensures.1 in
+    let front = front_is p.put-line.ensures.0 p.put-line.ensures.1 in
     front.0 ∙ sym (ap length front.1)
 
 put-requires : tie.Need-put-requires
 put-requires c κs =
     let i = c.before.before in
     let p = i.before in
-    let front = front-is p.put-line.ensures.0 p.put-line.ensures.1 in
+    let front = front_is p.put-line.ensures.0 p.put-line.ensures.1 in
     omega (arith, front.0, ap length front.1, i.if2.false)
 
 returns-3 : tie.Need-returns-3
@@ -87,7 +87,7 @@ returns-3 c =
     let p = i.before in
     let e = p.before.before in
     let a = (begun e.before).args in
-    let front = front-is p.put-line.ensures.0 p.put-line.ensures.1 in
+    let front = front_is p.put-line.ensures.0 p.put-line.ensures.1 in
     printed a.f a.shape.now a.text.now (passes e) p.put-line.result front.0 i.if2.false _
     (u.put.ensures ∙ ap (sets a.text.now 0) front.1)
 

@@ -5,7 +5,7 @@ use lib.Dec.{eqb}
 use lib.ListN.{drop}
 use Rattle.paper.specs.Lists.{all}
 use Rattle.paper.specs.Format.{words}
-use Rattle.tables.proofs.Laws.{no-level, too-deep, spare-set, no_label, no-such-label, zeros-decide}
+use Rattle.tables.proofs.Laws.{no_level, too_deep, spare_set, no_label, no_such_label, zeros_decide}
 use borrow.Author.Rules.{rules}
 use Rattle.tables.proofs.row.fields_kept.Statement.{statement}
 use Rattle.tables.proofs.row.fields_kept.Tie as tie
@@ -23,13 +23,13 @@ abbrev labelled : tie.Else4 → tie.After-word
 labelled c = levelled c.before.before.before
 
 returns : tie.Need-returns
-returns c = let a = (lent c.before).args in sym (no-level a.f a.row.now (omega arith))
+returns c = let a = (lent c.before).args in sym (no_level a.f a.row.now (omega arith))
 
 returns-2 : tie.Need-returns-2
-returns-2 c = let a = (lent c.before.before.before).args in sym (too-deep a.f a.row.now (omega arith))
+returns-2 c = let a = (lent c.before.before.before).args in sym (too_deep a.f a.row.now (omega arith))
 
 returns-3 : tie.Need-returns-3
-returns-3 c = let a = (lent (levelled c.before.before)).args in sym (spare-set a.f a.row.now c.if3.true)
+returns-3 c = let a = (lent (levelled c.before.before)).args in sym (spare_set a.f a.row.now c.if3.true)
 
 returns-4 : tie.Need-returns-4
 returns-4 c =
@@ -41,7 +41,7 @@ returns-5 : tie.Need-returns-5
 returns-5 c =
     let w = labelled c.before.before in
     let a = (lent w).args in
-    sym (no-such-label a.f a.row.now (omega (arith, w.word.ensures.0)))
+    sym (no_such_label a.f a.row.now (omega (arith, w.word.ensures.0)))
 
 returns-6 : tie.Need-returns-6
 returns-6 c =
@@ -50,7 +50,7 @@ returns-6 c =
     let a = (lent w).args in
     let label = w.word.ensures.0 in
     c.zeros-from.ensures ∙ ap (λ n. all (eqb 0) (drop n (words a.f.levels a.row.now 4))) w.before.wide.ensures.0
-    ∙ sym (zeros-decide a.f a.row.now (omega arith) (omega arith) some.before.if3.false (omega (arith, label)) (omega (arith, label)))
+    ∙ sym (zeros_decide a.f a.row.now (omega arith) (omega arith) some.before.if3.false (omega (arith, label)) (omega (arith, label)))
 
 pub fields-kept-spec : {M : Type 1} → statement M
 fields-kept-spec =

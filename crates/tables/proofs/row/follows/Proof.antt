@@ -1,7 +1,7 @@
 -- `row::follows`: each branch is one way to follow, or to break it. Assumes nothing.
 use mathlib.Core.Path.{sym, ◌∙◌}
 use borrow.Author.Tests.{not-true, not-false}
-use Rattle.tables.proofs.Follows.{Read, rows-longer, rows_apart, rows_child, rows_next}
+use Rattle.tables.proofs.Follows.{Read, rows_longer, rows_apart, rows_child, rows_next}
 use borrow.Author.Rules.{rules}
 use Rattle.tables.proofs.row.follows.Statement.{statement}
 use Rattle.tables.proofs.row.follows.Tie as tie
@@ -19,15 +19,15 @@ read : (w : tie.After-wide2) →
 read w =
     let s : tie.Start = search in let levels = s.pre.1 in
     record {
-      fits-x = levels.0;
-      fits-y = levels.1;
-      some-y = levels.2;
-      level-x = w.before.before.wide.ensures.0;
-      level-y = w.wide2.ensures.0;
+      fits_x = levels.0;
+      fits_y = levels.1;
+      some_y = levels.2;
+      level_x = w.before.before.wide.ensures.0;
+      level_y = w.wide2.ensures.0;
     }
 
 returns : tie.Need-returns
-returns c = rows-longer (read c.before) c.if1.true
+returns c = rows_longer (read c.before) c.if1.true
 
 returns-2 : tie.Need-returns-2
 returns-2 c =

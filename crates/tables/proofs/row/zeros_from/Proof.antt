@@ -6,7 +6,7 @@ use lib.ListN.{length, drop}
 use Rattle.paper.specs.Lists.{all}
 use Rattle.paper.specs.Format.{words}
 use Rattle.paper.proofs.Tables.{length-words}
-use Rattle.tables.proofs.Laws.{zeros-stop, zeros-step, zeros-end}
+use Rattle.tables.proofs.Laws.{zeros-stop, zeros-step, zeros_end}
 use native.Mathlib.Omega.{arith}
 use borrow.Author.Rules.{rules}
 use Rattle.tables.proofs.row.zeros_from.Statement.{statement}
@@ -39,7 +39,7 @@ returns-2 c =
     let l = c.before.before in
     let a = l.before.before.args in
     let ws = words a.f.levels a.row.now 4 in
-    sym (zeros-end ws l.loop.i (omega (arith, length-words a.f.levels a.row.now 4))) ∙ l.loop.invariant
+    sym (zeros_end ws l.loop.i (omega (arith, length-words a.f.levels a.row.now 4))) ∙ l.loop.invariant
 
 pub zeros-from-spec : {M : Type 1} → statement M
 zeros-from-spec =

@@ -6,11 +6,11 @@ use mathlib.Core.List.{[]}
 use lib.ListN.{length}
 use borrow.Author.Rules.{rules}
 use borrow.Author.Tests.{not-true, not-false}
-use Rattle.paper.specs.Format.{rowBytes, whole, byte}
+use Rattle.paper.specs.Format.{row_bytes, whole, byte}
 use Rattle.paper.specs.Tables as Tables
-use Rattle.paper.specs.Tables.{row_of, dewey, rowKept, badRow}
+use Rattle.paper.specs.Tables.{row_of, dewey, row_kept, bad_row}
 use Rattle.tables.specs.Place.{place_of}
-use Rattle.tables.proofs.Rows.{rec, Search, row_in, none_at_all, first-breaks, search-start, search-stop, search-step, search-end}
+use Rattle.tables.proofs.Rows.{rec, Search, row_in, none_at_all, first_breaks, search_start, search_stop, search_step, search_end}
 use Rattle.tables.proofs.Rows.{some-place, none-place}
 use Rattle.tables.proofs.table.bad_row.Statement.{statement}
 use Rattle.tables.proofs.table.bad_row.Tie as tie
@@ -39,22 +39,22 @@ room b i lt =
     row_in b.row-bytes.result i t (omega (arith, s.pre.0, ap (λ w. whole w t) b.row-bytes.ensures))
 
 -- the first row keeps the rules where the code says so
-first-kept : (c : tie.After-first-kept invariant-loop decreases-loop) →
+first_kept : (c : tie.After-first-kept invariant-loop decreases-loop) →
     let b = width c in
     let f = (begun b).args.f in
-    rowKept f [] (row_of f (rec (rowBytes f) 0 (begun b).args.table.now)) ≡ c.first-kept.result
-first-kept c =
+    row_kept f [] (row_of f (rec (row_bytes f) 0 (begun b).args.table.now)) ≡ c.first_kept.result
+first_kept c =
     let s : tie.Start invariant-loop decreases-loop = search in
     let b : tie.After-row-bytes invariant-loop decreases-loop = search in
     let f = s.args.f in
     let row = c.before.«record».ensures.0 ∙ ap (λ w. rec w 0 s.args.table.now) b.row-bytes.ensures in
-    ap (λ r. rowKept f [] (row_of f r)) (sym row) ∙ sym c.first-kept.ensures
+    ap (λ r. row_kept f [] (row_of f r)) (sym row) ∙ sym c.first_kept.ensures
 
 -- the row before row i
 row_before : (c : tie.After-record2 invariant-loop decreases-loop) →
     let l = c.before.before in
     let b = width-known l in
-    c.record2.result.now ≡ rec (rowBytes (begun b).args.f) (l.loop.i - 1) (begun b).args.table.now
+    c.record2.result.now ≡ rec (row_bytes (begun b).args.f) (l.loop.i - 1) (begun b).args.table.now
 row_before c =
     let s : tie.Start invariant-loop decreases-loop = search in
     let b : tie.After-row-bytes invariant-loop decreases-loop = search in
@@ -67,7 +67,7 @@ row_kept : (c : tie.After-row-kept invariant-loop decreases-loop) →
     let b = width-known l in
     let f = (begun b).args.f in
     let t = (begun b).args.table.now in
-    rowKept f (dewey (row_of f (rec (rowBytes f) (l.loop.i - 1) t))) (row_of f (rec (rowBytes f) l.loop.i t)) ≡ c.row_kept.result
+    row_kept f (dewey (row_of f (rec (row_bytes f) (l.loop.i - 1) t))) (row_of f (rec (row_bytes f) l.loop.i t)) ≡ c.row_kept.result
 row_kept c =
     let s : tie.Start invariant-loop decreases-loop = search in
     let b : tie.After-row-bytes invariant-loop decreases-loop = search in
@@ -76,13 +76,13 @@ row_kept c =
     let f = s.args.f in
     let t = s.args.table.now in
     let row = r.record3.ensures.0 ∙ ap (λ w. rec w l.loop.i t) b.row-bytes.ensures in
-    ap₂ (λ x y. rowKept f (dewey (row_of f x)) (row_of f y)) (sym (row_before r.before)) (sym row) ∙ sym c.row_kept.ensures
+    ap₂ (λ x y. row_kept f (dewey (row_of f x)) (row_of f y)) (sym (row_before r.before)) (sym row) ∙ sym c.row_kept.ensures
 
 returns : tie.Need-returns invariant-loop decreases-loop
 returns c =
     let s : tie.Start invariant-loop decreases-loop = search in
     let f = s.args.f in
-    let bad = badRow f (Tables.rows f s.args.table.now) in
+    let bad = bad_row f (Tables.rows f s.args.table.now) in
     let none = none-place bad 0 (none_at_all f s.args.table.now (sym s.pre.0 ∙ c.if1.true)) in
     (subst (λ n. bad ≡ place_of 0 n) (sym c.if1.true) none, omega arith)
 
@@ -95,14 +95,14 @@ returns-2 c =
     let k = c.before in
     let a = s.args in
     let f = a.f in
-    let some = first-breaks f a.table.now (omega (arith, s.pre.0)) (first-kept k ∙ not-true _ c.if2.true) in
-    (some-place (badRow f (Tables.rows f a.table.now)) 0 a.rows (omega arith) some, omega arith)
+    let some = first_breaks f a.table.now (omega (arith, s.pre.0)) (first_kept k ∙ not-true _ c.if2.true) in
+    (some-place (bad_row f (Tables.rows f a.table.now)) 0 a.rows (omega arith) some, omega arith)
 
 loop-holds : tie.Need-loop-init invariant-loop decreases-loop
 loop-holds c =
     let s : tie.Start invariant-loop decreases-loop = search in
     let k = c.before in
-    search-start s.args.f s.args.table.now (omega (arith, s.pre.0)) (first-kept k ∙ not-false _ c.if2.false)
+    search_start s.args.f s.args.table.now (omega (arith, s.pre.0)) (first_kept k ∙ not-false _ c.if2.false)
 
 sub-record : tie.Need-overflow-sub-record invariant-loop decreases-loop
 sub-record c = let i = c.before.loop.invariant.0 in omega arith
@@ -134,15 +134,15 @@ returns-3 c =
     let k = c.before in
     let a = s.args in
     let f = a.f in
-    let some = search-stop f a.table.now l.loop.i l.loop.inv (omega (arith, s.pre.0)) (row_kept k ∙ not-true _ c.if3.true) in
-    (some-place (badRow f (Tables.rows f a.table.now)) l.loop.i a.rows (omega arith) some, omega arith)
+    let some = search_stop f a.table.now l.loop.i l.loop.inv (omega (arith, s.pre.0)) (row_kept k ∙ not-true _ c.if3.true) in
+    (some-place (bad_row f (Tables.rows f a.table.now)) l.loop.i a.rows (omega arith) some, omega arith)
 
 loop-again : tie.Need-loop-preserved invariant-loop decreases-loop
 loop-again c =
     let s : tie.Start invariant-loop decreases-loop = search in
     let l : tie.At-loop invariant-loop decreases-loop = search in
     let k = c.before in
-    search-step s.args.f s.args.table.now l.loop.i l.loop.inv (omega (arith, s.pre.0)) (row_kept k ∙ not-false _ c.if3.false)
+    search_step s.args.f s.args.table.now l.loop.i l.loop.inv (omega (arith, s.pre.0)) (row_kept k ∙ not-false _ c.if3.false)
 
 returns-4 : tie.Need-returns-4 invariant-loop decreases-loop
 returns-4 c =
@@ -150,8 +150,8 @@ returns-4 c =
     let l = c.before in
     let a = s.args in
     let f = a.f in
-    let none = search-end f a.table.now l.loop.i l.loop.invariant (omega (arith, s.pre.0)) in
-    (none-place (badRow f (Tables.rows f a.table.now)) a.rows none, omega arith)
+    let none = search_end f a.table.now l.loop.i l.loop.invariant (omega (arith, s.pre.0)) in
+    (none-place (bad_row f (Tables.rows f a.table.now)) a.rows none, omega arith)
 
 pub bad-row-spec : {M : Type 1} → statement M
 bad-row-spec =

@@ -4,9 +4,9 @@ use native.Mathlib.Omega.{arith}
 use mathlib.Core.Path.{◌≡◌, sym, ap, subst}
 use mathlib.Core.List.{List}
 use lib.ListN.{length}
-use Rattle.paper.specs.Format.{Format, rowBytes}
+use Rattle.paper.specs.Format.{Format, row_bytes}
 use Rattle.paper.specs.Calls as Calls
-use Rattle.tables.proofs.Examine.{refused-1, refused-2, refused-3, accepted, examine-refused, examine-accepted}
+use Rattle.tables.proofs.Examine.{refused_1, refused_2, refused_3, accepted, examine-refused, examine-accepted}
 use borrow.Author.Rules.{rules}
 use Rattle.tables.proofs.table.examine.Statement.{statement}
 use Rattle.tables.proofs.table.examine.Tie as tie
@@ -19,25 +19,25 @@ abbrev format : tie.After-row-bytes → Format
 format c = c.before.before.args.f
 
 -- the table is not too long
-short : (c : tie.Else1) → length (lent c.before) ≤ 1024 * rowBytes (format c.before)
+short : (c : tie.Else1) → length (lent c.before) ≤ 1024 * row_bytes (format c.before)
 short c = omega (arith, c.before.row-bytes.ensures, c.if1.false)
 
 -- and has whole rows
-whole-rows : (c : tie.Else2) → length (lent c.before.before) % rowBytes (format c.before.before) ≡ 0
+whole-rows : (c : tie.Else2) → length (lent c.before.before) % row_bytes (format c.before.before) ≡ 0
 whole-rows c = subst (λ w. length (lent c.before.before) % w ≡ 0) c.before.before.row-bytes.ensures c.if2.false
 
 returns : tie.Need-returns
 returns c =
     let w = c.before in
     let t = lent w in
-    examine-refused (format w) t 1 0 (refused-1 (format w) t (omega (arith, w.row-bytes.ensures, c.if1.true)))
+    examine-refused (format w) t 1 0 (refused_1 (format w) t (omega (arith, w.row-bytes.ensures, c.if1.true)))
 
 returns-2 : tie.Need-returns-2
 returns-2 c =
     let w = c.before.before in
     let t = lent w in
     examine-refused (format w) t 2 0
-    (refused-2 (format w) t (short c.before) (subst (λ w. length t % w ≡ 0 → ⊥) w.row-bytes.ensures c.if2.true))
+    (refused_2 (format w) t (short c.before) (subst (λ w. length t % w ≡ 0 → ⊥) w.row-bytes.ensures c.if2.true))
 
 bad-row-requires : tie.Need-bad-row-requires
 bad-row-requires c κs =
@@ -50,7 +50,7 @@ returns-3 c =
     let w = b.before.before.before in
     let r = b.bad-row in
     examine-refused (format w) (lent w) 3 r.result
-    (refused-3 (format w) (lent w) (short b.before.before) (whole-rows b.before) r.result _ r.ensures.0 c.if3.true)
+    (refused_3 (format w) (lent w) (short b.before.before) (whole-rows b.before) r.result _ r.ensures.0 c.if3.true)
 
 returns-4 : tie.Need-returns-4
 returns-4 c =

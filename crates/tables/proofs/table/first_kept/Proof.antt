@@ -4,9 +4,9 @@ use native.Mathlib.Omega.{arith}
 use mathlib.Core.Path.{◌≡◌, sym, ◌∙◌}
 use mathlib.Core.Bool.{true}
 use mathlib.Core.List.{[]}
-use Rattle.paper.specs.Tables.{row_of, fieldsKept}
-use Rattle.tables.proofs.Laws.{fields-level}
-use Rattle.tables.proofs.Rows.{kept-fields, first-deep, first-decides}
+use Rattle.paper.specs.Tables.{row_of, fields_kept}
+use Rattle.tables.proofs.Laws.{fields_level}
+use Rattle.tables.proofs.Rows.{kept_fields, first-deep, first_decides}
 use borrow.Author.Rules.{rules}
 use Rattle.tables.proofs.table.first_kept.Statement.{statement}
 use Rattle.tables.proofs.table.first_kept.Tie as tie
@@ -14,13 +14,13 @@ use Rattle.tables.proofs.table.first_kept.Tie as tie
 -- the row's own fields keep the rules
 kept : (c : tie.Else1) →
     let a = c.before.before.before.args in
-    fieldsKept a.f (row_of a.f a.row.now) ≡ true
+    fields_kept a.f (row_of a.f a.row.now) ≡ true
 kept c = sym c.before.fields-kept.ensures ∙ not-false _ c.if1.false
 
 returns : tie.Need-returns
 returns c =
     let a = c.before.before.before.args in
-    sym (kept-fields a.f [] (row_of a.f a.row.now) (sym c.before.fields-kept.ensures ∙ not-true _ c.if1.true))
+    sym (kept_fields a.f [] (row_of a.f a.row.now) (sym c.before.fields-kept.ensures ∙ not-true _ c.if1.true))
 
 returns-2 : tie.Need-returns-2
 returns-2 c =
@@ -32,7 +32,7 @@ component-requires : tie.Need-component-requires
 component-requires c κs =
     let k = c.before.before.before in
     let a = k.before.before.before.args in
-    let l = fields-level a.f a.row.now (kept k) in
+    let l = fields_level a.f a.row.now (kept k) in
     omega arith
 
 returns-3 : tie.Need-returns-3
@@ -40,7 +40,7 @@ returns-3 c =
     let e = c.before in
     let k = e.before.before.before in
     let a = k.before.before.before.args in
-    first-decides a.f a.row.now (kept k) (sym e.before.wide.ensures.0 ∙ e.if2.false) c.component.result c.component.ensures.0
+    first_decides a.f a.row.now (kept k) (sym e.before.wide.ensures.0 ∙ e.if2.false) c.component.result c.component.ensures.0
 
 pub first-kept-spec : {M : Type 1} → statement M
 first-kept-spec =

@@ -3,13 +3,13 @@ use Prim.Native.Nat.{◌+◌, ◌*◌, ◌≤◌}
 use native.Mathlib.Omega.{arith}
 use mathlib.Core.Path.{◌≡◌, sym, subst}
 use lib.ListN.{length, take, drop}
-use Rattle.paper.specs.Format.{rowBytes, whole}
+use Rattle.paper.specs.Format.{row_bytes, whole}
 use Rattle.paper.specs.Tables as Tables
-use Rattle.paper.specs.Calls.{given, tests1-3}
-use Rattle.bytes.specs.Part.{OwnFrom}
-use Rattle.tables.proofs.Examine.{examined-refused, examined-given, lookUp-refused, lookUp-past, lookUp-row}
+use Rattle.paper.specs.Calls.{given, tests1_3}
+use Rattle.octets.specs.Part.{OwnFrom}
+use Rattle.tables.proofs.Examine.{examined-refused, examined-given, look_up-refused, look_up_past, look_up-row}
 use Rattle.tables.proofs.Rows.{row_in}
-use Rattle.tables.proofs.Back.{nothing-back, row-back-lem}
+use Rattle.tables.proofs.Back.{nothing_back, row_back_lem}
 use borrow.Author.Rules.{rules}
 use Rattle.tables.proofs.table.look_up.Statement.{statement}
 use Rattle.tables.proofs.table.look_up.Tie as tie
@@ -21,7 +21,7 @@ begun x = x.before.before
 accepted : (c : tie.Else1) →
     let t = (begun c.before).args.table.now in
     let f = (begun c.before).args.f in
-    (tests1-3 f t ≡ given (Tables.rows f t)) × (c.before.examine.result.rows ≡ whole (rowBytes f) t)
+    (tests1_3 f t ≡ given (Tables.rows f t)) × (c.before.examine.result.rows ≡ whole (row_bytes f) t)
 accepted c =
     let x = c.before in
     let r = x.examine.result in
@@ -34,15 +34,15 @@ returns c =
     let r = x.examine.result in
     let t = a.table.now in
     let refusal = c.before.if1.true in
-    nothing-back a.f a.table a.i r.number r.place refusal
-    (lookUp-refused a.f t a.i r.number r.place (examined-refused a.f t r.number r.place r.rows x.examine.ensures refusal))
+    nothing_back a.f a.table a.i r.number r.place refusal
+    (look_up-refused a.f t a.i r.number r.place (examined-refused a.f t r.number r.place r.rows x.examine.ensures refusal))
 
 record-requires : tie.Need-record-requires
 record-requires c κs =
     let i = c.before in
     let a = (begun i.before.before).args in
     subst (λ w. w * a.i + w ≤ length a.table.now) (sym c.row-bytes.ensures)
-    (row_in (rowBytes a.f) a.i a.table.now (omega (arith, i.if2.true, (accepted i.before).1)))
+    (row_in (row_bytes a.f) a.i a.table.now (omega (arith, i.if2.true, (accepted i.before).1)))
 
 returns-2 : tie.Need-returns-2
 returns-2 c =
@@ -52,16 +52,16 @@ returns-2 c =
     let t = a.table.now in
     let r = c.«record» in
     let (g, n) = accepted i.before in
-    row-back-lem a.f a.table a.i r.result (subst (λ w. r.result.now ≡ take w (drop (w * a.i) t)) w.row-bytes.ensures r.ensures.0)
+    row_back_lem a.f a.table a.i r.result (subst (λ w. r.result.now ≡ take w (drop (w * a.i) t)) w.row-bytes.ensures r.ensures.0)
     (subst (λ w. OwnFrom a.table (w * a.i) r.result) w.row-bytes.ensures r.ensures.2)
-    (lookUp-row a.f t a.i g (omega (arith, i.if2.true, n)))
+    (look_up-row a.f t a.i g (omega (arith, i.if2.true, n)))
 
 returns-3 : tie.Need-returns-3
 returns-3 c =
     let i = c.before in
     let a = (begun i.before.before).args in
     let (g, n) = accepted i.before in
-    nothing-back a.f a.table a.i 11 a.i (λ e. omega (arith, e)) (lookUp-past a.f a.table.now a.i g (omega (arith, i.if2.false, n)))
+    nothing_back a.f a.table a.i 11 a.i (λ e. omega (arith, e)) (look_up_past a.f a.table.now a.i g (omega (arith, i.if2.false, n)))
 
 pub look-up-spec : {M : Type 1} → statement M
 look-up-spec =

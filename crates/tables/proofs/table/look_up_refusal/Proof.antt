@@ -4,7 +4,7 @@ use native.Mathlib.Omega.{arith}
 use mathlib.Core.Path.{sym, ap}
 use mathlib.Core.List.{List}
 use Rattle.paper.specs.Calls.{Reply}
-use Rattle.tables.proofs.Examine.{examined-refused, examined-given, lookUp-refused, lookUp-past, lookUp-row}
+use Rattle.tables.proofs.Examine.{examined-refused, examined-given, look_up-refused, look_up_past, look_up-row}
 use borrow.Author.Rules.{rules}
 use Rattle.tables.proofs.table.look_up_refusal.Statement.{statement}
 use Rattle.tables.proofs.table.look_up_refusal.Tie as tie
@@ -16,7 +16,7 @@ returns c =
     let r = x.examine.result in
     let t = a.table.now in
     let refusal = examined-refused a.f t r.number r.place r.rows x.examine.ensures c.if1.true in
-    let e = lookUp-refused a.f t a.i r.number r.place refusal in
+    let e = look_up-refused a.f t a.i r.number r.place refusal in
     (sym (ap (λ (r : Reply (List ℕ)). r.number) e), sym (ap (λ (r : Reply (List ℕ)). r.place) e))
 
 returns-2 : tie.Need-returns-2
@@ -25,7 +25,7 @@ returns-2 c =
     let a = x.before.before.args in
     let r = x.examine.result in
     let (g, n) = examined-given a.f a.table.now r.number r.place r.rows x.examine.ensures c.before.if1.false in
-    let e = lookUp-past a.f a.table.now a.i g (omega (arith, n)) in
+    let e = look_up_past a.f a.table.now a.i g (omega (arith, n)) in
     (sym (ap (λ (r : Reply (List ℕ)). r.number) e), sym (ap (λ (r : Reply (List ℕ)). r.place) e))
 
 returns-3 : tie.Need-returns-3
@@ -34,7 +34,7 @@ returns-3 c =
     let a = x.before.before.args in
     let r = x.examine.result in
     let (g, n) = examined-given a.f a.table.now r.number r.place r.rows x.examine.ensures c.before.if1.false in
-    let e = lookUp-row a.f a.table.now a.i g (omega (arith, n)) in
+    let e = look_up-row a.f a.table.now a.i g (omega (arith, n)) in
     (sym (ap (λ (r : Reply (List ℕ)). r.number) e), sym (ap (λ (r : Reply (List ℕ)). r.place) e))
 
 pub look-up-refusal-spec : {M : Type 1} → statement M

@@ -3,8 +3,8 @@ use borrow.Author.Tests.{not-true, not-false}
 use native.Mathlib.Omega.{arith}
 use mathlib.Core.Path.{sym, ◌∙◌}
 use Rattle.paper.specs.Tables.{row_of, dewey}
-use Rattle.tables.proofs.Laws.{fields-level}
-use Rattle.tables.proofs.Rows.{kept-fields, kept-follows}
+use Rattle.tables.proofs.Laws.{fields_level}
+use Rattle.tables.proofs.Rows.{kept_fields, kept_follows}
 use borrow.Author.Rules.{rules}
 use Rattle.tables.proofs.table.row_kept.Statement.{statement}
 use Rattle.tables.proofs.table.row_kept.Tie as tie
@@ -13,13 +13,13 @@ returns : tie.Need-returns
 returns c =
     let a = c.before.before.before.before.args in
     let broken = sym c.before.fields-kept.ensures ∙ not-true _ c.if1.true in
-    sym (kept-fields a.f (dewey (row_of a.f a.before.now)) (row_of a.f a.row.now) broken)
+    sym (kept_fields a.f (dewey (row_of a.f a.before.now)) (row_of a.f a.row.now) broken)
 
 follows-requires : tie.Need-follows-requires
 follows-requires c κs =
     let s = c.before.before.before.before in
     let a = s.args in
-    let l = fields-level a.f a.row.now (sym c.before.fields-kept.ensures ∙ not-false _ c.if1.false) in
+    let l = fields_level a.f a.row.now (sym c.before.fields-kept.ensures ∙ not-false _ c.if1.false) in
     omega arith
 
 returns-2 : tie.Need-returns-2
@@ -27,7 +27,7 @@ returns-2 c =
     let k = c.before.before in
     let a = k.before.before.before.args in
     let kept = sym k.fields-kept.ensures ∙ not-false _ c.before.if1.false in
-    c.follows.ensures ∙ sym (kept-follows a.f (dewey (row_of a.f a.before.now)) (row_of a.f a.row.now) kept)
+    c.follows.ensures ∙ sym (kept_follows a.f (dewey (row_of a.f a.before.now)) (row_of a.f a.row.now) kept)
 
 pub row-kept-spec : {M : Type 1} → statement M
 row-kept-spec = tie.close (tie.spec (λ c κs. search rules) returns follows-requires returns-2)

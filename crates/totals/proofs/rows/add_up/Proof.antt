@@ -9,16 +9,16 @@ use mir.Syntax.{w64}
 use mir.Val.{SFits, to_z}
 use borrow.Author.Tests.{eq-eqb, ne_eqb, not-true, not-false}
 use Rattle.totals.specs.Sums.{within}
-use Rattle.totals.specs.Tape.{mostValue}
-use Rattle.totals.specs.Rows.{value_at, isMarked}
-use Rattle.totals.proofs.Adding.{tested, RowAt, row_at, Adding, adding-none, adding-out, adding-shown, adding-unshown, adding-fits, adding-all}
+use Rattle.totals.specs.Tape.{most_value}
+use Rattle.totals.specs.Rows.{value_at, is_marked}
+use Rattle.totals.proofs.Adding.{tested, RowAt, row_at, Adding, adding_none, adding_out, adding_shown, adding_unshown, adding_fits, adding_all}
 use borrow.Author.Rules.{rules}
 use Rattle.totals.proofs.rows.add_up.Statement.{statement}
 use Rattle.totals.proofs.rows.add_up.Tie as tie
 
 abbrev invariant-loop : tie.invariant-loop
 invariant-loop table bytes before rows count marks shown₀ unshown₀ k₀ shown unshown k =
-    (k ≤ count) × Adding (value_at bytes before table) (isMarked marks) (take count rows) k (to_z w64 shown) (to_z w64 unshown)
+    (k ≤ count) × Adding (value_at bytes before table) (is_marked marks) (take count rows) k (to_z w64 shown) (to_z w64 unshown)
 
 abbrev decreases-loop : tie.decreases-loop
 decreases-loop table bytes before rows count marks shown₀ unshown₀ k₀ shown unshown k = count - k
@@ -40,19 +40,19 @@ row w =
     s.pre.1 (omega arith) (omega arith) w.wide32.ensures.0
 
 -- its value fits, and the test of it says whether it is in range
-fits : (v : tie.After-value-at invariant-loop decreases-loop) → SFits w64 v.value-at-lem.result
-fits v = record { sfits = v.value-at-lem.type-inv }
+fits : (v : tie.After-value-at invariant-loop decreases-loop) → SFits w64 v.value_at_lem.result
+fits v = record { sfits = v.value_at_lem.type-inv }
 
-out_of_range : (t : tie.Then1 invariant-loop decreases-loop) → within mostValue t.before.before.value-at-lem.result ≡ false
+out_of_range : (t : tie.Then1 invariant-loop decreases-loop) → within most_value t.before.before.value_at_lem.result ≡ false
 out_of_range t =
     let q = t.before in
-    tested q.before.value-at-lem.result q.lies_within.result false (fits q.before) q.lies_within.ensures
+    tested q.before.value_at_lem.result q.lies_within.result false (fits q.before) q.lies_within.ensures
     (not-true q.lies_within.result t.if1.true)
 
-in-range : (t : tie.Else1 invariant-loop decreases-loop) → within mostValue t.before.before.value-at-lem.result ≡ true
-in-range t =
+in_range : (t : tie.Else1 invariant-loop decreases-loop) → within most_value t.before.before.value_at_lem.result ≡ true
+in_range t =
     let q = t.before in
-    tested q.before.value-at-lem.result q.lies_within.result true (fits q.before) q.lies_within.ensures
+    tested q.before.value_at_lem.result q.lies_within.result true (fits q.before) q.lies_within.ensures
     (not-false q.lies_within.result t.if1.false)
 
 -- ---- the answers
@@ -60,7 +60,7 @@ loop-holds : tie.Need-loop-init invariant-loop decreases-loop
 loop-holds c =
     let s : tie.Start invariant-loop decreases-loop = search in (
       omega arith,
-      adding-none (value_at s.args.bytes s.args.before s.args.table.now) (isMarked s.args.marks.now)
+      adding_none (value_at s.args.bytes s.args.before s.args.table.now) (is_marked s.args.marks.now)
           (take s.args.count s.args.rows.now),
     )
 
@@ -69,7 +69,7 @@ returns c =
     let t : tie.Then1 invariant-loop decreases-loop = search in
     let v : tie.After-value-at invariant-loop decreases-loop = search in
     let l : tie.At-loop invariant-loop decreases-loop = search in
-    c.refused.ensures ∙ adding-out l.loop.inv.1 (row v.before) v.value-at-lem.result v.value-at-lem.ensures (out_of_range t)
+    c.refused.ensures ∙ adding_out l.loop.inv.1 (row v.before) v.value_at_lem.result v.value_at_lem.ensures (out_of_range t)
 
 shared-slice-read-if2 : tie.Need-shared-slice-read-if2 invariant-loop decreases-loop
 shared-slice-read-if2 c = let w : tie.After-wide32 invariant-loop decreases-loop = search in omega (arith, (row w).few)
@@ -79,7 +79,7 @@ add-shown c =
     let t : tie.Else1 invariant-loop decreases-loop = search in
     let v : tie.After-value-at invariant-loop decreases-loop = search in
     let l : tie.At-loop invariant-loop decreases-loop = search in
-    adding-fits l.loop.inv.1 (row v.before) v.value-at-lem.result v.value-at-lem.ensures (in-range t) (omega arith) (fits v)
+    adding_fits l.loop.inv.1 (row v.before) v.value_at_lem.result v.value_at_lem.ensures (in_range t) (omega arith) (fits v)
     (to_z w64 l.loop.shown) l.loop.inv.1.small
 
 loop-again : tie.Need-loop-preserved invariant-loop decreases-loop
@@ -88,7 +88,7 @@ loop-again c =
     let v : tie.After-value-at invariant-loop decreases-loop = search in
     let l : tie.At-loop invariant-loop decreases-loop = search in (
       omega arith,
-      adding-shown l.loop.inv.1 (row v.before) v.value-at-lem.result v.value-at-lem.ensures (in-range t) (omega arith) (fits v)
+      adding_shown l.loop.inv.1 (row v.before) v.value_at_lem.result v.value_at_lem.ensures (in_range t) (omega arith) (fits v)
           (eq-eqb (get_or (start l).args.marks.now v.before.wide32.result 0) 1 c.if2.true),
     )
 
@@ -97,7 +97,7 @@ add-unshown c =
     let t : tie.Else1 invariant-loop decreases-loop = search in
     let v : tie.After-value-at invariant-loop decreases-loop = search in
     let l : tie.At-loop invariant-loop decreases-loop = search in
-    adding-fits l.loop.inv.1 (row v.before) v.value-at-lem.result v.value-at-lem.ensures (in-range t) (omega arith) (fits v)
+    adding_fits l.loop.inv.1 (row v.before) v.value_at_lem.result v.value_at_lem.ensures (in_range t) (omega arith) (fits v)
     (to_z w64 l.loop.unshown) l.loop.inv.1.small-unshown
 
 loop-again-2 : tie.Need-loop-preserved-2 invariant-loop decreases-loop
@@ -106,7 +106,7 @@ loop-again-2 c =
     let v : tie.After-value-at invariant-loop decreases-loop = search in
     let l : tie.At-loop invariant-loop decreases-loop = search in (
       omega arith,
-      adding-unshown l.loop.inv.1 (row v.before) v.value-at-lem.result v.value-at-lem.ensures (in-range t) (omega arith) (fits v)
+      adding_unshown l.loop.inv.1 (row v.before) v.value_at_lem.result v.value_at_lem.ensures (in_range t) (omega arith) (fits v)
           (ne_eqb (get_or (start l).args.marks.now v.before.wide32.result 0) 1 c.if2.false),
     )
 
@@ -114,7 +114,7 @@ returns-2 : tie.Need-returns-2 invariant-loop decreases-loop
 returns-2 c =
     let l : tie.At-loop invariant-loop decreases-loop = search in
     let s = start l in
-    adding-all l.loop.inv.1 (omega (arith, length-take-le s.args.count s.args.rows.now (omega arith)))
+    adding_all l.loop.inv.1 (omega (arith, length-take-le s.args.count s.args.rows.now (omega arith)))
 
 pub add-up-spec : {M : Type 1} → statement M
 add-up-spec =

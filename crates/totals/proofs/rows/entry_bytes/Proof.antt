@@ -1,6 +1,6 @@
 -- `entry_bytes`, at each width. Assumes nothing.
 use mathlib.Core.Path.{sym, ap}
-use Rattle.paper.specs.Format.{base, eight, entryBytes}
+use Rattle.paper.specs.Format.{base, eight, entry_bytes}
 use Rattle.paper.specs.Widths.{format_of}
 use borrow.Author.Rules.{rules}
 use Rattle.totals.proofs.rows.entry_bytes.Statement.{statement}
@@ -8,11 +8,11 @@ use Rattle.totals.proofs.rows.entry_bytes.Tie as tie
 
 returns : tie.Need-returns
 unfolding base
-returns c = sym (ap (λ w. entryBytes (format_of w)) c.enum_told.given.1)
+returns c = sym (ap (λ w. entry_bytes (format_of w)) c.enum_told.given.1)
 
 returns-2 : tie.Need-returns-2
 unfolding eight
-returns-2 c = sym (ap (λ w. entryBytes (format_of w)) c.enum-told2.given.1)
+returns-2 c = sym (ap (λ w. entry_bytes (format_of w)) c.enum-told2.given.1)
 
 pub entry-bytes-spec : {M : Type 1} → statement M
 entry-bytes-spec = tie.close (tie.spec (λ c. search rules) (λ c. search rules) returns returns-2)

@@ -2,7 +2,7 @@
 use Prim.Native.Nat.{◌-◌, ◌≤◌}
 use lib.ListN.{length}
 use native.Mathlib.Omega.{arith}
-use Rattle.totals.proofs.Marking.{MarkedTo, marked-none, marked_more, marked_all}
+use Rattle.totals.proofs.Marking.{MarkedTo, marked_none, marked_more, marked_all}
 use borrow.Author.Rules.{rules}
 use Rattle.totals.proofs.rows.mark_all.Statement.{statement}
 use Rattle.totals.proofs.rows.mark_all.Tie as tie
@@ -14,7 +14,7 @@ abbrev decreases-loop : tie.decreases-loop
 decreases-loop marks₀ k₀ marks k = length marks₀ - k
 
 loop-holds : tie.Need-loop-init invariant-loop decreases-loop
-loop-holds c = let s : tie.Start invariant-loop decreases-loop = search in (omega arith, marked-none s.args.marks.now)
+loop-holds c = let s : tie.Start invariant-loop decreases-loop = search in (omega arith, marked_none s.args.marks.now)
 
 loop-again : tie.Need-loop-preserved invariant-loop decreases-loop
 loop-again c =

@@ -4,7 +4,7 @@ use mathlib.Core.Path.{◌≡◌, subst}
 use lib.ListN.{take}
 use native.Mathlib.Omega.{arith}
 use Rattle.totals.specs.Rows.{Marks}
-use Rattle.totals.proofs.Marking.{marks-none, marks-other, marks-row}
+use Rattle.totals.proofs.Marking.{marks_none, marks_other, marks_row}
 use borrow.Author.Rules.{rules}
 use Rattle.totals.proofs.rows.mark_shown.Statement.{statement}
 use Rattle.totals.proofs.rows.mark_shown.Tie as tie
@@ -18,7 +18,7 @@ decreases-loop sources lines entry marks₀ first k₀ marks k = lines - k
 loop-holds : tie.Need-loop-init invariant-loop decreases-loop
 loop-holds c =
     let s : tie.Start invariant-loop decreases-loop = search in
-    (omega arith, marks-none s.args.entry s.args.sources.now s.args.marks.now)
+    (omega arith, marks_none s.args.entry s.args.sources.now s.args.marks.now)
 
 loop-again : tie.Need-loop-preserved invariant-loop decreases-loop
 loop-again c =
@@ -26,7 +26,7 @@ loop-again c =
     let l : tie.At-loop invariant-loop decreases-loop = search in
     let w : tie.After-wide32 invariant-loop decreases-loop = search in (
       omega arith,
-      marks-other s.args.entry s.args.sources.now s.args.marks.now l.loop.k l.loop.marks (omega arith) l.loop.inv.1
+      marks_other s.args.entry s.args.sources.now s.args.marks.now l.loop.k l.loop.marks (omega arith) l.loop.inv.1
           (λ i h e. omega (arith, w.wide32.ensures.0)),
     )
 
@@ -36,7 +36,7 @@ loop-again-2 c =
     let l : tie.At-loop invariant-loop decreases-loop = search in
     let w : tie.After-wide32 invariant-loop decreases-loop = search in (
       omega arith,
-      marks-row s.args.entry s.args.sources.now s.args.marks.now l.loop.k l.loop.marks (omega arith) l.loop.inv.1
+      marks_row s.args.entry s.args.sources.now s.args.marks.now l.loop.k l.loop.marks (omega arith) l.loop.inv.1
           (w.wide32.result - 65536 * s.args.entry) (omega (arith, w.wide32.ensures.0)) (omega (arith, w.wide32.ensures.0, l.loop.inv.1.long)),
     )
 
@@ -46,7 +46,7 @@ loop-again-3 c =
     let l : tie.At-loop invariant-loop decreases-loop = search in
     let w : tie.After-wide32 invariant-loop decreases-loop = search in (
       omega arith,
-      marks-other s.args.entry s.args.sources.now s.args.marks.now l.loop.k l.loop.marks (omega arith) l.loop.inv.1
+      marks_other s.args.entry s.args.sources.now s.args.marks.now l.loop.k l.loop.marks (omega arith) l.loop.inv.1
           (λ i h e. omega (arith, w.wide32.ensures.0)),
     )
 

@@ -3,7 +3,7 @@ use Prim.Native.Nat.{◌*◌, ◌-◌, ◌≤◌}
 use mathlib.Core.Path.{◌≡◌, subst}
 use lib.ListN.{length}
 use native.Mathlib.Omega.{arith}
-use Rattle.totals.proofs.Copying.{Copied, copied_none, copied_more, copied-first}
+use Rattle.totals.proofs.Copying.{Copied, copied_none, copied_more, copied_first}
 use borrow.Author.Rules.{rules}
 use Rattle.totals.proofs.rows.put_alone.Statement.{statement}
 use Rattle.totals.proofs.rows.put_alone.Tie as tie
@@ -55,7 +55,7 @@ returns c =
     let s : tie.Start invariant-loop decreases-loop = search in
     let l : tie.At-loop invariant-loop decreases-loop = search in
     let all : l.loop.k ≡ s.args.bytes = omega arith in
-    copied-first s.args.shape.now (s.args.bytes * s.args.entry) l.loop.alone s.args.bytes 1 (omega arith) (omega arith)
+    copied_first s.args.shape.now (s.args.bytes * s.args.entry) l.loop.alone s.args.bytes 1 (omega arith) (omega arith)
     (subst (Copied s.args.shape.now (s.args.bytes * s.args.entry) _ l.loop.alone) all l.loop.inv.1)
 
 pub put-alone-spec : {M : Type 1} → statement M

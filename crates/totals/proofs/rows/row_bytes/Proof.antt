@@ -1,6 +1,6 @@
 -- `row_bytes`, at each width. Assumes nothing.
 use mathlib.Core.Path.{sym, ap}
-use Rattle.paper.specs.Format.{base, eight, rowBytes}
+use Rattle.paper.specs.Format.{base, eight, row_bytes}
 use Rattle.paper.specs.Widths.{format_of}
 use borrow.Author.Rules.{rules}
 use Rattle.totals.proofs.rows.row_bytes.Statement.{statement}
@@ -8,11 +8,11 @@ use Rattle.totals.proofs.rows.row_bytes.Tie as tie
 
 returns : tie.Need-returns
 unfolding base
-returns c = sym (ap (λ w. rowBytes (format_of w)) c.enum_told.given.1)
+returns c = sym (ap (λ w. row_bytes (format_of w)) c.enum_told.given.1)
 
 returns-2 : tie.Need-returns-2
 unfolding eight
-returns-2 c = sym (ap (λ w. rowBytes (format_of w)) c.enum-told2.given.1)
+returns-2 c = sym (ap (λ w. row_bytes (format_of w)) c.enum-told2.given.1)
 
 pub row-bytes-spec : {M : Type 1} → statement M
 row-bytes-spec = tie.close (tie.spec (λ c. search rules) (λ c. search rules) returns returns-2)

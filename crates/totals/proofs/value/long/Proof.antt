@@ -1,6 +1,6 @@
 -- `long`: four words, the low one first, spell what eight bytes spell. Assumes nothing.
 use native.Mathlib.Omega.{arith}
-use Rattle.totals.proofs.Words.{four-words}
+use Rattle.totals.proofs.Words.{four_words}
 use borrow.Author.Rules.{rules}
 use Rattle.totals.proofs.value.long.Statement.{statement}
 use Rattle.totals.proofs.value.long.Tie as tie
@@ -11,7 +11,7 @@ returns c =
     let w : tie.After-word = search in
     omega (
       arith,
-      four-words s.args.b.now s.args.i,
+      four_words s.args.b.now s.args.i,
       c.word4.ensures.0,
       c.before.word3.ensures.0,
       c.before.before.word2.ensures.0,

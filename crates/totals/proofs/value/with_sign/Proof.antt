@@ -1,13 +1,13 @@
 -- `with_sign`: a number below 2^63 is itself, and any other lies below 0 by what it lacks of 2^64. Assumes nothing.
 use Prim.Native.Nat.{◌-◌}
 use native.Mathlib.Omega.{arith}
-use Rattle.totals.proofs.Signs.{lacks-fits, low_bits, high_bits}
+use Rattle.totals.proofs.Signs.{lacks_fits, low_bits, high_bits}
 use borrow.Author.Rules.{rules}
 use Rattle.totals.proofs.value.with_sign.Statement.{statement}
 use Rattle.totals.proofs.value.with_sign.Tie as tie
 
 sub-result-2 : tie.Need-overflow-sub-result-2
-sub-result-2 c = let s : tie.Start = search in lacks-fits (18446744073709551615 - s.args.bits) (omega (arith, c.if1.false, s.fits.bits.fits))
+sub-result-2 c = let s : tie.Start = search in lacks_fits (18446744073709551615 - s.args.bits) (omega (arith, c.if1.false, s.fits.bits.fits))
 
 returns : tie.Need-returns
 returns c = let s : tie.Start = search in low_bits s.args.bits c.if1.true

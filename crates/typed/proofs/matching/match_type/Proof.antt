@@ -5,18 +5,18 @@ use mathlib.Core.Path.{◌≡◌, sym, subst}
 use mathlib.Core.Bool.{Bool, true, false}
 use lib.ListN.{take}
 use borrow.Author.Rules.{rules}
-use Rattle.paper.specs.Format.{mostTypes}
+use Rattle.paper.specs.Format.{most_types}
 use Rattle.grammar.specs.Grammar.{Name}
 use Rattle.names.specs.Word.{Holds}
 use Rattle.typed.specs.Matching.{Ends, Sole}
-use Rattle.typed.proofs.Suffix.{nameWith}
-use Rattle.typed.proofs.Soles.{held-name, Seeking, seeking-start, seeking-past, seeking-here, seeking-twice, seeking-end, seeking-long}
+use Rattle.typed.proofs.Suffix.{name_with}
+use Rattle.typed.proofs.Soles.{held_name, Seeking, seeking_start, seeking_past, seeking_here, seeking_twice, seeking_end, seeking_long}
 use Rattle.typed.proofs.matching.match_type.Statement.{statement}
 use Rattle.typed.proofs.matching.match_type.Tie as tie
 
 abbrev invariant-loop : tie.invariant-loop
 invariant-loop parents labels count size whole held found₀ k₀ found k =
-    (k ≤ count) × (found ≤ mostTypes) × Seeking parents labels count (nameWith whole (take size held)) found k
+    (k ≤ count) × (found ≤ most_types) × Seeking parents labels count (name_with whole (take size held)) found k
 
 abbrev decreases-loop : tie.decreases-loop
 decreases-loop parents labels count size whole held found₀ k₀ found k = count - k
@@ -29,7 +29,7 @@ begun l = short l.before.before
 
 -- the name that is held
 abbrev held : tie.Start invariant-loop decreases-loop → Name
-held s = let r = s.args.name in nameWith r.whole (take r.size r.labels)
+held s = let r = s.args.name in name_with r.whole (take r.size r.labels)
 
 -- what is so of the labels that are held is so of the name
 for-name : (s : tie.Start invariant-loop decreases-loop) (found : ℕ) (n : Name) → Holds s.args.name n → s.args.name.size ≤ 8
@@ -37,7 +37,7 @@ for-name : (s : tie.Start invariant-loop decreases-loop) (found : ℕ) (n : Name
     → Sole s.args.parents.now s.args.labels.now s.args.count n found
 for-name s found n h le e =
     let a = s.args in
-    subst (λ m. Sole a.parents.now a.labels.now a.count m found) (sym (held-name a.name n h le)) e
+    subst (λ m. Sole a.parents.now a.labels.now a.count m found) (sym (held_name a.name n h le)) e
 
 -- at most eight labels are there
 small : (l : tie.At-loop invariant-loop decreases-loop) → (begun l).args.name.size ≤ 8
@@ -56,12 +56,12 @@ matched t b e =
 returns : tie.Need-returns invariant-loop decreases-loop
 returns c =
     let s : tie.Start invariant-loop decreases-loop = search in let a = s.args in
-    (λ n h. seeking-long a.parents.now a.labels.now a.count n (omega (arith, h.size_is, c.if1.true)), omega arith)
+    (λ n h. seeking_long a.parents.now a.labels.now a.count n (omega (arith, h.size_is, c.if1.true)), omega arith)
 
 loop-holds : tie.Need-loop-init invariant-loop decreases-loop
 loop-holds c =
     let s : tie.Start invariant-loop decreases-loop = search in let a = s.args in
-    (omega arith, omega arith, seeking-start a.parents.now a.labels.now a.count (nameWith a.name.whole (take a.name.size a.name.labels)))
+    (omega arith, omega arith, seeking_start a.parents.now a.labels.now a.count (name_with a.name.whole (take a.name.size a.name.labels)))
 
 slice-aggregate-type-matches : tie.Need-slice-aggregate-type-matches invariant-loop decreases-loop
 slice-aggregate-type-matches c = search rules
@@ -79,9 +79,9 @@ returns-2 c =
     let l : tie.At-loop invariant-loop decreases-loop = search in
     let a = (begun l).args in
     let twice =
-    seeking-twice a.parents.now a.labels.now a.count (held (begun l)) l.loop.found l.loop.k l.loop.inv.2
+    seeking_twice a.parents.now a.labels.now a.count (held (begun l)) l.loop.found l.loop.k l.loop.inv.2
     t.before.before.loop-test.taken (matched t true c.before.if2.true) c.if3.true in
-    (λ n h. for-name (begun l) mostTypes n h (small l) twice, omega arith)
+    (λ n h. for-name (begun l) most_types n h (small l) twice, omega arith)
 
 loop-again : tie.Need-loop-preserved invariant-loop decreases-loop
 loop-again c =
@@ -90,7 +90,7 @@ loop-again c =
     let a = (begun l).args in (
       omega arith,
       omega arith,
-      seeking-here a.parents.now a.labels.now a.count (held (begun l)) l.loop.found l.loop.k l.loop.inv.2
+      seeking_here a.parents.now a.labels.now a.count (held (begun l)) l.loop.found l.loop.k l.loop.inv.2
           t.before.before.loop-test.taken (matched t true c.before.if2.true) c.if3.false,
     )
 
@@ -101,7 +101,7 @@ loop-again-2 c =
     let a = (begun l).args in (
       omega arith,
       omega arith,
-      seeking-past a.parents.now a.labels.now a.count (held (begun l)) l.loop.found l.loop.k l.loop.inv.2
+      seeking_past a.parents.now a.labels.now a.count (held (begun l)) l.loop.found l.loop.k l.loop.inv.2
           t.before.before.loop-test.true (matched t false c.if2.false),
     )
 
@@ -110,7 +110,7 @@ returns-3 c =
     let l = c.before in
     let a = (begun l).args in
     let end =
-    seeking-end a.parents.now a.labels.now a.count (held (begun l)) l.loop.found l.loop.k l.loop.invariant.2 c.loop-test.false in
+    seeking_end a.parents.now a.labels.now a.count (held (begun l)) l.loop.found l.loop.k l.loop.invariant.2 c.loop-test.false in
     (λ n h. for-name (begun l) l.loop.found n h (small l) end, omega arith)
 
 pub match-type-spec : {M : Type 1} → statement M

@@ -3,7 +3,7 @@ use Prim.Native.Nat.{◌≤◌, ◌-◌}
 use native.Mathlib.Omega.{arith}
 use mathlib.Core.Path.{sym, subst}
 use borrow.Author.Rules.{rules}
-use Rattle.typed.proofs.Compared.{Comparing, comparing-start, comparing-short, comparing-not, comparing-up, comparing-end, comparing-whole}
+use Rattle.typed.proofs.Compared.{Comparing, comparing_start, comparing_short, comparing_not, comparing_up, comparing_end, comparing_whole}
 use Rattle.typed.proofs.matching.type_matches.Statement.{statement}
 use Rattle.typed.proofs.matching.type_matches.Tie as tie
 
@@ -20,13 +20,13 @@ loop-holds : tie.Need-loop-init invariant-loop decreases-loop
 loop-holds c =
     let s = c.before.before.before in
     let a = s.args in
-    (omega arith, comparing-start a.parents.now a.labels.now a.count a.name.now a.size a.whole a.k s.requires.3)
+    (omega arith, comparing_start a.parents.now a.labels.now a.count a.name.now a.size a.whole a.k s.requires.3)
 
 returns : tie.Need-returns invariant-loop decreases-loop
 returns c =
     let l = c.before.before in
     let a = (begun l).args in
-    comparing-short a.parents.now a.labels.now a.count a.name.now a.size a.whole a.k l.loop.q l.loop.j l.loop.invariant.1
+    comparing_short a.parents.now a.labels.now a.count a.name.now a.size a.whole a.k l.loop.q l.loop.j l.loop.invariant.1
     (omega arith) (omega arith) c.if1.true
 
 returns-2 : tie.Need-returns-2 invariant-loop decreases-loop
@@ -34,7 +34,7 @@ returns-2 c =
     let e = c.before.before.before in
     let l = e.before.before in
     let a = (begun l).args in
-    comparing-not a.parents.now a.labels.now a.count a.name.now a.size a.whole a.k l.loop.q l.loop.j l.loop.invariant.1
+    comparing_not a.parents.now a.labels.now a.count a.name.now a.size a.whole a.k l.loop.q l.loop.j l.loop.invariant.1
     (omega arith) (omega arith) e.if1.false c.if2.true
 
 loop-again : tie.Need-loop-preserved invariant-loop decreases-loop
@@ -46,7 +46,7 @@ loop-again c =
     let go = Comparing a.parents.now a.labels.now a.count a.name.now a.size a.whole a.k in (
       omega arith,
       subst (λ q. go q (l.loop.j - 1)) (sym c.wide.ensures.0)
-          (comparing-up a.parents.now a.labels.now a.count a.name.now a.size a.whole a.k l.loop.q l.loop.j l.loop.invariant.1
+          (comparing_up a.parents.now a.labels.now a.count a.name.now a.size a.whole a.k l.loop.q l.loop.j l.loop.invariant.1
           (omega arith) (omega arith) e.if1.false f.if2.false),
     )
 
@@ -54,14 +54,14 @@ returns-3 : tie.Need-returns-3 invariant-loop decreases-loop
 returns-3 c =
     let l = c.before.before in
     let a = (begun l).args in
-    comparing-whole a.parents.now a.labels.now a.count a.name.now a.size a.whole a.k l.loop.q l.loop.j l.loop.invariant.1
+    comparing_whole a.parents.now a.labels.now a.count a.name.now a.size a.whole a.k l.loop.q l.loop.j l.loop.invariant.1
     (omega arith) c.if3.true
 
 returns-4 : tie.Need-returns-4 invariant-loop decreases-loop
 returns-4 c =
     let l = c.before.before in
     let a = (begun l).args in
-    comparing-end a.parents.now a.labels.now a.count a.name.now a.size a.whole a.k l.loop.q l.loop.j l.loop.invariant.1
+    comparing_end a.parents.now a.labels.now a.count a.name.now a.size a.whole a.k l.loop.q l.loop.j l.loop.invariant.1
     (omega arith) c.if3.false
 
 pub type-matches-spec : {M : Type 1} → statement M

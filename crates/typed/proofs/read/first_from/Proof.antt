@@ -5,8 +5,8 @@ use mathlib.Core.List.{◌∷◌}
 use lib.Dec.{leb}
 use lib.ListN.{take, drop}
 use borrow.Author.Tests.{le-leb, lt-leb}
-use Rattle.tables.proofs.Walks.{Looking, looking-start, looking-stop, looking-on, looking-end}
-use Rattle.typed.proofs.Firsts.{first-long, first_next}
+use Rattle.tables.proofs.Walks.{Looking, looking_start, looking_stop, looking_on, looking_end}
+use Rattle.typed.proofs.Firsts.{first_long, first_next}
 use borrow.Author.Rules.{rules}
 use Rattle.typed.proofs.read.first_from.Statement.{statement}
 use Rattle.typed.proofs.read.first_from.Tie as tie
@@ -34,14 +34,14 @@ next w =
     first_next s.args.list.now s.args.n s.pre l.loop.e w.wide16.result w.before.before.loop-test.true w.wide16.ensures.0
 
 loop-holds : tie.Need-loop-init invariant-loop decreases-loop
-loop-holds c = let a = c.before.args in looking-start (leb a.bound) (take a.n a.list.now) a.n
+loop-holds c = let a = c.before.args in looking_start (leb a.bound) (take a.n a.list.now) a.n
 
 returns : tie.Need-returns invariant-loop decreases-loop
 returns c =
     let w = c.before in
     let l = looped w in
     let a = (begun l).args in
-    looking-stop (leb a.bound) (take a.n a.list.now) a.n l.loop.e l.loop.inv w.before.before.loop-test.true _
+    looking_stop (leb a.bound) (take a.n a.list.now) a.n l.loop.e l.loop.inv w.before.before.loop-test.true _
     (next w) (le-leb _ _ c.if1.true)
 
 loop-again : tie.Need-loop-preserved invariant-loop decreases-loop
@@ -49,7 +49,7 @@ loop-again c =
     let w = c.before in
     let l = looped w in
     let a = (begun l).args in
-    looking-on (leb a.bound) (take a.n a.list.now) a.n l.loop.e l.loop.inv w.before.before.loop-test.true _
+    looking_on (leb a.bound) (take a.n a.list.now) a.n l.loop.e l.loop.inv w.before.before.loop-test.true _
     (next w) (lt-leb _ _ c.if1.false)
 
 returns-2 : tie.Need-returns-2 invariant-loop decreases-loop
@@ -57,8 +57,8 @@ returns-2 c =
     let l = c.before in
     let s = begun l in
     let a = s.args in
-    looking-end (leb a.bound) (take a.n a.list.now) a.n l.loop.e l.loop.invariant
-    (first-long a.list.now a.n s.pre) c.loop-test.false
+    looking_end (leb a.bound) (take a.n a.list.now) a.n l.loop.e l.loop.invariant
+    (first_long a.list.now a.n s.pre) c.loop-test.false
 
 pub first-from-spec : {M : Type 1} → statement M
 first-from-spec =

@@ -6,12 +6,12 @@ use mathlib.Core.Path.{◌≡◌, sym, ap, subst}
 use lib.Dec.{leb}
 use lib.ListN.{get_or}
 use borrow.Author.Tests.{leb-false}
-use Rattle.paper.specs.Format.{entryBytes}
+use Rattle.paper.specs.Format.{entry_bytes}
 use Rattle.typed.specs.Entries.{EachKnown}
 use Rattle.typed.specs.Shaped.{Shapes}
 use Rattle.typed.specs.declared.read.TreeRead.{TreeRead}
 use Rattle.typed.proofs.Firsts.{none_passes}
-use Rattle.typed.proofs.Shaped.{too_many, too-deep, unmatched, no_room, shaped}
+use Rattle.typed.proofs.Shaped.{too_many, too_deep, unmatched, no_room, shaped}
 use borrow.Author.Rules.{rules}
 use Rattle.typed.proofs.read.put_shape.Statement.{statement}
 use Rattle.typed.proofs.read.put_shape.Tie as tie
@@ -41,7 +41,7 @@ returns-2 c =
     let s : tie.Start = search in
     let a = s.args in
     subst (Left s) (sym c.refused2.ensures) (λ ts listed within es of.
-    too-deep a.f ts es a.shape.now a.walked of l.if1.left _ d.first-from.ensures t.if2.taken)
+    too_deep a.f ts es a.shape.now a.walked of l.if1.left _ d.first-from.ensures t.if2.taken)
 
 slice-aggregate-first-from-2 : tie.Need-slice-aggregate-first-from-2
 slice-aggregate-first-from-2 c = search rules
@@ -67,7 +67,7 @@ mul-if4 c =
     let l : tie.Else1 = search in
     let s : tie.Start = search in
     let a = s.args in
-    let size : c.entry-bytes.result ≡ entryBytes a.f = c.entry-bytes.ensures in
+    let size : c.entry-bytes.result ≡ entry_bytes a.f = c.entry-bytes.ensures in
     let deep : a.f.levels ≤ 8 = s.pre.0.shallow in
     let most : c.entry-bytes.result * a.walked.entries ≤ 20 * a.walked.entries = mul-le-mul_right a.walked.entries (omega (arith, size, deep)) in
     omega (arith, most, l.if1.left)

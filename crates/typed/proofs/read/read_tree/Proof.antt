@@ -2,7 +2,7 @@
 use native.Mathlib.Omega.{arith}
 use borrow.Author.Tests.{not-true, not-false}
 use Rattle.paper.specs.Tables.{rows, types}
-use Rattle.typed.proofs.Answers.{long-text, table-refused, text-refused, text-shaped, types-within, types-listed}
+use Rattle.typed.proofs.Answers.{long_text, table-refused, text_refused, text_shaped, types-within, types-listed}
 use borrow.Author.Rules.{rules}
 use Rattle.typed.proofs.read.read_tree.Statement.{statement}
 use Rattle.typed.proofs.read.read_tree.Tie as tie
@@ -23,9 +23,9 @@ returns-2 c =
     let x : tie.After-read-rows = search in
     let s : tie.Start = search in
     let a = s.args in
-    text-refused a.f s.pre.1 a.table.now a.text.now a.shape.now c.refused2.result c.refused2.ensures
+    text_refused a.f s.pre.1 a.table.now a.text.now a.shape.now c.refused2.result c.refused2.ensures
     (x.read-rows.ensures.read u.if1.left).given_is
-    (long-text a.f a.text.now t.if2.taken)
+    (long_text a.f a.text.now t.if2.taken)
 
 walk-text-requires : tie.Need-walk-text-requires
 walk-text-requires c κs =
@@ -44,9 +44,9 @@ returns-3 c =
     let x : tie.After-read-rows = search in
     let s : tie.Start = search in
     let a = s.args in
-    text-refused a.f s.pre.1 a.table.now a.text.now a.shape.now c.refused3.result c.refused3.ensures
+    text_refused a.f s.pre.1 a.table.now a.text.now a.shape.now c.refused3.result c.refused3.ensures
     (x.read-rows.ensures.read u.if1.left).given_is
-    (w.walk-text.ensures.wrong-at-lem (not-true _ t.if3.taken))
+    (w.walk-text.ensures.wrong_at_lem (not-true _ t.if3.taken))
 
 put-shape-requires : tie.Need-put-shape-requires
 put-shape-requires c κs =
@@ -69,10 +69,10 @@ returns-4 c =
     let listed = types-listed read s.pre.0 in
     let walked = w.walk-text.ensures in
     let ts = types (rows a.f a.table.now) in
-    text-shaped a.f s.pre.1 a.table.now a.text.now a.shape.now read.given_is walked.entries
+    text_shaped a.f s.pre.1 a.table.now a.text.now a.shape.now read.given_is walked.entries
     (walked.asked (not-false _ e.if3.left)) _
     (p.put-shape.ensures ts listed (types-within read) walked.entries
-    (record { count-is = walked.count-is; levels-are = walked.levels-are; types_are = walked.types_are ts listed }))
+    (record { count-is = walked.count-is; levels_are = walked.levels_are; types_are = walked.types_are ts listed }))
 
 pub read-tree-spec : {M : Type 1} → statement M
 read-tree-spec =

@@ -6,13 +6,13 @@ use lib.ListN.{length, get_or}
 use lib.Seq.{length-sets}
 use borrow.Author.Rules.{rules}
 use Rattle.paper.specs.Format.{bytes}
-use Rattle.names.specs.Word.{mostKept}
-use Rattle.typed.proofs.Backwards.{Filling, filling-start, filling-up, filling-short, filling-end}
+use Rattle.names.specs.Word.{most_kept}
+use Rattle.typed.proofs.Backwards.{Filling, filling_start, filling_up, filling_short, filling_end}
 use Rattle.typed.proofs.records.entry_record.Statement.{statement}
 use Rattle.typed.proofs.records.entry_record.Tie as tie
 
 abbrev invariant-loop : tie.invariant-loop
-invariant-loop level k parents labels count size r₀ q₀ j₀ r q j = (j ≤ mostKept) × (length r ≡ 20) × Filling parents labels count level k r q j
+invariant-loop level k parents labels count size r₀ q₀ j₀ r q j = (j ≤ most_kept) × (length r ≡ 20) × Filling parents labels count level k r q j
 
 abbrev decreases-loop : tie.decreases-loop
 decreases-loop level k parents labels count size r₀ q₀ j₀ r q j = j
@@ -25,13 +25,13 @@ loop-holds c =
     let s = c.before.before.before in
     let a = s.args in
     let n = c.type-size in
-    (omega arith, refl, filling-start a.parents.now a.labels.now a.count a.level a.k n.result n.ensures.1 s.requires.3)
+    (omega arith, refl, filling_start a.parents.now a.labels.now a.count a.level a.k n.result n.ensures.1 s.requires.3)
 
 returns : tie.Need-returns invariant-loop decreases-loop
 returns c =
     let l = c.before.before in
     let a = (begun l).args in
-    filling-short a.parents.now a.labels.now a.count a.level a.k l.loop.r l.loop.q l.loop.j l.loop.invariant.2
+    filling_short a.parents.now a.labels.now a.count a.level a.k l.loop.r l.loop.q l.loop.j l.loop.invariant.2
     c.before.loop-test.true c.if1.true a.f
 
 slice-aggregate-put-word : tie.Need-slice-aggregate-put-word invariant-loop decreases-loop
@@ -50,7 +50,7 @@ loop-again c =
     let put = p.put_word.ensures in (
       omega arith,
       ap length put ∙ length-sets l.loop.r at (bytes 2 (get_or a.labels.now l.loop.q 0)) ∙ l.loop.invariant.1,
-      filling-up a.parents.now a.labels.now a.count a.level a.k l.loop.r l.loop.q l.loop.j l.loop.invariant.2 e.if1.false
+      filling_up a.parents.now a.labels.now a.count a.level a.k l.loop.r l.loop.q l.loop.j l.loop.invariant.2 e.if1.false
           c.wide.ensures.0 put,
     )
 
@@ -59,7 +59,7 @@ returns-2 c =
     let l = c.before in
     let s = begun l in
     let a = s.args in
-    filling-end a.parents.now a.labels.now a.count a.level a.k l.loop.r l.loop.q l.loop.j l.loop.invariant.2
+    filling_end a.parents.now a.labels.now a.count a.level a.k l.loop.r l.loop.q l.loop.j l.loop.invariant.2
     (omega (arith, c.loop-test.false)) a.f s.pre.0
 
 pub entry-record-spec : {M : Type 1} → statement M

@@ -5,9 +5,9 @@ use mathlib.Core.Path.{◌≡◌, refl, sym, ◌∙◌, ap, subst}
 use lib.ListN.{length, get_or, take, length-take}
 use lib.Seq.{sets, length-sets}
 use borrow.Author.Rules.{rules}
-use Rattle.bytes.proofs.Laws.{record-in}
+use Rattle.octets.proofs.Laws.{record_in}
 use Rattle.typed.specs.Entries.{EntryIs}
-use Rattle.typed.proofs.Back.{Putting, putting-start, putting-on, putting-end}
+use Rattle.typed.proofs.Back.{Putting, putting_start, putting_on, putting_end}
 use Rattle.typed.proofs.records.put_entries.Statement.{statement}
 use Rattle.typed.proofs.records.put_entries.Tie as tie
 
@@ -43,7 +43,7 @@ room i =
     let w = l.before.entry-bytes in
     let fits : w.result * a.entries ≤ length l.loop.new =
     subst (λ n. w.result * a.entries ≤ n) (sym l.loop.invariant.1) (subst (λ n. n * a.entries ≤ length a.new.now) (sym w.ensures) s.pre.0.3) in
-    record-in w.result l.loop.e a.entries (length l.loop.new) i.loop-test.true fits
+    record_in w.result l.loop.e a.entries (length l.loop.new) i.loop-test.true fits
 
 abbrev inside : tie.After-entry-record invariant-loop decreases-loop → tie.In-loop invariant-loop decreases-loop
 inside r = r.before.before.before.before
@@ -53,7 +53,7 @@ loop-holds c =
     let s : tie.Start invariant-loop decreases-loop = search in let a = s.args in (
       omega arith,
       refl,
-      putting-start a.f a.parents.now a.labels.now a.count a.levels.now a.types.now a.entries c.entry-bytes.result a.new.now,
+      putting_start a.f a.parents.now a.labels.now a.count a.levels.now a.types.now a.entries c.entry-bytes.result a.new.now,
     )
 
 cast-entry-record : tie.Need-overflow-cast-entry-record invariant-loop decreases-loop
@@ -94,7 +94,7 @@ loop-again c =
     let put = p.put.ensures ∙ ap (λ n. sets l.loop.new at (take n own)) whole in (
       omega arith,
       ap length put ∙ length-sets l.loop.new at (take w.result own) ∙ l.loop.inv.1,
-      putting-on a.f a.parents.now a.labels.now a.count a.levels.now a.types.now a.entries w.result a.new.now l.loop.new
+      putting_on a.f a.parents.now a.labels.now a.count a.levels.now a.types.now a.entries w.result a.new.now l.loop.new
           l.loop.e l.loop.inv.2 w.ensures i.loop-test.taken s.pre.0.1 s.pre.0.2 (known i).1 own is put,
     )
 
@@ -102,7 +102,7 @@ returns : tie.Need-returns invariant-loop decreases-loop
 returns c =
     let l = c.before in
     let a = (begun l).args in
-    putting-end a.f a.parents.now a.labels.now a.count a.levels.now a.types.now a.entries l.before.entry-bytes.result
+    putting_end a.f a.parents.now a.labels.now a.count a.levels.now a.types.now a.entries l.before.entry-bytes.result
     a.new.now l.loop.new l.loop.e l.loop.invariant.2 c.loop-test.false
 
 pub put-entries-spec : {M : Type 1} → statement M

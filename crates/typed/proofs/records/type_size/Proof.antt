@@ -3,16 +3,16 @@ use Prim.Native.Nat.{◌≤◌, ◌+◌, ◌-◌}
 use native.Mathlib.Omega.{arith}
 use mathlib.Core.Path.{sym, subst}
 use borrow.Author.Rules.{rules}
-use Rattle.names.specs.Word.{mostKept}
-use Rattle.typed.proofs.Sizes.{Counting, counting-start, counting-up, counting-end, counting-most}
+use Rattle.names.specs.Word.{most_kept}
+use Rattle.typed.proofs.Sizes.{Counting, counting_start, counting_up, counting_end, counting_most}
 use Rattle.typed.proofs.records.type_size.Statement.{statement}
 use Rattle.typed.proofs.records.type_size.Tie as tie
 
 abbrev invariant-loop : tie.invariant-loop
-invariant-loop parents count k q₀ n₀ q n = (n ≤ mostKept) × Counting parents count k q n
+invariant-loop parents count k q₀ n₀ q n = (n ≤ most_kept) × Counting parents count k q n
 
 abbrev decreases-loop : tie.decreases-loop
-decreases-loop parents count k q₀ n₀ q n = mostKept - n
+decreases-loop parents count k q₀ n₀ q n = most_kept - n
 
 abbrev begun : tie.At-loop invariant-loop decreases-loop → tie.Start invariant-loop decreases-loop
 begun l = l.before.before
@@ -20,13 +20,13 @@ begun l = l.before.before
 loop-holds : tie.Need-loop-init invariant-loop decreases-loop
 loop-holds c =
     let s = c.before in
-    (omega arith, counting-start s.args.parents.now s.args.count s.args.k s.requires.1)
+    (omega arith, counting_start s.args.parents.now s.args.count s.args.k s.requires.1)
 
 returns : tie.Need-returns invariant-loop decreases-loop
 returns c =
     let l = c.before.before in
     let a = (begun l).args in
-    (omega arith, counting-end a.parents.now a.count a.k l.loop.q l.loop.n l.loop.invariant.1 c.if1.true)
+    (omega arith, counting_end a.parents.now a.count a.k l.loop.q l.loop.n l.loop.invariant.1 c.if1.true)
 
 loop-again : tie.Need-loop-preserved invariant-loop decreases-loop
 loop-again c =
@@ -35,7 +35,7 @@ loop-again c =
     let a = (begun l).args in (
       omega arith,
       subst (λ q. Counting a.parents.now a.count a.k q (l.loop.n + 1)) (sym c.wide.ensures.0)
-          (counting-up a.parents.now a.count a.k l.loop.q l.loop.n l.loop.invariant.1 e.if1.false),
+          (counting_up a.parents.now a.count a.k l.loop.q l.loop.n l.loop.invariant.1 e.if1.false),
     )
 
 returns-2 : tie.Need-returns-2 invariant-loop decreases-loop
@@ -43,7 +43,7 @@ returns-2 c =
     let l = c.before in
     let s = begun l in
     let a = s.args in
-    (omega arith, counting-most a.parents.now a.count a.k l.loop.q l.loop.n l.loop.invariant.1 s.pre.1 c.loop-test.false)
+    (omega arith, counting_most a.parents.now a.count a.k l.loop.q l.loop.n l.loop.invariant.1 s.pre.1 c.loop-test.false)
 
 pub type-size-spec : {M : Type 1} → statement M
 type-size-spec =

@@ -4,9 +4,9 @@ use mathlib.Core.Path.{◌≡◌, refl, sym, ◌∙◌, ap}
 use mathlib.Core.Bool.{Bool, true, false, true≢false}
 use borrow.Author.Rules.{rules}
 use borrow.Author.Tests.{eq-eqb, ne_eqb}
-use Rattle.grammar.specs.Reader.{mayEnd}
-use Rattle.typed.specs.Walk.{stageOf}
-use Rattle.typed.proofs.Stages.{behind-token}
+use Rattle.grammar.specs.Reader.{may_end}
+use Rattle.typed.specs.Walk.{stage_of}
+use Rattle.typed.proofs.Stages.{behind_token}
 use Rattle.typed.proofs.walk.ended.Statement.{statement}
 use Rattle.typed.proofs.walk.ended.Tie as tie
 
@@ -18,23 +18,23 @@ only_so : {t : Bool} {A B : Type 0} → t ≡ true → A → (t ≡ true → A) 
 only_so so a = (λ _. a, λ e. absurd (true≢false (sym so ∙ e)))
 
 returns : tie.Need-returns
-returns c = let a = c.before.before.args in only_no (ap (λ n. mayEnd (stageOf n) a.depth) c.before.if1.true) c.no-entry.ensures
+returns c = let a = c.before.before.args in only_no (ap (λ n. may_end (stage_of n) a.depth) c.before.if1.true) c.no_entry.ensures
 
 returns-2 : tie.Need-returns-2
-returns-2 c = let a = c.before.before.before.args in only_no (ap (λ n. mayEnd (stageOf n) a.depth) c.before.if2.true) c.no-entry2.ensures
+returns-2 c = let a = c.before.before.before.args in only_no (ap (λ n. may_end (stage_of n) a.depth) c.before.if2.true) c.no-entry2.ensures
 
 returns-3 : tie.Need-returns-3
 returns-3 c =
     let e = c.before.before in
     let a = e.before.before.args in
-    only_no ((behind-token a.stage a.depth e.before.if1.false e.if2.false).2 ∙ ne_eqb a.depth 0 (λ z. omega (arith, c.before.if3.true, z)))
+    only_no ((behind_token a.stage a.depth e.before.if1.false e.if2.false).2 ∙ ne_eqb a.depth 0 (λ z. omega (arith, c.before.if3.true, z)))
     c.no-entry3.ensures
 
 returns-4 : tie.Need-returns-4
 returns-4 c =
     let e = c.before in
     let a = e.before.before.args in
-    only_so ((behind-token a.stage a.depth e.before.if1.false e.if2.false).2 ∙ eq-eqb a.depth 0 (omega (arith, c.if3.false))) refl
+    only_so ((behind_token a.stage a.depth e.before.if1.false e.if2.false).2 ∙ eq-eqb a.depth 0 (omega (arith, c.if3.false))) refl
 
 pub ended-spec : {M : Type 1} → statement M
 ended-spec =

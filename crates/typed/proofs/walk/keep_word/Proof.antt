@@ -8,10 +8,10 @@ use mathlib.Core.Bool.{true≢false}
 use mathlib.Core.List.{List}
 use lib.ListN.{length, set}
 use lib.Seq.{set_out}
-use Rattle.paper.specs.Format.{mostEntries}
+use Rattle.paper.specs.Format.{most_entries}
 use Rattle.grammar.specs.Grammar.{Name}
 use Rattle.names.specs.Word.{Holds}
-use Rattle.typed.specs.Matching.{soleNumber, Listed}
+use Rattle.typed.specs.Matching.{sole_number, Listed}
 use borrow.Author.Rules.{rules}
 use borrow.Author.Tests.{not-true, not-false}
 use Rattle.typed.proofs.walk.keep_word.Statement.{statement}
@@ -33,13 +33,13 @@ put : (c : tie.Joined2) →
     let n = a.w.entries in
     (c.if2.levels ≡ set a.w.levels n (suc a.depth))
     × ((name : Name) → Holds r.read_word.result name → (ts : List (List ℕ)) → Listed ts a.parents.now a.labels.now a.count
-    → c.if2.types ≡ set a.w.types n (soleNumber ts name))
+    → c.if2.types ≡ set a.w.types n (sole_number ts name))
 put c =
     let a = (begun (read c)).args in
     let n = a.w.entries in
-    let long : length a.w.levels ≡ mostEntries = search rules in
+    let long : length a.w.levels ≡ most_entries = search rules in
     let out : 16 ≤ n → length a.w.levels ≤ n = λ le. omega (arith, le, long) in
-    let long' : length a.w.types ≡ mostEntries = search rules in
+    let long' : length a.w.types ≡ most_entries = search rules in
     let out' : 16 ≤ n → length a.w.types ≤ n = λ le. omega (arith, le, long') in
     ⊎_elim
     (λ x. (
@@ -48,7 +48,7 @@ put c =
     ))
     (λ x. (
       x.1 ∙ sym (set_out a.w.levels n (suc a.depth) (out x.0.left)),
-      λ name held ts listed. x.2 ∙ sym (set_out a.w.types n (soleNumber ts name) (out' x.0.left)),
+      λ name held ts listed. x.2 ∙ sym (set_out a.w.types n (sole_number ts name) (out' x.0.left)),
     ))
     c.if2.branch
 
@@ -56,14 +56,14 @@ returns : tie.Need-returns
 returns c =
     let r : tie.After-read-word = search in
     let read = r.read_word.ensures in
-    let wrong = c.no-entry.ensures.0 in
+    let wrong = c.no_entry.ensures.0 in
     let none = not-true _ c.before.if1.true in
     record {
       name = read.name;
-      spells-none = λ _. read.spells-none none;
+      spells_none = λ _. read.spells_none none;
       spells_one = λ t. absurd (true≢false (sym t ∙ wrong));
       one_more = λ t. absurd (true≢false (sym t ∙ wrong));
-      level-put = λ t. absurd (true≢false (sym t ∙ wrong));
+      level_put = λ t. absurd (true≢false (sym t ∙ wrong));
       type_put = λ t. absurd (true≢false (sym t ∙ wrong));
     }
 
@@ -73,10 +73,10 @@ returns-2 c =
     let word = r.read_word.ensures in
     record {
       name = word.name;
-      spells-none = λ t. absurd (true≢false t);
+      spells_none = λ t. absurd (true≢false t);
       spells_one = λ _. word.spells_one (not-false _ (one c).if1.false);
       one_more = λ _. refl;
-      level-put = λ _. (put c).0;
+      level_put = λ _. (put c).0;
       type_put = λ _. (put c).1 word.name word.held;
     }
 

@@ -6,20 +6,20 @@ use mathlib.Core.Bool.{true}
 use borrow.Author.Rules.{rules}
 use borrow.Author.Tests.{not-true, not-false}
 use lib.ListN.{length, get_or, drop, length-take, length-drop}
-use Rattle.paper.specs.Format.{mostEntries}
+use Rattle.paper.specs.Format.{most_entries}
 use Rattle.grammar.specs.Grammar.{plain}
-use Rattle.grammar.specs.Reader.{mayName, mayClose}
-use Rattle.typed.specs.Walk.{stageOf, mayStand}
-use Rattle.typed.proofs.Stages.{stands-open, stands-close, stands-name, close_deep}
+use Rattle.grammar.specs.Reader.{may_name, may_close}
+use Rattle.typed.specs.Walk.{stage_of, may_stand}
+use Rattle.typed.proofs.Stages.{stands_open, stands_close, stands_name, close_deep}
 use Rattle.typed.proofs.Runs.{plain_byte, run_on, word_bytes}
-use Rattle.typed.proofs.Walking.{Going, walks-wrong, walks-ended, going_start, going-space, going-open, going-close, going-stop}
-use Rattle.typed.proofs.Walking.{word-stop, going-word}
+use Rattle.typed.proofs.Walking.{Going, walks_wrong, walks_ended, going_start, going_space, going_open, going_close, going_stop}
+use Rattle.typed.proofs.Walking.{word-stop, going_word}
 use Rattle.typed.proofs.walk.walk_text.Statement.{statement}
 use Rattle.typed.proofs.walk.walk_text.Tie as tie
 
 abbrev invariant-loop : tie.invariant-loop
 invariant-loop text f parents labels count w₀ stage₀ depth₀ p₀ w stage depth p =
-    (p ≤ length text) × (depth ≤ p) × (w.entries ≤ p) × (length w.levels ≡ mostEntries) × (length w.types ≡ mostEntries)
+    (p ≤ length text) × (depth ≤ p) × (w.entries ≤ p) × (length w.levels ≡ most_entries) × (length w.types ≡ most_entries)
     × Going f text parents labels count w stage depth p
 
 abbrev decreases-loop : tie.decreases-loop
@@ -41,16 +41,16 @@ read m = m.before.before.before
 
 stands : (m : tie.Else2 invariant-loop decreases-loop) →
     let l = turn (read m) in
-    mayStand (get_or (begun l).args.text.now l.loop.p 0) (stageOf l.loop.stage) l.loop.depth ≡ true
+    may_stand (get_or (begun l).args.text.now l.loop.p 0) (stage_of l.loop.stage) l.loop.depth ≡ true
 stands m = sym m.before.may-stand.ensures ∙ not-false _ m.if2.false
 
 closes : (e : tie.Then4 invariant-loop decreases-loop) →
     let v = (turn (read e.before.before)).loop in
-    mayClose (stageOf v.stage) v.depth ≡ true
+    may_close (stage_of v.stage) v.depth ≡ true
 closes e =
     let m = e.before.before in
     let v = (turn (read m)).loop in
-    sym (stands-close _ (stageOf v.stage) v.depth e.before.if3.false e.if4.true) ∙ stands m
+    sym (stands_close _ (stage_of v.stage) v.depth e.before.if3.false e.if4.true) ∙ stands m
 
 is_word : (e : tie.Else4 invariant-loop decreases-loop) →
     let l = turn (read e.before.before) in
@@ -59,11 +59,11 @@ is_word e = plain_byte _ e.before.before.before.before.if1.false e.before.if3.fa
 
 names : (e : tie.Else4 invariant-loop decreases-loop) →
     let v = (turn (read e.before.before)).loop in
-    mayName (stageOf v.stage) v.depth ≡ true
+    may_name (stage_of v.stage) v.depth ≡ true
 names e =
     let m = e.before.before in
     let v = (turn (read m)).loop in
-    sym (stands-name _ (stageOf v.stage) v.depth e.before.if3.false e.if4.false) ∙ stands m
+    sym (stands_name _ (stage_of v.stage) v.depth e.before.if3.false e.if4.false) ∙ stands m
 
 -- a word ends behind its first byte
 ends-later : (w : tie.After-word-end invariant-loop decreases-loop) → (turn (read w.before.before.before)).loop.p < w.word-end.result
@@ -75,20 +75,20 @@ ends-later w =
 -- the lists of what was walked have their places
 long : (k : tie.After-keep-word invariant-loop decreases-loop) →
     let r = k.keep_word.result in
-    (length r.levels ≡ mostEntries) × (length r.types ≡ mostEntries)
+    (length r.levels ≡ most_entries) × (length r.types ≡ most_entries)
 long k = let ok = k.keep_word.type-inv in search rules
 
 loop-holds : tie.Need-loop-init invariant-loop decreases-loop
 loop-holds c =
     let s = lent c in
     let a = s.args in
-    let (right, _, none) = c.no-entry.ensures in (
+    let (right, _, none) = c.no_entry.ensures in (
       omega arith,
       omega arith,
       omega (arith, none),
       search rules,
       search rules,
-      going_start a.f a.text.now a.parents.now a.labels.now a.count c.no-entry.result right none s.pre.1,
+      going_start a.f a.text.now a.parents.now a.labels.now a.count c.no_entry.result right none s.pre.1,
     )
 
 loop-again : tie.Need-loop-preserved invariant-loop decreases-loop
@@ -102,7 +102,7 @@ loop-again c =
       omega arith,
       v.inv.3,
       v.inv.4,
-      going-space a.f a.text.now a.parents.now a.labels.now a.count
+      going_space a.f a.text.now a.parents.now a.labels.now a.count
           v.w v.stage v.depth v.p v.inv.5 b.before.loop-test.true c.if1.true,
     )
 
@@ -113,8 +113,8 @@ returns c =
     let l = turn b in
     let a = (begun l).args in
     let v = l.loop in
-    walks-wrong a.f a.text.now a.parents.now a.labels.now a.count c.no-entry2.result v.p c.no-entry2.ensures
-    (going-stop a.f a.text.now a.parents.now a.labels.now a.count
+    walks_wrong a.f a.text.now a.parents.now a.labels.now a.count c.no-entry2.result v.p c.no-entry2.ensures
+    (going_stop a.f a.text.now a.parents.now a.labels.now a.count
     v.w v.stage v.depth v.p v.inv.5 b.before.loop-test.true m.before.if1.false
     (sym m.may-stand.ensures ∙ not-true _ c.before.if2.true))
 
@@ -125,18 +125,18 @@ loop-again-2 c =
     let l = turn b in
     let a = (begun l).args in
     let v = l.loop in
-    let opens = sym (stands-open _ (stageOf v.stage) v.depth c.if3.true) ∙ stands m in (
+    let opens = sym (stands_open _ (stage_of v.stage) v.depth c.if3.true) ∙ stands m in (
       omega arith,
       omega arith,
       omega arith,
       v.inv.3,
       v.inv.4,
-      going-open a.f a.text.now a.parents.now a.labels.now a.count
+      going_open a.f a.text.now a.parents.now a.labels.now a.count
           v.w v.stage v.depth v.p v.inv.5 b.before.loop-test.taken c.if3.true opens,
     )
 
 sub-depth : tie.Need-overflow-sub-depth invariant-loop decreases-loop
-sub-depth c = let v = (turn (read c.before.before)).loop in close_deep (stageOf v.stage) v.depth (closes c)
+sub-depth c = let v = (turn (read c.before.before)).loop in close_deep (stage_of v.stage) v.depth (closes c)
 
 loop-again-3 : tie.Need-loop-preserved-3 invariant-loop decreases-loop
 loop-again-3 c =
@@ -149,7 +149,7 @@ loop-again-3 c =
       omega arith,
       v.inv.3,
       v.inv.4,
-      going-close a.f a.text.now a.parents.now a.labels.now a.count
+      going_close a.f a.text.now a.parents.now a.labels.now a.count
           v.w v.stage v.depth v.p v.inv.5 b.before.loop-test.taken c.if4.true (closes c),
     )
 
@@ -182,7 +182,7 @@ returns-2 c =
     let a = (begun l).args in
     let v = l.loop in
     let same = word_bytes a.text.now v.p w.word-end.result w.word-end.ensures.0 in
-    walks-wrong a.f a.text.now a.parents.now a.labels.now a.count c.no-entry3.result v.p c.no-entry3.ensures
+    walks_wrong a.f a.text.now a.parents.now a.labels.now a.count c.no-entry3.result v.p c.no-entry3.ensures
     (word-stop a.f a.text.now a.parents.now a.labels.now a.count
     v.w v.stage v.depth v.p v.inv.5 b.before.loop-test.taken (is_word e) (names e) _ same
     k.keep_word.result k.keep_word.ensures (not-true _ c.before.if5.true))
@@ -207,7 +207,7 @@ loop-again-4 c =
       omega (arith, later, v.inv.2, k.keep_word.ensures.one_more yet),
       (long k).0,
       (long k).1,
-      going-word a.f a.text.now a.parents.now a.labels.now a.count
+      going_word a.f a.text.now a.parents.now a.labels.now a.count
           v.w v.stage v.depth v.p v.inv.5 b.before.loop-test.taken (is_word e) (names e) _ same
           k.keep_word.result k.keep_word.ensures yet w.word-end.result w.word-end.ensures.0,
     )
@@ -217,7 +217,7 @@ returns-3 c =
     let l = c.before.before in
     let a = (begun l).args in
     let v = l.loop in
-    walks-ended a.f a.text.now a.parents.now a.labels.now a.count
+    walks_ended a.f a.text.now a.parents.now a.labels.now a.count
     v.w v.stage v.depth v.p v.invariant.5 c.before.loop-test.false v.invariant.3 v.invariant.4 v.invariant.0 c.ended.result c.ended.ensures
 
 pub walk-text-spec : {M : Type 1} → statement M

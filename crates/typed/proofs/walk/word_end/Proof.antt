@@ -7,7 +7,7 @@ use mathlib.Core.Logic.{⊎_elim}
 use borrow.Author.Rules.{rules}
 use lib.ListN.{length, get_or, drop}
 use Rattle.grammar.specs.Grammar.{plain, run}
-use Rattle.typed.proofs.Runs.{plain_byte, plain-above, run_end, run-stop, run_on}
+use Rattle.typed.proofs.Runs.{plain_byte, plain_above, run_end, run-stop, run_on}
 use Rattle.typed.proofs.walk.word_end.Statement.{statement}
 use Rattle.typed.proofs.walk.word_end.Tie as tie
 
@@ -48,7 +48,7 @@ goes_on : (c : tie.Joined1 invariant-loop decreases-loop) →
 goes_on c =
     let l = turn c.before in
     let b = get_or l.before.args.text.now l.loop.q 0 in
-    ⊎_elim (λ w. plain_byte b w.1.left w.2.left w.3.left) (λ w. plain-above b w.left) c.if1.branch
+    ⊎_elim (λ w. plain_byte b w.1.left w.2.left w.3.left) (λ w. plain_above b w.left) c.if1.branch
 
 loop-again : tie.Need-loop-preserved invariant-loop decreases-loop
 loop-again c =

@@ -1,7 +1,7 @@
 -- `list::find_type`: no type before type k has this parent and label. Assumes nothing.
 use Prim.Native.Nat.{◌≤◌, ◌-◌}
 use native.Mathlib.Nat.{not-suc-le-zero}
-use Rattle.types.proofs.Search.{Missed, missed_more, missed-all}
+use Rattle.types.proofs.Search.{Missed, missed_more, missed_all}
 use native.Mathlib.Omega.{arith}
 use borrow.Author.Rules.{rules}
 use Rattle.types.proofs.list.find_type.Statement.{statement}
@@ -40,7 +40,7 @@ returns-2 c =
     record {
       within = omega arith;
       found = λ lt. let z : ⊥ = omega arith in absurd z;
-      passed = missed-all a.parents.now a.labels.now a.p a.a l.loop.k a.count (omega arith) l.loop.invariant.1;
+      passed = missed_all a.parents.now a.labels.now a.p a.a l.loop.k a.count (omega arith) l.loop.invariant.1;
     }
 
 pub find-type-spec : {M : Type 1} → statement M

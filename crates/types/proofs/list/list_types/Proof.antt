@@ -3,10 +3,10 @@ use Prim.Native.Nat.{ℕ, ◌-◌, ◌<◌, ◌≤◌}
 use native.Mathlib.Omega.{arith}
 use mathlib.Core.Path.{◌≡◌, refl}
 use mathlib.Core.List.{List}
-use Rattle.paper.specs.Format.{rowBytes, byte, word, whole}
+use Rattle.paper.specs.Format.{row_bytes, byte, word, whole}
 use Rattle.paper.proofs.Calls.{count-rows}
 use Rattle.tables.proofs.Rows.{rec, row_in}
-use Rattle.types.proofs.Listed.{Walk, walk_start, lists-end, l-pos, l-fits, walk-known, walk-new, walk-full}
+use Rattle.types.proofs.Listed.{Walk, walk_start, lists_end, l_pos, l_fits, walk_known, walk_new, walk_full}
 use borrow.Author.Rules.{rules}
 use Rattle.types.proofs.list.list_types.Statement.{statement}
 use Rattle.types.proofs.list.list_types.Tie as tie
@@ -22,7 +22,7 @@ abbrev begun : tie.At-loop invariant-loop decreases-loop → tie.Start invariant
 begun l = l.before.before.before
 
 abbrev row_of : tie.At-loop invariant-loop decreases-loop → List ℕ
-row_of l = rec (rowBytes (begun l).args.f) l.loop.i (begun l).args.table.now
+row_of l = rec (row_bytes (begun l).args.f) l.loop.i (begun l).args.table.now
 
 abbrev held : tie.After-word invariant-loop decreases-loop → tie.After-record invariant-loop decreases-loop
 held c = c.before.before.before
@@ -30,24 +30,24 @@ held c = c.before.before.before
 abbrev turn : tie.After-word invariant-loop decreases-loop → tie.At-loop invariant-loop decreases-loop
 turn c = (held c).before.before.before
 
-abbrev levelOf : tie.After-word invariant-loop decreases-loop → ℕ
-levelOf c = c.before.wide.result
+abbrev level_of : tie.After-word invariant-loop decreases-loop → ℕ
+level_of c = c.before.wide.result
 
 -- row i is a row of the table, and its level and label are those that are read
-here : (c : tie.After-word invariant-loop decreases-loop) → (turn c).loop.i < whole (rowBytes (begun (turn c)).args.f) (begun (turn c)).args.table.now
+here : (c : tie.After-word invariant-loop decreases-loop) → (turn c).loop.i < whole (row_bytes (begun (turn c)).args.f) (begun (turn c)).args.table.now
 here c = let s : tie.Start invariant-loop decreases-loop = search in omega (arith, s.pre.0.0)
 
-level-is : (c : tie.After-word invariant-loop decreases-loop) → levelOf c ≡ byte (row_of (turn c)) 0
+level-is : (c : tie.After-word invariant-loop decreases-loop) → level_of c ≡ byte (row_of (turn c)) 0
 level-is c = cc
 
 label_is : (c : tie.After-word invariant-loop decreases-loop) → c.word.result ≡ word (row_of (turn c)) 2
 label_is c = cc
 
-level-within : (c : tie.After-word invariant-loop decreases-loop) → (1 ≤ levelOf c) × (levelOf c ≤ 8)
+level-within : (c : tie.After-word invariant-loop decreases-loop) → (1 ≤ level_of c) × (level_of c ≤ 8)
 level-within c =
     let s : tie.Start invariant-loop decreases-loop = search in
-    let fits = l-fits _ _ s.pre.1.0 _ (here c) _ _ (level-is c) (label_is c) in
-    (l-pos _ _ s.pre.1.0 _ (here c) _ _ (level-is c) (label_is c), omega (arith, fits, s.pre.0.2))
+    let fits = l_fits _ _ s.pre.1.0 _ (here c) _ _ (level-is c) (label_is c) in
+    (l_pos _ _ s.pre.1.0 _ (here c) _ _ (level-is c) (label_is c), omega (arith, fits, s.pre.0.2))
 
 loop-holds : tie.Need-loop-init invariant-loop decreases-loop
 loop-holds c = (omega arith, walk_start _ _ _ _ _ _ refl c.before.before.requires.1.1 refl refl refl, omega arith)
@@ -76,7 +76,7 @@ loop-again c =
     let v = l.loop in
     let found = c.before.find-near.ensures.found c.if1.true in (
       omega arith,
-      walk-known _ _ s.pre.1.0 _ (here r) _ _ (level-is r) (label_is r) _ _ _ _ _ _ v.inv.1 refl (omega (arith, s.pre.0.0)) s.pre.0.2
+      walk_known _ _ s.pre.1.0 _ (here r) _ _ (level-is r) (label_is r) _ _ _ _ _ _ v.inv.1 refl (omega (arith, s.pre.0.0)) s.pre.0.2
           _ c.if1.true found.0 found.1,
       omega (arith, c.if1.true, v.inv.1.pass.few),
     )
@@ -87,7 +87,7 @@ returns c =
     let l : tie.At-loop invariant-loop decreases-loop = search in
     let r : tie.After-word invariant-loop decreases-loop = search in
     let x : tie.After-find-near invariant-loop decreases-loop = search in
-    walk-full _ _ s.pre.1.0 _ (here r) _ _ (level-is r) (label_is r) _ _ _ _ _ _ l.loop.inv.1 refl
+    walk_full _ _ s.pre.1.0 _ (here r) _ _ (level-is r) (label_is r) _ _ _ _ _ _ l.loop.inv.1 refl
     (omega (arith, s.pre.0.0)) s.pre.0.2 (x.find-near.ensures.none (omega arith)) c.if2.true
 
 array-write-stack-3 : tie.Need-array-write-stack-3 invariant-loop decreases-loop
@@ -100,7 +100,7 @@ loop-again-2 c =
     let s = begun (turn r) in
     let v = (turn r).loop in (
       omega arith,
-      walk-new _ _ s.pre.1.0 _ (here r) _ _ (level-is r) (label_is r) _ _ _ _ _ _ v.inv.1 refl (omega (arith, s.pre.0.0)) s.pre.0.2
+      walk_new _ _ s.pre.1.0 _ (here r) _ _ (level-is r) (label_is r) _ _ _ _ _ _ v.inv.1 refl (omega (arith, s.pre.0.0)) s.pre.0.2
           (x.find-near.ensures.none (omega arith)) (omega (arith, v.inv.1.pass.few)),
       omega (arith, v.inv.1.pass.few),
     )
@@ -112,7 +112,7 @@ returns-2 c =
     let v = l.loop in
     let count = count-rows s.args.f s.args.table.now in
     let all : v.i ≡ s.args.rows = omega (arith, v.invariant.0) in
-    rw (← all) (lists-end _ _ _ _ _ _ _ (omega (arith, count, s.pre.0.0)) (omega (arith, count, s.pre.0.0, v.invariant.1.ks-long)) v.invariant.1.pass)
+    rw (← all) (lists_end _ _ _ _ _ _ _ (omega (arith, count, s.pre.0.0)) (omega (arith, count, s.pre.0.0, v.invariant.1.ks_long)) v.invariant.1.pass)
 
 pub list-types-spec : {M : Type 1} → statement M
 list-types-spec =

@@ -2,10 +2,10 @@
 use native.Mathlib.Omega.{arith}
 use mathlib.Core.Path.{sym, ◌∙◌, ap}
 use Rattle.paper.specs.Format.{whole}
-use Rattle.paper.specs.Calls.{tests5-6}
-use Rattle.paper.specs.Widths.{shapeTo, entryDeep, moveShape}
-use Rattle.shapes.proofs.Examined.{examined-refused, examined-given, counted, few-entries}
-use Rattle.widths.proofs.Answers.{file-refused, shape-tested}
+use Rattle.paper.specs.Calls.{tests5_6}
+use Rattle.paper.specs.Widths.{shape_to, entry_deep, move_shape}
+use Rattle.shapes.proofs.Examined.{examined-refused, examined-given, counted, few_entries}
+use Rattle.widths.proofs.Answers.{file_refused, shape_tested}
 use borrow.Author.Rules.{rules}
 use Rattle.widths.proofs.moves.move_shape.Statement.{statement}
 use Rattle.widths.proofs.moves.move_shape.Tie as tie
@@ -14,13 +14,13 @@ abbrev begun : tie.After-examine-shape → tie.Start
 begun x = x.before.before.before
 
 returns : tie.Need-returns
-unfolding moveShape
+unfolding move_shape
 returns c =
     let x = c.before in
     let a = (begun x).args in
     let r = x.examine-shape.result in
     let s = a.shape.now in
-    file-refused (tests5-6 a.f s) (entryDeep a.g) (shapeTo a.f a.g s) a.new.now r.number r.place
+    file_refused (tests5_6 a.f s) (entry_deep a.g) (shape_to a.f a.g s) a.new.now r.number r.place
     (examined-refused a.f s r.number r.place r.entries x.examine-shape.ensures c.if1.true)
 
 move-tested-requires : tie.Need-move-tested-requires
@@ -32,7 +32,7 @@ move-tested-requires c κs =
     let s = b.args.shape.now in
     let w = c.before.entry-bytes.ensures in
     let n = counted b.args.f s r.number r.place r.entries x.examine-shape.ensures e.if1.false in
-    let few = few-entries b.args.f s r.number r.place r.entries x.examine-shape.ensures e.if1.false in
+    let few = few_entries b.args.f s r.number r.place r.entries x.examine-shape.ensures e.if1.false in
     ((b.pre.0, b.pre.1, omega (arith, w), omega (arith, w)), (n ∙ ap (λ n. whole n s) (sym w), omega (arith, few)))
 
 returns-2 : tie.Need-returns-2
@@ -43,7 +43,7 @@ returns-2 c =
     let x = e.before in
     let a = (begun x).args in
     let r = x.examine-shape.result in
-    shape-tested a.f a.g _ _ a.shape.now a.new.now m.move-tested.result _ m.move-tested.ensures
+    shape_tested a.f a.g _ _ a.shape.now a.new.now m.move-tested.result _ m.move-tested.ensures
     (examined-given a.f a.shape.now r.number r.place r.entries x.examine-shape.ensures e.if1.false) b.entry-bytes.ensures
     (counted a.f a.shape.now r.number r.place r.entries x.examine-shape.ensures e.if1.false)
 

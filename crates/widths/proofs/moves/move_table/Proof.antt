@@ -1,13 +1,13 @@
 -- `moves::move_table`: what the tests refuse, else what is left to be tested of the rows. Assumes nothing.
 use native.Mathlib.Omega.{arith}
 use mathlib.Core.Path.{◌≡◌, sym, ◌∙◌, ap}
-use Rattle.paper.specs.Format.{rowBytes, whole}
+use Rattle.paper.specs.Format.{row_bytes, whole}
 use Rattle.paper.specs.Tables.{rows}
-use Rattle.paper.specs.Calls.{given, tests1-3}
-use Rattle.paper.specs.Widths.{tableTo, rowDeep, moveTable}
-use Rattle.paper.proofs.Calls.{count-rows, few-rows, passed1-3}
+use Rattle.paper.specs.Calls.{given, tests1_3}
+use Rattle.paper.specs.Widths.{table_to, row_deep, move_table}
+use Rattle.paper.proofs.Calls.{count-rows, few_rows, passed1_3}
 use Rattle.tables.proofs.Examine.{examined-refused, examined-given}
-use Rattle.widths.proofs.Answers.{file-refused, table-tested}
+use Rattle.widths.proofs.Answers.{file_refused, table_tested}
 use borrow.Author.Rules.{rules}
 use Rattle.widths.proofs.moves.move_table.Statement.{statement}
 use Rattle.widths.proofs.moves.move_table.Tie as tie
@@ -16,19 +16,19 @@ abbrev begun : tie.After-examine → tie.Start
 begun x = x.before.before.before
 
 returns : tie.Need-returns
-unfolding moveTable
+unfolding move_table
 returns c =
     let x = c.before in
     let a = (begun x).args in
     let r = x.examine.result in
     let t = a.table.now in
-    file-refused (tests1-3 a.f t) (rowDeep a.g) (tableTo a.f a.g t) a.new.now r.number r.place
+    file_refused (tests1_3 a.f t) (row_deep a.g) (table_to a.f a.g t) a.new.now r.number r.place
     (examined-refused a.f t r.number r.place r.rows x.examine.ensures c.if1.true)
 
 -- the tests are passed
 passed : (c : tie.Else1) →
     let a = (begun c.before).args in
-    (tests1-3 a.f a.table.now ≡ given (rows a.f a.table.now)) × (c.before.examine.result.rows ≡ whole (rowBytes a.f) a.table.now)
+    (tests1_3 a.f a.table.now ≡ given (rows a.f a.table.now)) × (c.before.examine.result.rows ≡ whole (row_bytes a.f) a.table.now)
 passed c =
     let a = (begun c.before).args in
     let r = c.before.examine.result in
@@ -43,7 +43,7 @@ move-tested-requires c κs =
     let w = c.before.row-bytes.ensures in
     let (tests, counted) = passed e in (
       (s.pre.0, s.pre.1, omega (arith, w), omega (arith, w)),
-      (counted ∙ ap (λ n. whole n t) (sym w), omega (arith, counted, count-rows f t, few-rows f t (passed1-3 f t (rows f t) tests).2)),
+      (counted ∙ ap (λ n. whole n t) (sym w), omega (arith, counted, count-rows f t, few_rows f t (passed1_3 f t (rows f t) tests).2)),
     )
 
 returns-2 : tie.Need-returns-2
@@ -52,7 +52,7 @@ returns-2 c =
     let b = m.before.before in
     let a = (begun b.before.before).args in
     let (tests, counted) = passed b.before in
-    table-tested a.f a.g _ _ a.table.now a.new.now m.move-tested.result _ m.move-tested.ensures tests b.row-bytes.ensures counted
+    table_tested a.f a.g _ _ a.table.now a.new.now m.move-tested.result _ m.move-tested.ensures tests b.row-bytes.ensures counted
 
 pub move-table-spec : {M : Type 1} → statement M
 move-table-spec =

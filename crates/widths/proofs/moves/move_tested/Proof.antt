@@ -5,11 +5,11 @@ use native.Mathlib.Omega.{arith}
 use mathlib.Core.Path.{◌≡◌, sym, ◌∙◌, ap}
 use lib.ListN.{length}
 use lib.Seq.{sets}
-use Rattle.paper.specs.Format.{mostRows}
-use Rattle.paper.specs.Widths.{recordsTo}
-use Rattle.bytes.specs.Served.{mostBytes}
-use Rattle.widths.proofs.Moving.{records-to-lem, records-length}
-use Rattle.widths.proofs.Answers.{tested-deep, tested-short, tested-written}
+use Rattle.paper.specs.Format.{most_rows}
+use Rattle.paper.specs.Widths.{records_to}
+use Rattle.octets.specs.Served.{most_bytes}
+use Rattle.widths.proofs.Moving.{records_to_lem, records-length}
+use Rattle.widths.proofs.Answers.{tested_deep, tested_short, tested_written}
 use borrow.Author.Rules.{rules}
 use Rattle.widths.proofs.moves.move_tested.Statement.{statement}
 use Rattle.widths.proofs.moves.move_tested.Tie as tie
@@ -25,12 +25,12 @@ returns : tie.Need-returns
 returns c =
     let x = c.before in
     let a = (begun x).args in
-    tested-deep a.f a.g a.w a.count a.b.now a.new.now x.first-deep.result x.first-deep.ensures c.if1.true
+    tested_deep a.f a.g a.w a.count a.b.now a.new.now x.first-deep.result x.first-deep.ensures c.if1.true
 
 -- so many bytes are asked
 asked : (m : tie.After-moved-bytes) →
     let a = (begun (looked m)).args in
-    length (recordsTo a.f a.g a.w a.b.now) ≡ m.moved-bytes.result * a.count
+    length (records_to a.f a.g a.w a.b.now) ≡ m.moved-bytes.result * a.count
 asked m =
     let s = begun (looked m) in
     let a = s.args in
@@ -40,8 +40,8 @@ asked m =
 mul-if2 : tie.Need-overflow-mul-if2
 mul-if2 c =
     let s = begun (looked c) in
-    let each : c.moved-bytes.result ≤ mostBytes + mostBytes = search rules in
-    let fits : c.moved-bytes.result * s.args.count ≤ (mostBytes + mostBytes) * mostRows = mul-le-mul each s.pre.1.1 in
+    let each : c.moved-bytes.result ≤ most_bytes + most_bytes = search rules in
+    let fits : c.moved-bytes.result * s.args.count ≤ (most_bytes + most_bytes) * most_rows = mul-le-mul each s.pre.1.1 in
     search rules
 
 returns-2 : tie.Need-returns-2
@@ -49,7 +49,7 @@ returns-2 c =
     let m = c.before in
     let x = looked m in
     let a = (begun x).args in
-    tested-short a.f a.g a.w a.count a.b.now a.new.now x.first-deep.result x.first-deep.ensures
+    tested_short a.f a.g a.w a.count a.b.now a.new.now x.first-deep.result x.first-deep.ensures
     m.before.before.before.if1.false (omega (arith, asked m, c.if2.true))
 
 move-records-requires : tie.Need-move-records-requires
@@ -65,9 +65,9 @@ returns-3 c =
     let x = looked m in
     let s = begun x in
     let a = s.args in
-    let written = records-to-lem a.f a.g a.w a.b.now _ _ a.count m.before.before.entry-bytes.ensures m.before.entry-bytes2.ensures
+    let written = records_to_lem a.f a.g a.w a.b.now _ _ a.count m.before.before.entry-bytes.ensures m.before.entry-bytes2.ensures
     s.pre.1.0 in
-    tested-written a.f a.g a.w a.count a.b.now a.new.now x.first-deep.result x.first-deep.ensures
+    tested_written a.f a.g a.w a.count a.b.now a.new.now x.first-deep.result x.first-deep.ensures
     m.before.before.before.if1.false (omega (arith, asked m, w.before.before.if2.false)) _
     (w.move-records.ensures ∙ ap (sets a.new.now 0) written)
 

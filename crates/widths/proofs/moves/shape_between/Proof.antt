@@ -1,6 +1,6 @@
 -- `widths::moves::shape_between` meets its contract. Assumes nothing.
-use Rattle.paper.specs.Widths.{moveShape}
-use Rattle.bytes.proofs.Laws.{format-served}
+use Rattle.paper.specs.Widths.{move_shape}
+use Rattle.octets.proofs.Laws.{format_served}
 use Rattle.widths.proofs.Between.{between}
 use borrow.Author.Rules.{rules}
 use Rattle.widths.proofs.moves.shape_between.Statement.{statement}
@@ -10,14 +10,14 @@ move-shape-requires : tie.Need-move-shape-requires
 move-shape-requires c κs =
     let g = c.before in
     let a = g.before.before.before.before.args in
-    (format-served _ a.from g.before.format-of.ensures, format-served _ a.to g.format-of2.ensures)
+    (format_served _ a.from g.before.format-of.ensures, format_served _ a.to g.format-of2.ensures)
 
 returns : tie.Need-returns
 returns c =
     let m = c.before.before in
     let g = m.before.before in
     let a = g.before.before.before.before.args in
-    between moveShape _ _ a.from a.to g.before.format-of.ensures g.format-of2.ensures _ _ _ _ m.move-shape.ensures
+    between move_shape _ _ a.from a.to g.before.format-of.ensures g.format-of2.ensures _ _ _ _ m.move-shape.ensures
 
 pub shape-between-spec : {M : Type 1} → statement M
 shape-between-spec = tie.close (tie.spec (λ c κs. search rules) (λ c κs. search rules) move-shape-requires (λ c. search rules) returns)

@@ -4,14 +4,14 @@ use native.Mathlib.Omega.{arith}
 use mathlib.Core.Path.{sym, ◌∙◌, ap}
 use Rattle.paper.specs.Format.{records}
 use Rattle.tables.proofs.Rows.{rec, row_in}
-use Rattle.tables.proofs.Walks.{Looking, looking-start, looking-stop, looking-on, looking-end, count-records, next-record}
-use Rattle.widths.specs.Moves.{recordDeep}
+use Rattle.tables.proofs.Walks.{Looking, looking_start, looking_stop, looking_on, looking_end, count-records, next_record}
+use Rattle.widths.specs.Moves.{record_deep}
 use borrow.Author.Rules.{rules}
 use Rattle.widths.proofs.records.first_deep.Statement.{statement}
 use Rattle.widths.proofs.records.first_deep.Tie as tie
 
 abbrev invariant-loop : tie.invariant-loop
-invariant-loop b w count levels i₀ i = Looking (recordDeep levels) (records w count b) count i
+invariant-loop b w count levels i₀ i = Looking (record_deep levels) (records w count b) count i
 
 abbrev decreases-loop : tie.decreases-loop
 decreases-loop b w count levels i₀ i = count - i
@@ -20,7 +20,7 @@ abbrev begun : tie.At-loop invariant-loop decreases-loop → tie.Start invariant
 begun l = l.before.before
 
 loop-holds : tie.Need-loop-init invariant-loop decreases-loop
-loop-holds c = let a = c.before.args in looking-start (recordDeep a.levels) (records a.w a.count a.b.now) a.count
+loop-holds c = let a = c.before.args in looking_start (record_deep a.levels) (records a.w a.count a.b.now) a.count
 
 record-requires : tie.Need-record-requires invariant-loop decreases-loop
 record-requires c κs = let s = begun c.before in row_in s.args.w c.before.loop.i s.args.b.now (omega (arith, s.pre.1, c.loop-test.true))
@@ -29,22 +29,22 @@ returns : tie.Need-returns invariant-loop decreases-loop
 returns c =
     let l = c.before.before.before.before in
     let a = (begun l).args in
-    looking-stop (recordDeep a.levels) (records a.w a.count a.b.now) a.count l.loop.i l.loop.invariant (omega arith)
-    (rec a.w l.loop.i a.b.now) (next-record a.w a.count a.b.now l.loop.i (omega arith))
-    (sym (c.before.is-deep.ensures ∙ ap (recordDeep a.levels) c.before.before.«record».ensures.0) ∙ c.if1.true)
+    looking_stop (record_deep a.levels) (records a.w a.count a.b.now) a.count l.loop.i l.loop.invariant (omega arith)
+    (rec a.w l.loop.i a.b.now) (next_record a.w a.count a.b.now l.loop.i (omega arith))
+    (sym (c.before.is-deep.ensures ∙ ap (record_deep a.levels) c.before.before.«record».ensures.0) ∙ c.if1.true)
 
 loop-again : tie.Need-loop-preserved invariant-loop decreases-loop
 loop-again c =
     let l = c.before.before.before.before in
     let a = (begun l).args in
-    looking-on (recordDeep a.levels) (records a.w a.count a.b.now) a.count l.loop.i l.loop.invariant (omega arith)
-    (rec a.w l.loop.i a.b.now) (next-record a.w a.count a.b.now l.loop.i (omega arith))
-    (sym (c.before.is-deep.ensures ∙ ap (recordDeep a.levels) c.before.before.«record».ensures.0) ∙ c.if1.false)
+    looking_on (record_deep a.levels) (records a.w a.count a.b.now) a.count l.loop.i l.loop.invariant (omega arith)
+    (rec a.w l.loop.i a.b.now) (next_record a.w a.count a.b.now l.loop.i (omega arith))
+    (sym (c.before.is-deep.ensures ∙ ap (record_deep a.levels) c.before.before.«record».ensures.0) ∙ c.if1.false)
 
 returns-2 : tie.Need-returns-2 invariant-loop decreases-loop
 returns-2 c =
     let a = (begun c.before).args in
-    looking-end (recordDeep a.levels) (records a.w a.count a.b.now) a.count c.before.loop.i c.before.loop.invariant
+    looking_end (record_deep a.levels) (records a.w a.count a.b.now) a.count c.before.loop.i c.before.loop.invariant
     (count-records a.w a.count a.b.now) c.loop-test.false
 
 pub first-deep-spec : {M : Type 1} → statement M

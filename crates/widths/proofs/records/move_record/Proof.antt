@@ -1,5 +1,5 @@
 -- `records::move_record`: the list, then the rest behind it. Assumes nothing.
-use Rattle.widths.proofs.Moving.{record-written}
+use Rattle.widths.proofs.Moving.{record_written}
 use borrow.Author.Rules.{rules}
 use Rattle.widths.proofs.records.move_record.Statement.{statement}
 use Rattle.widths.proofs.records.move_record.Tie as tie
@@ -9,7 +9,7 @@ returns c =
     let s : tie.Start = search in let a = s.args in
     let listed : tie.After-put-list = search in
     let put : tie.After-put = search in
-    record-written a.r.now a.from a.to a.at a.new.now _ _ listed.put-list.ensures put.put.ensures
+    record_written a.r.now a.from a.to a.at a.new.now _ _ listed.put-list.ensures put.put.ensures
 
 pub move-record-spec : {M : Type 1} → statement M
 move-record-spec =

@@ -4,17 +4,17 @@ use native.Mathlib.Omega.{arith}
 use mathlib.Core.Path.{sym, ◌∙◌, ap, ap₂}
 use lib.ListN.{length}
 use lib.Seq.{sets}
-use Rattle.bytes.proofs.Laws.{record-in}
+use Rattle.octets.proofs.Laws.{record_in}
 use Rattle.tables.proofs.Rows.{row_in}
 use Rattle.tables.proofs.Walks.{Going, going_start, going_on, going_end}
-use Rattle.widths.specs.Moves.{fitted, movedBytes}
-use Rattle.widths.proofs.Moving.{fitted-as}
+use Rattle.widths.specs.Moves.{fitted, moved_bytes}
+use Rattle.widths.proofs.Moving.{fitted_as}
 use borrow.Author.Rules.{rules}
 use Rattle.widths.proofs.records.move_records.Statement.{statement}
 use Rattle.widths.proofs.records.move_records.Tie as tie
 
 abbrev invariant-loop : tie.invariant-loop
-invariant-loop b w count from to new₀ each i₀ new i = (i ≤ count) × Going (fitted from to) w (movedBytes w from to) count b new₀ new i
+invariant-loop b w count from to new₀ each i₀ new i = (i ≤ count) × Going (fitted from to) w (moved_bytes w from to) count b new₀ new i
 
 abbrev decreases-loop : tie.decreases-loop
 decreases-loop b w count from to new₀ each i₀ new i = count - i
@@ -44,7 +44,7 @@ room c =
     let l = c.before in
     let s = begun l in
     let e = l.before.moved-bytes.ensures in
-    record-in l.before.moved-bytes.result l.loop.i s.args.count (length s.args.new.now) c.loop-test.true
+    record_in l.before.moved-bytes.result l.loop.i s.args.count (length s.args.new.now) c.loop-test.true
     (omega (arith, ap (λ n. n * s.args.count) e, s.pre.1.1))
 
 mul-move-record : tie.Need-overflow-mul-move-record invariant-loop decreases-loop
@@ -69,7 +69,7 @@ loop-again c =
     ∙ ap₂ (λ n x. sets l.loop.new (n * l.loop.i) (fitted a.from a.to x)) l.before.moved-bytes.ensures own.0 in (
       omega arith,
       going_on (fitted a.from a.to) a.w _ a.count a.b.now a.new.now l.loop.new l.loop.i l.loop.invariant.1
-          (fitted-as a.w a.from a.to) r.before.loop-test.true (sym (ap length own.0) ∙ own.1) _ put,
+          (fitted_as a.w a.from a.to) r.before.loop-test.true (sym (ap length own.0) ∙ own.1) _ put,
     )
 
 returns : tie.Need-returns invariant-loop decreases-loop

@@ -4,7 +4,7 @@ use native.Mathlib.Omega.{arith}
 use mathlib.Core.Path.{sym, ◌∙◌, subst}
 use lib.ListN.{take, drop, set, drop_of_length-le}
 use Rattle.paper.specs.Lists.{padded}
-use Rattle.bytes.proofs.Writing.{Writing, all_left, all-written, byte-written}
+use Rattle.octets.proofs.Writing.{Writing, all_left, all_written, byte_written}
 use Rattle.paper.proofs.Reread.{length-padded}
 use Rattle.widths.proofs.Moving.{padded-at}
 use borrow.Author.Rules.{rules}
@@ -35,7 +35,7 @@ loop-again c =
       omega arith,
       subst (λ v. Writing a.new.now a.at list (set l.loop.new (a.at + k) v) (a.at + (k + 1)) (drop (k + 1) list))
           (padded-at a.to first k lt ∙ sym c.byte_of.ensures)
-          (byte-written k list l.loop.invariant.1 (omega (arith, length-padded a.to first, lt))),
+          (byte_written k list l.loop.invariant.1 (omega (arith, length-padded a.to first, lt))),
     )
 
 returns : tie.Need-returns invariant-loop decreases-loop
@@ -43,7 +43,7 @@ returns c =
     let l = c.before in
     let a = l.before.before.before.args in
     let first = take a.from a.r.now in
-    all-written l.loop.invariant.1
+    all_written l.loop.invariant.1
     (drop_of_length-le (padded a.to first) {i = l.loop.k} (omega (arith, length-padded a.to first, c.loop-test.false)))
 
 pub put-list-spec : {M : Type 1} → statement M

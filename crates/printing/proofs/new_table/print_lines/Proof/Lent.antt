@@ -39,15 +39,15 @@ use denote.Triple.Clauses.{ensured, lasts}
 use denote.Triple.Spec.{triple_of}
 use denote.Triple.Statement.{Contract}
 use borrow.Author.Tests.{ltb-false}
-use Rattle.paper.specs.Format.{Format, rowBytes, whole}
+use Rattle.paper.specs.Format.{Format, row_bytes, whole}
 use Rattle.paper.specs.Widths.{format_of}
-use Rattle.paper.specs.Calls.{readerNext}
+use Rattle.paper.specs.Calls.{reader_next}
 use Rattle.paper.specs.declared.Width.{Width}
 use Rattle.paper.specs.contracts.Width as E
 use Rattle.paper.proofs.Width.TheLaws as E'
 use Rattle.reading.specs.Handed.{Handed}
 use Rattle.reading.specs.declared.reader.Reader.{Reader}
-use Rattle.reading.proofs.Reading.{readerNext-row, readerRow-end}
+use Rattle.reading.proofs.Reading.{reader_next-row, reader_row_end}
 use Rattle.reading.proofs.Held.{tag, width_is, cell, Table, Held, Asks-table, Asks-reader, passed}
 use Rattle.reading.proofs.reader.Reader.TheLaws as T'
 use Rattle.reading.specs.contracts.reader.make as make
@@ -78,12 +78,12 @@ sure false h = absurd h
 pub below : (m n : ℕ) → ltb m n ≡ true → m < n
 below m n e = ltb→lt m n (subst (λ (y : Bool). Holds y) (sym e) tt)
 
-pub goes_on : (f : Format) (s t : Bor (List ℕ)) (m : ℕ) → Handed f s m t → length t.now ≡ rowBytes f → readerNext f s.now m ≡ suc m
-goes_on f s t m h e = go (ltb m (whole (rowBytes f) s.now)) refl
+pub goes_on : (f : Format) (s t : Bor (List ℕ)) (m : ℕ) → Handed f s m t → length t.now ≡ row_bytes f → reader_next f s.now m ≡ suc m
+goes_on f s t m h e = go (ltb m (whole (row_bytes f) s.now)) refl
   where
-    go : (b : Bool) → ltb m (whole (rowBytes f) s.now) ≡ b → readerNext f s.now m ≡ suc m
-    go true more = readerNext-row f s.now m (below m (whole (rowBytes f) s.now) more)
-    go false none = omega (arith, e, ap length (h.0 ∙ readerRow-end f s.now m (ltb-false m (whole (rowBytes f) s.now) none)))
+    go : (b : Bool) → ltb m (whole (row_bytes f) s.now) ≡ b → reader_next f s.now m ≡ suc m
+    go true more = reader_next-row f s.now m (below m (whole (row_bytes f) s.now) more)
+    go false none = omega (arith, e, ap length (h.0 ∙ reader_row_end f s.now m (ltb-false m (whole (row_bytes f) s.now) none)))
 
 module _ {M : Type 1} {𝓤 : Ura M} (𝓛 : Logic 𝓤) where
   open 𝓛 use {H}
@@ -158,7 +158,7 @@ module _ {M : Type 1} {𝓤 : Ura M} (𝓛 : Logic 𝓤) (κ κ' : Lft) (q q' : 
 
 -- what `next` and `print_row` say of their results
 abbrev pub Printed : Width → Bor (List ℕ) → Bool → Type 0
-Printed w t b = b ≡ true → length t.now ≡ rowBytes (format_of w)
+Printed w t b = b ≡ true → length t.now ≡ row_bytes (format_of w)
 
 module _ {M : Type 1} {𝓤 : Ura M} (𝓛 : Logic 𝓤) (mem : Memory → SProp 𝓤) (run : Routine → Fun 𝓤) where
   abbrev pub Make : Contract 𝓤

@@ -51,7 +51,7 @@ use Rattle.paper.specs.declared.Width.{Width}
 use Rattle.paper.specs.contracts.Width as E
 use Rattle.paper.proofs.Width.TheLaws as E'
 use Rattle.reading.specs.declared.reader.Reader.{Reader}
-use Rattle.reading.proofs.Held.{tag, width_is, D, L, word, cell, Table, Held, reader, onward, Made, made-is, On, Found, make-said, next-said, row-said}
+use Rattle.reading.proofs.Held.{tag, width_is, D, L, word, cell, Table, Held, reader, onward, Made, made_is, On, Found, make_said, next_said, row-said}
 use Rattle.reading.specs.contracts.reader.Reader as T
 use Rattle.reading.proofs.reader.Reader.TheLaws as T'
 use Rattle.reading.specs.contracts.reader.make as make
@@ -127,8 +127,8 @@ module _ {M : Type 1} {𝓤 : Ura M} (𝓛 : Logic 𝓤) (mem : Memory → SProp
   After-row m x =
       later (some (λ (t : Bor (List ℕ)). (Token ⊛ ‵ (Part κ t x)) ⊛ raw (ensured 𝓛 row.ended (row.clauses 𝓛 mem run) (κ, tt) (here m, tt) tt t)))
 
-  abbrev to-next : ℕ → (Next 𝓛 mem run).Ghost
-  to-next m = (((κ, tt), (q, tt), tt, (here m, tt), (mach m ∷ [], tt)), tt)
+  abbrev to_next : ℕ → (Next 𝓛 mem run).Ghost
+  to_next m = (((κ, tt), (q, tt), tt, (here m, tt), (mach m ∷ [], tt)), tt)
 
   abbrev to-print : Bor (List ℕ) → Val → ℕ → (Print 𝓛 mem run).Ghost
   to-print t x m = (((κ, (κ', tt)), (q, (q', tt)), tt, (t, (w, (z, (m, tt)))), (x ∷ [], (tag w ∷ [], (cell z ∷ [], (vint w64 m ∷ [], tt))))), tt)
@@ -250,13 +250,13 @@ module _ {M : Type 1} {𝓤 : Ura M} (𝓛 : Logic 𝓤) (mem : Memory → SProp
           (λ no. skips ! $ exec ! C Λ En onwards (any_q (Turn m)) $
           assigns ! (of_opd ! (load ! (from ! (stop !)) (look ! 3 refl))) (from ! (stop !)) (init ! 10 refl wt) $
           -- `next`
-          move ! (2 ∷ 0 ∷ []) $ use2 𝓛 (raw ((Next 𝓛 mem run).pre (to-next m)) ⊛ ‵ (flft κ' q')) (lent 𝓛 κ κ' q q' (here m) (mach m)) $ split ! $
-          calls_at_last ! fm (Next 𝓛 mem run) known_next (to-next m) (and_then ! (load ! (from ! (stop !)) (look ! 10 refl)) (no_more !)) (λ u.
+          move ! (2 ∷ 0 ∷ []) $ use2 𝓛 (raw ((Next 𝓛 mem run).pre (to_next m)) ⊛ ‵ (flft κ' q')) (lent 𝓛 κ κ' q q' (here m) (mach m)) $ split ! $
+          calls_at_last ! fm (Next 𝓛 mem run) known_next (to_next m) (and_then ! (load ! (from ! (stop !)) (look ! 10 refl)) (no_more !)) (λ u.
           use1 𝓛 (later (some (λ (r : Reader). (Token ⊛ ‵ (Held κ r u)) ⊛ raw (Said-next 𝓛 mem run κ (here m) r)))) (id⊢ 𝓤 _) $
           await ! tt $ pick ! (λ r. split ! $ move ! (1 ∷ []) $
-          use1 𝓛 (raw (fact 𝓤 (On (here m) r))) (next-said 𝓛 mem run κ (here m) r) $ heard ! (On (here m) r) (λ on. split ! $ move ! (1 ∷ []) $
+          use1 𝓛 (raw (fact 𝓤 (On (here m) r))) (next_said 𝓛 mem run κ (here m) r) $ heard ! (On (here m) r) (λ on. split ! $ move ! (1 ∷ []) $
           peeks ! B (Is B) (shows 𝓛 B) r (u ∷ []) (λ is'.
-          let o : r ≡ here (suc m) = made-is w s (onward (here m)).at r on ∙ ap here (goes_on (format_of w) s t m h (p (sure b no))) in
+          let o : r ≡ here (suc m) = made_is w s (onward (here m)).at r on ∙ ap here (goes_on (format_of w) s t m h (p (sure b no))) in
           let v' : u ≡ mach (suc m) = ap only (LL.tells (D κ) (L κ) r (u ∷ []) is') ∙ ap (word κ) o in
           land_last ! (from ! (stop !)) (store ! 4 refl ((LL.lawful (T.the_type αᵉ) (T'.the_laws αᵉ) 𝓛).typed r _ is').0) $
           rewrite ! 4 (λ (y : Val). ‵ (fat full_share Rd l₅ 0 y)) v' refl $ rewrite ! 0 (λ (y : Val). ‵ (Held κ r y)) v' refl $
@@ -279,9 +279,9 @@ module _ {M : Type 1} {𝓤 : Ura M} (𝓛 : Logic 𝓤) (mem : Memory → SProp
           (and_then ! (load ! (from ! (stop !)) (look ! 10 refl))
           (and_then ! (load ! (from ! (stop !)) (look ! 11 refl)) (and_then ! (lit ! tt) (no_more !)))) (λ u.
           use1 𝓛 (After-make u) (id⊢ 𝓤 _) $ await ! tt $ pick ! (λ r. split ! $ move ! (1 ∷ []) $
-          use1 𝓛 (raw (fact 𝓤 (Made w s 0 r))) (make-said 𝓛 mem run κ w s 0 r) $ heard ! (Made w s 0 r) (λ e. split ! $ move ! (1 ∷ []) $
+          use1 𝓛 (raw (fact 𝓤 (Made w s 0 r))) (make_said 𝓛 mem run κ w s 0 r) $ heard ! (Made w s 0 r) (λ e. split ! $ move ! (1 ∷ []) $
           peeks ! B (Is B) (shows 𝓛 B) r (u ∷ []) (λ is.
-          let o : r ≡ here 0 = made-is w s 0 r e in
+          let o : r ≡ here 0 = made_is w s 0 r e in
           let v : u ≡ mach 0 = ap only (LL.tells (D κ) (L κ) r (u ∷ []) is) ∙ ap (word κ) o in
           land ! (from ! (stop !)) (init ! 3 refl ((LL.lawful (T.the_type αᵉ) (T'.the_laws αᵉ) 𝓛).typed r _ is).0) $
           rewrite ! 3 (λ (y : Val). ‵ (fat full_share Rd l₅ 0 y)) v refl $ rewrite ! 0 (λ (y : Val). ‵ (Held κ r y)) v refl $

@@ -1,9 +1,9 @@
 -- `long`: four words, the low one first, spell what eight bytes spell. Assumes nothing.
 use native.Mathlib.Omega.{arith}
-use Rattle.bytes.proofs.Laws.{four-words}
+use Rattle.octets.proofs.Laws.{four_words}
 use borrow.Author.Rules.{rules}
-use Rattle.bytes.proofs.long.Statement.{statement}
-use Rattle.bytes.proofs.long.Tie as tie
+use Rattle.octets.proofs.long.Statement.{statement}
+use Rattle.octets.proofs.long.Tie as tie
 
 returns : tie.Need-returns
 returns c =
@@ -11,7 +11,7 @@ returns c =
     let w : tie.After-word = search in
     omega (
       arith,
-      four-words s.args.b.now s.args.i,
+      four_words s.args.b.now s.args.i,
       c.word4.ensures.0,
       c.before.word3.ensures.0,
       c.before.before.word2.ensures.0,

@@ -1,8 +1,8 @@
 -- `word`: two bytes, the low one first. Assumes nothing.
-use Rattle.bytes.proofs.Laws.{word_bytes}
+use Rattle.octets.proofs.Laws.{word_bytes}
 use borrow.Author.Rules.{rules}
-use Rattle.bytes.proofs.word.Statement.{statement}
-use Rattle.bytes.proofs.word.Tie as tie
+use Rattle.octets.proofs.word.Statement.{statement}
+use Rattle.octets.proofs.word.Tie as tie
 
 returns : tie.Need-returns
 returns c =

@@ -2,8 +2,8 @@
 // a reader's contract is a definition of the paper; what the numbers mean is left to the layers above.
 ghost use Rattle.std.specs.Prelude.{◌≡◌, ◌+◌, ◌*◌, ◌≤◌, ◌<◌, length, take, drop};
 ghost use Rattle.std.proofs.lemmas.List.Edits.{sets};
-ghost use Rattle.paper.specs.Format.{rowBytes, entryBytes, word, number, span, bytes};
-ghost use Rattle.bytes.specs.Part.{OwnFrom};
+ghost use Rattle.paper.specs.Format.{row_bytes, entry_bytes, word, number, span, bytes};
+ghost use Rattle.octets.specs.Part.{OwnFrom};
 
 use paper::Format;
 
@@ -42,7 +42,7 @@ pub fn long(b: &[u8], i: usize) -> usize
 // The bytes of an entry of a shape.
 pub fn entry_bytes(f: Format) -> usize
     requires { f.levels ≤ 255 }
-    ensures { result ≡ entryBytes f }
+    ensures { result ≡ entry_bytes f }
 {
     4 + 2 * f.levels
 }
@@ -50,7 +50,7 @@ pub fn entry_bytes(f: Format) -> usize
 // The bytes of a row: its list, as in an entry, and its value.
 pub fn row_bytes(f: Format) -> usize
     requires { f.levels ≤ 255 }
-    ensures { result ≡ rowBytes f }
+    ensures { result ≡ row_bytes f }
 {
     entry_bytes(f) + 8
 }

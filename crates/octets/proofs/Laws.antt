@@ -11,7 +11,7 @@ use Rattle.paper.specs.Format.{Format, base, eight, word, number, span}
 use Rattle.paper.specs.Widths.{format_of}
 use Rattle.paper.specs.declared.Width.{Width}
 use Rattle.paper.specs.declared.Width.TheVariants.{Six, Eight}
-use Rattle.bytes.specs.Served.{Served}
+use Rattle.octets.specs.Served.{Served}
 
 -- two bytes, the low one first
 pub word_bytes : (b : List ℕ) (i lo hi : ℕ) → lo ≡ get_or b i 0 → hi ≡ get_or b (i + 1) 0 → lo + 256 * hi ≡ word b i
@@ -20,8 +20,8 @@ word_bytes b i lo hi el eh =
     omega (arith, e)
 
 -- eight bytes as four words, the low one first
-pub four-words : (b : List ℕ) (i : ℕ) → number (span 8 b i) ≡ (word b i + 65536 * word b (i + 2)) + 4294967296 * (word b (i + 4) + 65536 * word b (i + 6))
-four-words b i =
+pub four_words : (b : List ℕ) (i : ℕ) → number (span 8 b i) ≡ (word b i + 65536 * word b (i + 2)) + 4294967296 * (word b (i + 4) + 65536 * word b (i + 6))
+four_words b i =
     let e : (n m : ℕ) → m ≡ i + n → word b m ≡ word b (i + n) = λ n m h. ap (word b) h in
     omega (arith, e 2 (suc (suc i)) (omega arith), e 4 (suc (suc (suc (suc i)))) (omega arith), e 6 (suc (suc (suc (suc (suc (suc i)))))) (omega arith))
 
@@ -29,19 +29,19 @@ four-words b i =
 pub over : (i n : ℕ) → i + n - i ≡ n
 over i n = omega arith
 
-pub record-length : (t : List ℕ) (w i : ℕ) → w * i + w ≤ length t → length (take w (drop (w * i) t)) ≡ w
-record-length t w i h = simp (length-take, length-drop) (omega arith)
+pub record_length : (t : List ℕ) (w i : ℕ) → w * i + w ≤ length t → length (take w (drop (w * i) t)) ≡ w
+record_length t w i h = simp (length-take, length-drop) (omega arith)
 
 -- a record below the count lies within the table
-pub record-in : (w i n l : ℕ) → i < n → w * n ≤ l → w * i + w ≤ l
-record-in w i n l h f = let e : w * (i + 1) ≤ w * n = mul-le-mul_left w (omega arith) in omega (arith, simp (mul-add, mul-one) at e)
+pub record_in : (w i n l : ℕ) → i < n → w * n ≤ l → w * i + w ≤ l
+record_in w i n l h f = let e : w * (i + 1) ≤ w * n = mul-le-mul_left w (omega arith) in omega (arith, simp (mul-add, mul-one) at e)
 
 -- both widths are served
-width-served : (w : Width) → Served (format_of w)
+width_served : (w : Width) → Served (format_of w)
 unfolding base eight
-width-served Six = record { deep = lit≤ tt; shallow = lit≤ tt; small = lit≤ tt }
-width-served Eight = record { deep = lit≤ tt; shallow = lit≤ tt; small = lit≤ tt }
+width_served Six = record { deep = lit≤ tt; shallow = lit≤ tt; small = lit≤ tt }
+width_served Eight = record { deep = lit≤ tt; shallow = lit≤ tt; small = lit≤ tt }
 
 -- so is the format that a width names
-pub format-served : (f : Format) (w : Width) → f ≡ format_of w → Served f
-format-served f w e = subst (λ (g : Format). Served g) (sym e) (width-served w)
+pub format_served : (f : Format) (w : Width) → f ≡ format_of w → Served f
+format_served f w e = subst (λ (g : Format). Served g) (sym e) (width_served w)

@@ -1,11 +1,11 @@
 -- `put`: what is still to be written is the rest of the text. Assumes nothing.
 use Prim.Native.Nat.{◌+◌, ◌-◌, ◌≤◌}
 use lib.ListN.{length, drop, drop_of_length-le}
-use Rattle.bytes.proofs.Writing.{Writing, all_left, all-written, byte-written}
+use Rattle.octets.proofs.Writing.{Writing, all_left, all_written, byte_written}
 use native.Mathlib.Omega.{arith}
 use borrow.Author.Rules.{rules}
-use Rattle.bytes.proofs.put.Statement.{statement}
-use Rattle.bytes.proofs.put.Tie as tie
+use Rattle.octets.proofs.put.Statement.{statement}
+use Rattle.octets.proofs.put.Tie as tie
 
 abbrev invariant-loop : tie.invariant-loop
 invariant-loop out₀ at text k₀ out k = (k ≤ length text) × Writing out₀ at text out (at + k) (drop k text)
@@ -19,10 +19,10 @@ loop-holds c = (omega arith, all_left c.args.out.now c.args.at c.args.text.now _
 loop-again : tie.Need-loop-preserved invariant-loop decreases-loop
 loop-again c =
     let l = c.before.before in
-    (omega arith, byte-written l.loop.k l.before.args.text.now l.loop.invariant.1 c.before.loop-test.true)
+    (omega arith, byte_written l.loop.k l.before.args.text.now l.loop.invariant.1 c.before.loop-test.true)
 
 returns : tie.Need-returns invariant-loop decreases-loop
-returns c = all-written c.before.loop.invariant.1 (drop_of_length-le c.before.before.args.text.now {i = c.before.loop.k} c.loop-test.false)
+returns c = all_written c.before.loop.invariant.1 (drop_of_length-le c.before.before.args.text.now {i = c.before.loop.k} c.loop-test.false)
 
 pub put_spec : {M : Type 1} → statement M
 put_spec =

@@ -1,16 +1,16 @@
 -- `put_word`: the two bytes are the number, least byte first. Assumes nothing.
 use lib.ListN.{length-set}
-use Rattle.bytes.proofs.Writing.{two-written}
+use Rattle.octets.proofs.Writing.{two_written}
 use native.Mathlib.Omega.{arith}
 use borrow.Author.Rules.{rules}
-use Rattle.bytes.proofs.put_word.Statement.{statement}
-use Rattle.bytes.proofs.put_word.Tie as tie
+use Rattle.octets.proofs.put_word.Statement.{statement}
+use Rattle.octets.proofs.put_word.Tie as tie
 
 slice-write-new-2 : tie.Need-slice-write-new-2
 slice-write-new-2 c = simp length-set (omega arith)
 
 returns : tie.Need-returns
-returns c = two-written c.args.new.now c.args.at _ _ _ _ _ (omega arith) (omega arith) (omega arith)
+returns c = two_written c.args.new.now c.args.at _ _ _ _ _ (omega arith) (omega arith) (omega arith)
 
 pub put-word-spec : {M : Type 1} → statement M
 put-word-spec =
