@@ -1,5 +1,7 @@
 // The adorned shape's figures, computed by value: one summary a type. Children are counted along the rows' type numbers, since the
 // children of a row stand before the next row of its type.
+#![tactic(auto)]
+
 pub mod lent;
 
 ghost use Rattle.std.specs.Prelude.{◌≡◌, [], map, ◌≤◌, length, take};

@@ -40,6 +40,8 @@
 // A sum is that of `print::folded`.
 //
 // The calls are those for C, each of which runs the Rattle call; look-up is both, and the second reshape of a chain is the Rattle call.
+#![tactic(auto)]
+
 pub mod ask;
 pub mod calls;
 pub mod chain;

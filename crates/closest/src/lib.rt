@@ -1,5 +1,7 @@
 // Where types meet, and the runs of rows that agree to a level. Rows stand in document order, so that levels tell where rows meet: a row
 // meets the next one just above the level of the next, and the rows that agree with a row to a level are one unbroken run.
+#![tactic(auto)]
+
 pub mod meet;
 pub mod rows;
 pub mod runs;

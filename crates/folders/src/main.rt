@@ -1,6 +1,8 @@
 // The gate's run of what the program does: every screen of every folder that is named, one after the other, with a heading each. What the
 // program reports to the command stands in the listing here. A word that begins with a space is a tree typed behind the folder that the word
 // before it names. Where a screen ends before all was read, a line says so. Last come histories of folders.
+#![tactic(auto)]
+
 mod months;
 
 use crate::months::{mark_from, print_months};

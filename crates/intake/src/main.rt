@@ -4,6 +4,8 @@
 // for the screen, and has reported to it, on a channel of its own, what a listing's first line names and, last, that everything was written:
 // a program in Rattle can give no status. Behind the word `total` stand an entry and the folders that are taken in one after the other; how many were
 // refused is reported.
+#![tactic(auto)]
+
 use billing::history::print_worded;
 use check::same;
 use printing::folder::print_screen;

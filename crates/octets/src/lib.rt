@@ -1,5 +1,7 @@
 // Numbers and records read from lent bytes, and bytes put into them. Every function here asks its caller for bytes that are there, and
 // a reader's contract is a definition of the paper; what the numbers mean is left to the layers above.
+#![tactic(auto)]
+
 ghost use Rattle.std.specs.Prelude.{◌≡◌, ◌+◌, ◌*◌, ◌≤◌, ◌<◌, length, take, drop};
 ghost use Rattle.std.proofs.lemmas.List.Edits.{sets};
 ghost use Rattle.paper.specs.Format.{row_bytes, entry_bytes, word, number, span, bytes};

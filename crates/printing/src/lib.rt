@@ -1,6 +1,8 @@
 // What the program does, as functions that take the name of its folder: they read, call the library and write. Each answers whether
 // all that it had to write was taken; where a write fails, nothing more is written, and standard error says so. Which texts are written is
 // proved below this crate; what is read and written is the system's, and no theorem speaks of it.
+#![tactic(auto)]
+
 pub mod edges;
 pub mod figures;
 pub mod files;

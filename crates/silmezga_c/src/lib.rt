@@ -2,6 +2,8 @@
 // take is told in numbers: the width as its levels, the verdict as its number and two values, the second answer as 1 or 0, and a row's own
 // bytes as the place in the caller's table where they stand. An enum of C may hold any number: 8 is eight levels, and every other number
 // six. `include/silmezga.h` declares what is exported here. None asks anything of its caller beyond slices that are there.
+#![tactic(auto)]
+
 ghost use Rattle.std.specs.Prelude.{◌≡◌, [], ◌∷◌, map};
 ghost use Rattle.paper.specs.Format.{base, eight};
 ghost use Rattle.paper.specs.Widths.{move_table, move_shape};

@@ -2,6 +2,8 @@
 // `sum_tape` adds up the values of one entry's source rows, those that the entry's lines show, each once however many lines show it, and those that they
 // do not show. `take_in` keeps both sums over a history of tapes. Neither asks anything of its caller, and a refused tape leaves a total as it was. The
 // definitions that the promises name are those of specs/Tape and specs/Total, over the source table; what holds of histories is in proofs/Histories.
+#![tactic(auto)]
+
 pub mod rows;
 pub mod value;
 
