@@ -4,4 +4,4 @@ use Rattle.std.specs.Borrow.{Bor}
 
 -- p is in the memory of the lent table t, from byte i of t on
 abbrev pub OwnFrom : Bor (List ℕ) → ℕ → Bor (List ℕ) → Type 0
-OwnFrom t i p = (p.ptr.0 ≡ t.ptr.0) × (p.ptr.1 ≡ t.ptr.1 + i)
+OwnFrom t i p = (p.ref_ptr.0 ≡ t.ref_ptr.0) × (p.ref_ptr.1 ≡ t.ref_ptr.1 + i)

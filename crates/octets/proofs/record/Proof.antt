@@ -9,6 +9,6 @@ use Rattle.octets.proofs.record.Tie as tie
 returns : tie.Need-returns
 returns c = simp over (refl, record_length c.before.args.t.now c.before.args.w c.before.args.i c.before.requires, (refl, omega arith))
 
-pub record-spec : {M : Type 1} → statement M
-record-spec =
+pub record_spec : {M : Type 1} → statement M
+record_spec =
     tie.close (tie.spec (λ c. search rules) (λ c. search rules) (λ c. search rules) (λ c. search rules) (λ c. search rules) returns)
