@@ -12,6 +12,7 @@ import subprocess
 import sys
 import tempfile
 
+FIELDS = {"pre": "requires", "inv": "invariant", "taken": "true", "left": "false", "came": "branch"}
 TOKEN = re.compile(r"--[^\n]*|[^\s(){}.;,\[\]]+")
 
 
@@ -20,7 +21,8 @@ def norm(word):
 
 
 def table(names):
-    needs = {norm(a): b for a, b in names["needs"]}
+    needs = {norm(b): b for a, b in names["needs"]}
+    needs.update({norm(a): b for a, b in names["needs"]})
     places, steps = {}, {}
     for (old, _, step, *_), new in zip(names["places"], names["places_by_name"]):
         places[norm(old)] = new
@@ -35,7 +37,7 @@ def turned(text, names, said):
     out, last = [], 0
     for m in TOKEN.finditer(text):
         word = m.group(0)
-        if word.startswith("--"):
+        if word.startswith("--") or text.rfind("\nuse ", 0, m.start()) > text.rfind("\n", 0, m.start()) - 1:
             continue
         before = text[max(0, m.start() - 4) : m.start()]
         new = word
@@ -44,6 +46,8 @@ def turned(text, names, said):
                 if word.startswith(head):
                     of = needs if head == "Need-" else loops
                     key = norm(word[len(head) :])
+                    if key not in of and key.startswith("overflow-"):
+                        key = key[len("overflow-") :]
                     new = head + of[key] if key in of else word
                     if key not in of:
                         said.append(word)
@@ -53,11 +57,71 @@ def turned(text, names, said):
                 if norm(word) not in places and word not in ("spec", "close", "Start"):
                     said.append(word)
         elif before.endswith("."):
-            new = steps.get(norm(word), word)
+            plain = word[:-4] if word.endswith("_lem") and norm(word) not in steps else word
+            new = FIELDS.get(word) or (word if word == "result" else steps.get(norm(plain), word))
         if new != word:
             out.append(text[last : m.start()] + new)
             last = m.end()
-    return "".join(out) + text[last:]
+    new = "".join(out) + text[last:]
+    new = re.sub(r"\bnot-(?:true|false) _ ", "", new)
+    return re.sub(r"(⊎_elim\b(?:(?!\n\n).)*?\.branch)(?![\w-])", r"\1-raw", new, flags=re.S)
+
+
+def argument(text, at):
+    """Where the argument that begins at `at`, past blanks, begins and ends."""
+    while at < len(text) and text[at].isspace():
+        at += 1
+    start, depth = at, 0
+    while at < len(text):
+        if text[at] in "([{":
+            depth += 1
+        elif text[at] in ")]}":
+            if depth == 0:
+                break
+            depth -= 1
+        elif depth == 0 and (text[at].isspace() or text[at] == ","):
+            break
+        at += 1
+    return start, at
+
+
+def branches(lts):
+    """By the name of a step at which branches join, the fields of the record of each branch."""
+    found = {}
+    for place, body in re.findall(r"pub record ([\w'-]+) : Type 0 where\n((?: +pub [^\n]*\n)+)", lts):
+        for step, of in re.findall(r"pub ([\w'-]+) : Step-([\w'-]+)", body):
+            if of.startswith("Joined"):
+                found.setdefault(step, of)
+    out = {}
+    for step, of in found.items():
+        ways = re.findall(rf"pub record (By-\d+-{re.escape(of)}-[\w'-]+) : Type 0 where\n((?:(?!\n\n).)*)", lts, re.S)
+        out[step] = [re.findall(r"^\s*pub ([\w'-]+) :", body, re.M) for _, body in ways]
+    return out
+
+
+def by_fields(text, ways, said):
+    at = 0
+    while (at := min((i for i in (text.find("⊎_elim ", at), text.find("⊎_elim\n", at)) if i >= 0), default=-1)) >= 0:
+        at += len("⊎_elim")
+        spans, end = [], at
+        for _ in range(3):
+            start, end = argument(text, end)
+            spans.append((start, end))
+        m = re.search(r"\.([\w'-]+)\.branch-raw\)*$", text[spans[2][0] : spans[2][1]])
+        if not m or m.group(1) not in ways:
+            said.append("a branch: " + text[spans[2][0] : spans[2][1]][:60])
+            continue
+        fields = ways[m.group(1)]
+        for i in (1, 0):
+            start, end = spans[i]
+            arg = text[start:end]
+            v = re.match(r"\(λ ([\w']+)\.", arg)
+            if v and i < len(fields):
+                arg = re.sub(rf"(?<![\w.'-]){re.escape(v.group(1))}\.(\d)(?!\d)", lambda k: f"{v.group(1)}.{fields[i][int(k.group(1))]}" if int(k.group(1)) < len(fields[i]) else k.group(0), arg)
+                text = text[:start] + arg + text[end:]
+            elif not re.match(r"\(λ _\.", arg):
+                said.append("a branch's answer: " + arg[:60])
+    return text
 
 
 def closing(text, names, said):
@@ -83,9 +147,12 @@ def main(crates):
     for crate in crates:
         root = pathlib.Path("crates", crate)
         with tempfile.TemporaryDirectory() as there:
-            subprocess.run(["rt", "check", "--generated", there, "--old-names"], cwd=root, stdout=subprocess.DEVNULL, stderr=subprocess.DEVNULL)
+            for more in (["--old-names"], []):
+                subprocess.run(["rt", "check", "--generated", there, *more], cwd=root, stdout=subprocess.DEVNULL, stderr=subprocess.DEVNULL)
             listed = pathlib.Path(there, "names.json")
             names = json.loads(listed.read_text(encoding="utf-8")) if listed.exists() else {}
+            made = pathlib.Path(there, f"Rattle-{crate}-proofs")
+            lts = {".".join(p.relative_to(made).parts[:-1]): p.read_text(encoding="utf-8") for p in made.glob("**/Lts.antt")}
         by_path = {m.split(".", 1)[1].rsplit(".Lts", 1)[0]: v for m, v in names.items() if ".Lts" in m}
         for p in sorted(root.glob("proofs/**/Proof.antt")):
             path = ".".join(p.parts[3:-1])
@@ -100,6 +167,8 @@ def main(crates):
             new = turned(text, by_path[path], said)
             new = re.sub(r"^(pub )?[\w'-]+[-_]spec :", f"pub {p.parts[-2].lstrip('+')}_spec :", new, flags=re.M)
             new = re.sub(r"^[\w'-]+[-_]spec =", f"{p.parts[-2].lstrip('+')}_spec =", new, flags=re.M)
+            if "⊎_elim" in new and path in lts:
+                new = by_fields(new, branches(lts[path]), said)
             closing(new, by_path[path], said)
             if said:
                 print(f"{crate}: {path}: {', '.join(said)}")

@@ -18,7 +18,7 @@ refused_start f (suc k) i ne = refl
 module _ (f : Format) (t : Bor (List ℕ)) (i : ℕ) where
   -- a look-up that is refused
   pub nothing_back : (k p : ℕ) → (k ≡ 0 → ⊥) → look_up f t.now i ≡ record { number = k; place = p; rest = [] }
-      → HandsBack f t i (record { ref_ptr = (t.ref_ptr.0, 0 + t.ref_ptr.1); ghost_name = t.name; now = [] })
+      → HandsBack f t i (record { ref_ptr = (t.ref_ptr.0, 0 + t.ref_ptr.1); now = [] })
   nothing_back k p ne e =
       let start : start_of f (look_up f t.now i).number i ≡ 0 = ap (λ (r : Reply (List ℕ)). start_of f r.number i) e ∙ refused_start f k i ne in
       (sym (ap (λ (r : Reply (List ℕ)). r.rest) e), (refl, omega (arith, start)))

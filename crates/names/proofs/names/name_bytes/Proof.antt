@@ -27,5 +27,5 @@ returns c =
     let k = c.before.args.k in
     same_eq (take (length (name_of k)) (held k)) (name_of k) (all-has right k (count 0 named) refl (has-count 0 named k (search rules) (search rules)))
 
-pub name-bytes-spec : {M : Type 1} → statement M
-name-bytes-spec = tie.close (tie.spec (λ c. search rules) (λ c. search rules) returns)
+pub name_bytes_spec : {M : Type 1} → statement M
+name_bytes_spec = tie.close (tie.spec (λ c. search rules) (λ c. search rules) returns)

@@ -31,5 +31,5 @@ returns c =
     let told = c.wide.ensures.0 in
     (told ∙ eqb-true (held k) (length (name_of k)) h.0, omega (arith, told, leb-true (held k) 9 h.1))
 
-pub name-length-spec : {M : Type 1} → statement M
-name-length-spec = tie.close (tie.spec (λ c. search rules) (λ c κs. search rules) returns)
+pub name_length_spec : {M : Type 1} → statement M
+name_length_spec = tie.close (tie.spec (λ c. search rules) (λ c κs. search rules) returns)

@@ -9,7 +9,7 @@ returns : tie.Need-returns
 returns c =
     let n = c.before.before in
     let b = n.before.before.before.before in
-    (put_then b.put_byte.ensures n.put-number.ensures.0, omega (arith, b.put_byte.ensures.ends, n.put-number.ensures.1))
+    (put_then b.put_byte-p.ensures n.put_number.ensures.0, omega (arith, b.put_byte-p.ensures.ends, n.put_number.ensures.1))
 
-pub put-after-spec : {M : Type 1} → statement M
-put-after-spec = tie.close (tie.spec (λ c κs. search rules) (λ c κs. search rules) (λ c. search rules) returns)
+pub put_after_spec : {M : Type 1} → statement M
+put_after_spec = tie.close (tie.spec (λ c κs. search rules) (λ c κs. search rules) (λ c. search rules) returns)

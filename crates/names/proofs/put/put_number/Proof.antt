@@ -7,23 +7,23 @@ use borrow.Author.Rules.{rules}
 use Rattle.names.proofs.put.put_number.Statement.{statement}
 use Rattle.names.proofs.put.put_number.Tie as tie
 
-put-bytes-requires : tie.Need-put-bytes-requires
+put-bytes-requires : tie.Need-put_bytes-requires
 put-bytes-requires c κs =
     let d = c.before.before in
-    let few = few_digits d.decimal.result d.before.before.before.args.n d.decimal.ensures.1.0 (omega arith) in
-    omega (arith, d.decimal.ensures.0.1)
+    let few = few_digits d.decimal-k.result d.before.before.before.args.n d.decimal-k.ensures.1.0 (omega arith) in
+    omega (arith, d.decimal-k.ensures.0.1)
 
 returns : tie.Need-returns
 returns c =
     let b = c.before.before in
     let d = b.before.before.before in
-    let few = few_digits d.decimal.result d.before.before.before.args.n d.decimal.ensures.1.0 (omega arith) in (
-      put_as b.put-bytes.ensures (d.decimal.ensures.1.1 ∙ spelled d.decimal.result d.before.before.before.args.n d.decimal.ensures.1.0),
-      omega (arith, b.put-bytes.ensures.ends, d.decimal.ensures.0.1),
+    let few = few_digits d.decimal-k.result d.before.before.before.args.n d.decimal-k.ensures.1.0 (omega arith) in (
+      put_as b.put_bytes.ensures (d.decimal-k.ensures.1.1 ∙ spelled d.decimal-k.result d.before.before.before.args.n d.decimal-k.ensures.1.0),
+      omega (arith, b.put_bytes.ensures.ends, d.decimal-k.ensures.0.1),
     )
 
-pub put-number-spec : {M : Type 1} → statement M
-put-number-spec =
+pub put_number_spec : {M : Type 1} → statement M
+put_number_spec =
     tie.close
     (tie.spec
     (λ c κs. search rules) (λ c. search rules) (λ c. search rules)

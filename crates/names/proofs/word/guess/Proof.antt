@@ -10,7 +10,7 @@ use Rattle.names.proofs.word.guess.Tie as tie
 
 returns : tie.Need-returns
 unfolding names guesses
-returns c = guessed_by _ _ _ (c.wide2.ensures.0 ∙ ap (λ n. get_or guesses ((n + 21 * c.before.before.args.size) % 64) 0) c.before.wide.ensures.0)
+returns c = guessed_by _ _ _ (c.wide-2.ensures.0 ∙ ap (λ n. get_or guesses ((n + 21 * c.before.before.args.size) % 64) 0) c.before.wide.ensures.0)
 
-pub guess-spec : {M : Type 1} → statement M
-guess-spec = tie.close (tie.spec (λ c κs. search rules) (λ c. search rules) (λ c. search rules) (λ c. search rules) (λ c κs. search rules) returns)
+pub guess_spec : {M : Type 1} → statement M
+guess_spec = tie.close (tie.spec (λ c κs. search rules) (λ c. search rules) (λ c. search rules) (λ c. search rules) (λ c κs. search rules) returns)

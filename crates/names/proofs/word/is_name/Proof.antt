@@ -10,41 +10,41 @@ use Rattle.names.proofs.Compared.{not_same, differs, agrees}
 use Rattle.names.proofs.word.is_name.Statement.{statement}
 use Rattle.names.proofs.word.is_name.Tie as tie
 
-abbrev invariant-loop : tie.invariant-loop
+abbrev invariant-loop : tie.invariant-loop-i
 invariant-loop part k n name i₀ i = (i ≤ n) × ((j : ℕ) → j < i → get_or part j 0 ≡ get_or name j 0)
 
-abbrev decreases-loop : tie.decreases-loop
+abbrev decreases-loop : tie.decreases-loop-i
 decreases-loop part k n name i₀ i = n - i
 
-returns : tie.Need-returns invariant-loop decreases-loop
+returns : tie.Need-returns-then-part-n invariant-loop decreases-loop
 returns c =
-    let n = c.before.name-length in
+    let n = c.before.name_length-n in
     let s = c.before.before.before.args in
-    not_same (name_of s.k) s.part.now (λ e. c.if1.true (sym (ap length e) ∙ sym n.ensures.0))
+    not_same (name_of s.k) s.part.now (λ e. c.if-part-n.true (sym (ap length e) ∙ sym n.ensures.0))
 
-loop-holds : tie.Need-loop-init invariant-loop decreases-loop
+loop-holds : tie.Need-loop-i-init invariant-loop decreases-loop
 loop-holds c = (search rules, below_none _)
 
-returns-2 : tie.Need-returns-2 invariant-loop decreases-loop
+returns-2 : tie.Need-returns-then-part-i invariant-loop decreases-loop
 returns-2 c =
     let l = c.before.before.before in
     let n = l.before.before.before in
     let s = n.before.before.args in
-    differs (name_of s.k) s.part.now l.before.name-bytes.result l.before.name-bytes.ensures l.loop.i (omega (arith, n.name-length.ensures.0)) c.if2.true
+    differs (name_of s.k) s.part.now l.before.name_bytes-name.result l.before.name_bytes-name.ensures l.loop-i.i (omega (arith, n.name_length-n.ensures.0)) c.if-part-i.true
 
-loop-again : tie.Need-loop-preserved invariant-loop decreases-loop
-loop-again c = let l = c.before.before.before.loop in (search rules, below_more _ _ l.invariant.1 c.if2.false)
+loop-again : tie.Need-loop-i-preserved invariant-loop decreases-loop
+loop-again c = let l = c.before.before.before.loop-i in (search rules, below_more _ _ l.invariant.1 c.if-part-i.false)
 
-returns-3 : tie.Need-returns-3 invariant-loop decreases-loop
+returns-3 : tie.Need-returns invariant-loop decreases-loop
 returns-3 c =
     let l = c.before in
     let n = l.before.before.before in
     let s = n.before.before.args in
-    let long = n.name-length.ensures.0 in
-    agrees (name_of s.k) s.part.now l.before.name-bytes.result l.before.name-bytes.ensures (l.before.before.if1.false ∙ long) (λ i lt. l.loop.invariant.1 i (omega (arith, long, c.loop-test.false)))
+    let long = n.name_length-n.ensures.0 in
+    agrees (name_of s.k) s.part.now l.before.name_bytes-name.result l.before.name_bytes-name.ensures (l.before.before.if-part-n.false ∙ long) (λ i lt. l.loop-i.invariant.1 i (omega (arith, long, c.loop-i-test.false)))
 
-pub is-name-spec : {M : Type 1} → statement M
-is-name-spec =
+pub is_name_spec : {M : Type 1} → statement M
+is_name_spec =
     tie.close
     (tie.spec
     invariant-loop

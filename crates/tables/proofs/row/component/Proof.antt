@@ -11,5 +11,5 @@ returns c =
     let a = c.before.before.args in
     (c.word.ensures.0 ∙ sym (words-at a.f.levels a.row.now 4 a.k (omega arith)), c.word.ensures.1)
 
-pub component-spec : {M : Type 1} → statement M
-component-spec = tie.close (tie.spec (λ c. search rules) (λ c. search rules) (λ c κs. search rules) returns)
+pub component_spec : {M : Type 1} → statement M
+component_spec = tie.close (tie.spec (λ c. search rules) (λ c. search rules) (λ c κs. search rules) returns)
