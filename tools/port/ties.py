@@ -32,7 +32,12 @@ def table(names):
     return needs, places, steps, loops
 
 
-def turned(text, names, said):
+def fields_of(record, lts):
+    m = re.search(rf"pub record {re.escape(record)} : Type 0 where\n((?:(?!\n\n).)*)", lts, re.S)
+    return re.findall(r"^\s*pub ([\w'-]+) :", m.group(1), re.M) if m else []
+
+
+def turned(text, names, args, said):
     needs, places, steps, loops = table(names)
     out, last = [], 0
     for m in TOKEN.finditer(text):
@@ -57,6 +62,17 @@ def turned(text, names, said):
                 if norm(word) not in places and word not in ("spec", "close", "Start"):
                     said.append(word)
         elif before.endswith("."):
+            if word[0] == "«":
+                word = word[1:-1]
+            prior = re.search(r"([^\s(){}.;,\[\]]+)\.$", text[max(0, m.start() - 60) : m.start()])
+            owner = prior.group(1).strip("«»") if prior else ""
+            if owner == "args" and re.fullmatch(r"t\d+", word) and int(word[1:]) <= len(args):
+                out.append(text[last : m.start()] + args[int(word[1:]) - 1])
+                last = m.end()
+                continue
+            if owner in ("args", "new", "initial", "loop") or norm(owner) in steps or owner in steps.values():
+                if m.group(0) == word or norm(word) not in steps:
+                    continue
             plain = word[:-4] if word.endswith("_lem") and norm(word) not in steps else word
             new = FIELDS.get(word) or (word if word == "result" else steps.get(norm(plain), word))
         if new != word:
@@ -164,7 +180,7 @@ def main(crates):
                 print(f"{crate}: {path}: not listed")
                 continue
             said = []
-            new = turned(text, by_path[path], said)
+            new = turned(text, by_path[path], fields_of("Args", lts.get(path, "")), said)
             new = re.sub(r"^(pub )?[\w'-]+[-_]spec :", f"pub {p.parts[-2].lstrip('+')}_spec :", new, flags=re.M)
             new = re.sub(r"^[\w'-]+[-_]spec =", f"{p.parts[-2].lstrip('+')}_spec =", new, flags=re.M)
             if "⊎_elim" in new and path in lts:

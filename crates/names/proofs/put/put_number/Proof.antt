@@ -18,7 +18,7 @@ returns c =
     let b = c.before.before in
     let d = b.before.before.before in
     let few = few_digits d.decimal-k.result d.before.before.before.args.n d.decimal-k.ensures.1.0 (omega arith) in (
-      put_as b.put_bytes.ensures (d.decimal-k.ensures.1.1 ∙ spelled d.decimal-k.result d.before.before.before.args.n d.decimal-k.ensures.1.0),
+      put_as b.put_bytes.ensures (d.decimal-k.ensures.1.1.0 ∙ spelled d.decimal-k.result d.before.before.before.args.n d.decimal-k.ensures.1.0),
       omega (arith, b.put_bytes.ensures.ends, d.decimal-k.ensures.0.1),
     )
 

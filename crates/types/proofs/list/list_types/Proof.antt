@@ -11,111 +11,111 @@ use borrow.Author.Rules.{rules}
 use Rattle.types.proofs.list.list_types.Statement.{statement}
 use Rattle.types.proofs.list.list_types.Tie as tie
 
-abbrev invariant-loop : tie.invariant-loop
+abbrev invariant-loop : tie.invariant-loop-i
 invariant-loop t f rows types₀ parents₀ labels₀ stack₀ after₀ last₀ near₀ count₀ i₀ types parents labels stack after last near count i =
     (i ≤ rows) × Walk f t i count types parents labels stack × (last ≤ 64)
 
-abbrev decreases-loop : tie.decreases-loop
+abbrev decreases-loop : tie.decreases-loop-i
 decreases-loop t f rows types₀ parents₀ labels₀ stack₀ after₀ last₀ near₀ count₀ i₀ types parents labels stack after last near count i = rows - i
 
-abbrev begun : tie.At-loop invariant-loop decreases-loop → tie.Start invariant-loop decreases-loop
+abbrev begun : tie.At-loop-i invariant-loop decreases-loop → tie.Start invariant-loop decreases-loop
 begun l = l.before.before.before
 
-abbrev row_of : tie.At-loop invariant-loop decreases-loop → List ℕ
-row_of l = rec (row_bytes (begun l).args.f) l.loop.i (begun l).args.table.now
+abbrev row_of : tie.At-loop-i invariant-loop decreases-loop → List ℕ
+row_of l = rec (row_bytes (begun l).args.f) l.loop-i.i (begun l).args.table.now
 
-abbrev held : tie.After-word invariant-loop decreases-loop → tie.After-record invariant-loop decreases-loop
+abbrev held : tie.After-word-a invariant-loop decreases-loop → tie.After-record-row invariant-loop decreases-loop
 held c = c.before.before.before
 
-abbrev turn : tie.After-word invariant-loop decreases-loop → tie.At-loop invariant-loop decreases-loop
+abbrev turn : tie.After-word-a invariant-loop decreases-loop → tie.At-loop-i invariant-loop decreases-loop
 turn c = (held c).before.before.before
 
-abbrev level_of : tie.After-word invariant-loop decreases-loop → ℕ
-level_of c = c.before.wide.result
+abbrev level_of : tie.After-word-a invariant-loop decreases-loop → ℕ
+level_of c = c.before.wide-l.result
 
 -- row i is a row of the table, and its level and label are those that are read
-here : (c : tie.After-word invariant-loop decreases-loop) → (turn c).loop.i < whole (row_bytes (begun (turn c)).args.f) (begun (turn c)).args.table.now
-here c = let s : tie.Start invariant-loop decreases-loop = search in omega (arith, s.pre.0.0)
+here : (c : tie.After-word-a invariant-loop decreases-loop) → (turn c).loop-i.i < whole (row_bytes (begun (turn c)).args.f) (begun (turn c)).args.table.now
+here c = let s : tie.Start invariant-loop decreases-loop = search in omega (arith, s.requires.0.0)
 
-level-is : (c : tie.After-word invariant-loop decreases-loop) → level_of c ≡ byte (row_of (turn c)) 0
+level-is : (c : tie.After-word-a invariant-loop decreases-loop) → level_of c ≡ byte (row_of (turn c)) 0
 level-is c = cc
 
-label_is : (c : tie.After-word invariant-loop decreases-loop) → c.word.result ≡ word (row_of (turn c)) 2
+label_is : (c : tie.After-word-a invariant-loop decreases-loop) → c.word-a.result ≡ word (row_of (turn c)) 2
 label_is c = cc
 
-level-within : (c : tie.After-word invariant-loop decreases-loop) → (1 ≤ level_of c) × (level_of c ≤ 8)
+level-within : (c : tie.After-word-a invariant-loop decreases-loop) → (1 ≤ level_of c) × (level_of c ≤ 8)
 level-within c =
     let s : tie.Start invariant-loop decreases-loop = search in
-    let fits = l_fits _ _ s.pre.1.0 _ (here c) _ _ (level-is c) (label_is c) in
-    (l_pos _ _ s.pre.1.0 _ (here c) _ _ (level-is c) (label_is c), omega (arith, fits, s.pre.0.2))
+    let fits = l_fits _ _ s.requires.1.0 _ (here c) _ _ (level-is c) (label_is c) in
+    (l_pos _ _ s.requires.1.0 _ (here c) _ _ (level-is c) (label_is c), omega (arith, fits, s.requires.0.2))
 
-loop-holds : tie.Need-loop-init invariant-loop decreases-loop
+loop-holds : tie.Need-loop-i-init invariant-loop decreases-loop
 loop-holds c = (omega arith, walk_start _ _ _ _ _ _ refl c.before.before.requires.1.1 refl refl refl, omega arith)
 
-record-requires : tie.Need-record-requires invariant-loop decreases-loop
+record-requires : tie.Need-record-row-requires invariant-loop decreases-loop
 record-requires c κs =
     let s : tie.Start invariant-loop decreases-loop = search in
-    let l : tie.At-loop invariant-loop decreases-loop = search in
-    row_in c.row-bytes.result l.loop.i s.args.table.now
-    (rw c.row-bytes.ensures (omega (arith, s.pre.0.0, c.before.loop-test.true)))
+    let l : tie.At-loop-i invariant-loop decreases-loop = search in
+    row_in c.row_bytes.result l.loop-i.i s.args.table.now
+    (rw c.row_bytes.ensures (omega (arith, s.requires.0.0, c.before.loop-i-test.true)))
 
-sub-p : tie.Need-overflow-sub-p invariant-loop decreases-loop
+sub-p : tie.Need-overflow_sub-p invariant-loop decreases-loop
 sub-p c = omega (arith, (level-within c).0)
 
-array-read-p : tie.Need-array-read-p invariant-loop decreases-loop
+array-read-p : tie.Need-bounds-stack-l invariant-loop decreases-loop
 array-read-p c = omega (arith, level-within c)
 
-array-write-stack-2 : tie.Need-array-write-stack-2 invariant-loop decreases-loop
-array-write-stack-2 c = let w : tie.After-word invariant-loop decreases-loop = search in omega (arith, (level-within w).1)
+array-write-stack-2 : tie.Need-bounds-stack-l-then-k-count invariant-loop decreases-loop
+array-write-stack-2 c = let w : tie.After-word-a invariant-loop decreases-loop = search in omega (arith, (level-within w).1)
 
-loop-again : tie.Need-loop-preserved invariant-loop decreases-loop
+loop-again : tie.Need-loop-i-preserved-then-k-count invariant-loop decreases-loop
 loop-again c =
     let s : tie.Start invariant-loop decreases-loop = search in
-    let l : tie.At-loop invariant-loop decreases-loop = search in
-    let r : tie.After-word invariant-loop decreases-loop = search in
-    let v = l.loop in
-    let found = c.before.find-near.ensures.found c.if1.true in (
+    let l : tie.At-loop-i invariant-loop decreases-loop = search in
+    let r : tie.After-word-a invariant-loop decreases-loop = search in
+    let v = l.loop-i in
+    let found = c.before.find_near-k.ensures.found c.if-k-count.true in (
       omega arith,
-      walk_known _ _ s.pre.1.0 _ (here r) _ _ (level-is r) (label_is r) _ _ _ _ _ _ v.inv.1 refl (omega (arith, s.pre.0.0)) s.pre.0.2
-          _ c.if1.true found.0 found.1,
-      omega (arith, c.if1.true, v.inv.1.pass.few),
+      walk_known _ _ s.requires.1.0 _ (here r) _ _ (level-is r) (label_is r) _ _ _ _ _ _ v.invariant.1 refl (omega (arith, s.requires.0.0)) s.requires.0.2
+          _ c.if-k-count.true found.0 found.1,
+      omega (arith, c.if-k-count.true, v.invariant.1.pass.few),
     )
 
-returns : tie.Need-returns invariant-loop decreases-loop
+returns : tie.Need-returns-then-count-eq64 invariant-loop decreases-loop
 returns c =
     let s : tie.Start invariant-loop decreases-loop = search in
-    let l : tie.At-loop invariant-loop decreases-loop = search in
-    let r : tie.After-word invariant-loop decreases-loop = search in
-    let x : tie.After-find-near invariant-loop decreases-loop = search in
-    walk_full _ _ s.pre.1.0 _ (here r) _ _ (level-is r) (label_is r) _ _ _ _ _ _ l.loop.inv.1 refl
-    (omega (arith, s.pre.0.0)) s.pre.0.2 (x.find-near.ensures.none (omega arith)) c.if2.true
+    let l : tie.At-loop-i invariant-loop decreases-loop = search in
+    let r : tie.After-word-a invariant-loop decreases-loop = search in
+    let x : tie.After-find_near-k invariant-loop decreases-loop = search in
+    walk_full _ _ s.requires.1.0 _ (here r) _ _ (level-is r) (label_is r) _ _ _ _ _ _ l.loop-i.invariant.1 refl
+    (omega (arith, s.requires.0.0)) s.requires.0.2 (x.find_near-k.ensures.none (omega arith)) c.if-count-eq64.true
 
-array-write-stack-3 : tie.Need-array-write-stack-3 invariant-loop decreases-loop
-array-write-stack-3 c = let w : tie.After-word invariant-loop decreases-loop = search in omega (arith, (level-within w).1)
+array-write-stack-3 : tie.Need-bounds-stack-l-else-k-count invariant-loop decreases-loop
+array-write-stack-3 c = let w : tie.After-word-a invariant-loop decreases-loop = search in omega (arith, (level-within w).1)
 
-loop-again-2 : tie.Need-loop-preserved-2 invariant-loop decreases-loop
+loop-again-2 : tie.Need-loop-i-preserved invariant-loop decreases-loop
 loop-again-2 c =
-    let x : tie.After-find-near invariant-loop decreases-loop = search in
-    let r : tie.After-word invariant-loop decreases-loop = search in
+    let x : tie.After-find_near-k invariant-loop decreases-loop = search in
+    let r : tie.After-word-a invariant-loop decreases-loop = search in
     let s = begun (turn r) in
-    let v = (turn r).loop in (
+    let v = (turn r).loop-i in (
       omega arith,
-      walk_new _ _ s.pre.1.0 _ (here r) _ _ (level-is r) (label_is r) _ _ _ _ _ _ v.inv.1 refl (omega (arith, s.pre.0.0)) s.pre.0.2
-          (x.find-near.ensures.none (omega arith)) (omega (arith, v.inv.1.pass.few)),
-      omega (arith, v.inv.1.pass.few),
+      walk_new _ _ s.requires.1.0 _ (here r) _ _ (level-is r) (label_is r) _ _ _ _ _ _ v.invariant.1 refl (omega (arith, s.requires.0.0)) s.requires.0.2
+          (x.find_near-k.ensures.none (omega arith)) (omega (arith, v.invariant.1.pass.few)),
+      omega (arith, v.invariant.1.pass.few),
     )
 
-returns-2 : tie.Need-returns-2 invariant-loop decreases-loop
+returns-2 : tie.Need-returns invariant-loop decreases-loop
 returns-2 c =
     let s : tie.Start invariant-loop decreases-loop = search in
     let l = c.before in
-    let v = l.loop in
+    let v = l.loop-i in
     let count = count-rows s.args.f s.args.table.now in
     let all : v.i ≡ s.args.rows = omega (arith, v.invariant.0) in
-    rw (← all) (lists_end _ _ _ _ _ _ _ (omega (arith, count, s.pre.0.0)) (omega (arith, count, s.pre.0.0, v.invariant.1.ks_long)) v.invariant.1.pass)
+    rw (← all) (lists_end _ _ _ _ _ _ _ (omega (arith, count, s.requires.0.0)) (omega (arith, count, s.requires.0.0, v.invariant.1.ks_long)) v.invariant.1.pass)
 
-pub list-types-spec : {M : Type 1} → statement M
-list-types-spec =
+pub list_types_spec : {M : Type 1} → statement M
+list_types_spec =
     tie.close
     (tie.spec
     invariant-loop
