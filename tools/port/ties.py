@@ -12,7 +12,8 @@ import subprocess
 import sys
 import tempfile
 
-FIELDS = {"pre": "requires", "inv": "invariant", "taken": "true", "left": "false", "came": "branch"}
+FIELDS = {"pre": "requires", "inv": "invariant", "taken": "true", "left": "false", "came": "branch", "well-formed": "well_formed"}
+FROM = "48de9be"  # the commit of after.py's outcome: a file that differs from it in its goals was turned before
 TOKEN = re.compile(r"--[^\n]*|[^\s(){}.;,\[\]]+")
 
 
@@ -37,7 +38,16 @@ def fields_of(record, lts):
     return re.findall(r"^\s*pub ([\w'-]+) :", m.group(1), re.M) if m else []
 
 
-def turned(text, names, args, said):
+def lasts_of(lts):
+    """By the name of a call's step, the fields of what it leaves in what it was lent."""
+    out = {}
+    for step, last in re.findall(r"pub record Step-After-([\w'-]+) : Type 0 where\n(?:(?!\n\n).)*?pub new : (Last-\d+)", lts, re.S):
+        m = re.search(rf"pub record {last} .*?where\n((?:(?!\n\n).)*)", lts, re.S)
+        out[norm(re.sub(r"-unread$", "", step))] = re.findall(r"^\s*pub ([\w'-]+) :", m.group(1), re.M) if m else []
+    return out
+
+
+def turned(text, names, args, lasts, source, said):
     needs, places, steps, loops = table(names)
     out, last = [], 0
     for m in TOKEN.finditer(text):
@@ -66,15 +76,30 @@ def turned(text, names, args, said):
                 word = word[1:-1]
             prior = re.search(r"([^\s(){}.;,\[\]]+)\.$", text[max(0, m.start() - 60) : m.start()])
             owner = prior.group(1).strip("«»") if prior else ""
-            if owner == "args" and re.fullmatch(r"t\d+", word) and int(word[1:]) <= len(args):
+            if re.fullmatch(r"t\d+", word) and int(word[1:]) <= len(args):
                 out.append(text[last : m.start()] + args[int(word[1:]) - 1])
                 last = m.end()
                 continue
+            if steps.get(norm(word), "") == word.replace("-", "_") + "-1" and owner not in ("c", "before"):
+                continue
+            if "-" in word and norm(word) not in steps and word.replace("-", "_") in source:
+                out.append(text[last : m.start()] + word.replace("-", "_"))
+                last = m.end()
+                continue
+            if owner == "new" and word.isdigit():
+                call = re.search(r"([^\s(){}.;,\[\]]+)\.new\.$", text[max(0, m.start() - 90) : m.start()])
+                key = steps.get(norm(call.group(1)), call.group(1)) if call else ""
+                of = lasts.get(norm(key), [])
+                if int(word) < len(of):
+                    out.append(text[last : m.start()] + of[int(word)])
+                    last = m.end()
+                continue
             if owner in ("args", "new", "initial", "loop") or norm(owner) in steps or owner in steps.values():
-                if m.group(0) == word or norm(word) not in steps:
-                    continue
-            plain = word[:-4] if word.endswith("_lem") and norm(word) not in steps else word
-            new = FIELDS.get(word) or (word if word == "result" else steps.get(norm(plain), word))
+                steps_here = {}
+            else:
+                steps_here = steps
+            plain = word[:-4] if word.endswith("_lem") and norm(word) not in steps_here else word
+            new = FIELDS.get(word) or (word if word == "result" else steps_here.get(norm(plain), word))
         if new != word:
             out.append(text[last : m.start()] + new)
             last = m.end()
@@ -159,6 +184,10 @@ def closing(text, names, said):
         said.append(f"closing list has {n} for {wanted}")
 
 
+def goals(text):
+    return re.findall(r"tie\.[^\s(){}.;,\[\]]+", text)
+
+
 def main(crates):
     for crate in crates:
         root = pathlib.Path("crates", crate)
@@ -170,17 +199,22 @@ def main(crates):
             made = pathlib.Path(there, f"Rattle-{crate}-proofs")
             lts = {".".join(p.relative_to(made).parts[:-1]): p.read_text(encoding="utf-8") for p in made.glob("**/Lts.antt")}
         by_path = {m.split(".", 1)[1].rsplit(".Lts", 1)[0]: v for m, v in names.items() if ".Lts" in m}
+        source = {w for q in root.glob("src/**/*.rt") for w in re.findall(r"[a-z]\w*", q.read_text(encoding="utf-8"))}
         for p in sorted(root.glob("proofs/**/Proof.antt")):
             path = ".".join(p.parts[3:-1])
             text = p.read_text(encoding="utf-8")
             if "tie.spec" not in text:
                 print(f"{crate}: {path}: by hand")
                 continue
+            before = subprocess.run(["git", "show", f"{FROM}:{p}"], capture_output=True, text=True).stdout
+            if before and goals(before) != goals(text):
+                print(f"{crate}: {path}: turned before")
+                continue
             if path not in by_path:
                 print(f"{crate}: {path}: not listed")
                 continue
             said = []
-            new = turned(text, by_path[path], fields_of("Args", lts.get(path, "")), said)
+            new = turned(text, by_path[path], fields_of("Args", lts.get(path, "")), lasts_of(lts.get(path, "")), source, said)
             new = re.sub(r"^(pub )?[\w'-]+[-_]spec :", f"pub {p.parts[-2].lstrip('+')}_spec :", new, flags=re.M)
             new = re.sub(r"^[\w'-]+[-_]spec =", f"{p.parts[-2].lstrip('+')}_spec =", new, flags=re.M)
             if "⊎_elim" in new and path in lts:
