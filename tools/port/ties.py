@@ -92,7 +92,8 @@ def turned(text, names, args, lasts, source, said):
                 of = lasts.get(norm(key), [])
                 if int(word) < len(of):
                     out.append(text[last : m.start()] + of[int(word)])
-                    last = m.end()
+                    rest = re.match(r"(?:\.1)*\.0(?![\w.])", text[m.end() :])
+                    last = m.end() + (rest.end() if rest else 0)
                 continue
             if owner in ("args", "new", "initial", "loop") or norm(owner) in steps or owner in steps.values():
                 steps_here = {}

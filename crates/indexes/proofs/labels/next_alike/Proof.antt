@@ -9,59 +9,59 @@ use borrow.Author.Rules.{rules}
 use Rattle.indexes.proofs.labels.next_alike.Statement.{statement}
 use Rattle.indexes.proofs.labels.next_alike.Tie as tie
 
-abbrev invariant-loop : tie.invariant-loop
+abbrev invariant-loop : tie.invariant-loop-j
 invariant-loop levels labels rows i j₀ j = (i < j) × (j ≤ rows) × ((x : ℕ) → i < x → x < j → Alike levels labels i x → ⊥)
 
-abbrev decreases-loop : tie.decreases-loop
+abbrev decreases-loop : tie.decreases-loop-j
 decreases-loop levels labels rows i j₀ j = rows - j
 
 -- where the function begins, from the turn
-abbrev begun : tie.At-loop invariant-loop decreases-loop → tie.Start invariant-loop decreases-loop
+abbrev begun : tie.At-loop-j invariant-loop decreases-loop → tie.Start invariant-loop decreases-loop
 begun w = w.before.before.before
 
-loop-holds : tie.Need-loop-init invariant-loop decreases-loop
+loop-holds : tie.Need-loop-j-init invariant-loop decreases-loop
 loop-holds c = (omega arith, omega (arith, c.before.before.requires.1), λ x a b. let z : ⊥ = omega arith in absurd z)
 
-same-labels-requires : tie.Need-same-labels-requires invariant-loop decreases-loop
-same-labels-requires c κs = let s = (begun c.before).pre in (s.0, s.1, c.loop-test.true)
+same-labels-requires : tie.Need-same_labels-requires invariant-loop decreases-loop
+same-labels-requires c κs = let s = (begun c.before).requires in (s.0, s.1, c.loop-j-test.true)
 
-cast-result : tie.Need-overflow-cast-result invariant-loop decreases-loop
-cast-result c = let w = c.before.before in omega (arith, (begun w.before).pre.0.few, w.loop-test.true)
+cast-result : tie.Need-overflow_cast-result invariant-loop decreases-loop
+cast-result c = let w = c.before.before in omega (arith, (begun w.before).requires.0.few, w.loop-j-test.true)
 
-returns : tie.Need-returns invariant-loop decreases-loop
+returns : tie.Need-returns-then-same_labels invariant-loop decreases-loop
 returns c =
     let w = c.before.before in
     let l = w.before in
     let s = begun l in
     λ ks same. record {
-      none = λ le. let z : ⊥ = omega (arith, w.loop-test.true) in absurd z;
-      after = λ _. l.loop.invariant.0;
-      typed = λ lt. (same s.args.i l.loop.j s.pre.1 lt).0 (c.before.same-labels.ensures.0 c.if1.true);
-      passed = λ x a b lt e. l.loop.invariant.2 x a lt ((same s.args.i x s.pre.1 b).1 e);
+      none = λ le. let z : ⊥ = omega (arith, w.loop-j-test.true) in absurd z;
+      after = λ _. l.loop-j.invariant.0;
+      typed = λ lt. (same s.args.i l.loop-j.j s.requires.1 lt).0 (c.before.same_labels.ensures.0 c.if-same_labels.true);
+      passed = λ x a b lt e. l.loop-j.invariant.2 x a lt ((same s.args.i x s.requires.1 b).1 e);
     }
 
-loop-again : tie.Need-loop-preserved invariant-loop decreases-loop
+loop-again : tie.Need-loop-j-preserved invariant-loop decreases-loop
 loop-again c =
     let w = c.before.before in
     let l = w.before in (
-      omega (arith, l.loop.invariant.0),
-      omega (arith, w.loop-test.true),
-      λ x after b. ⊎_elim (λ lt. l.loop.invariant.2 x after lt) (λ e. subst (λ x. Alike (begun l).args.levels.now (begun l).args.labels.now (begun l).args.i x → ⊥) (sym e) (c.before.same-labels.ensures.1 c.if1.false)) (below x l.loop.j b),
+      omega (arith, l.loop-j.invariant.0),
+      omega (arith, w.loop-j-test.true),
+      λ x after b. ⊎_elim (λ lt. l.loop-j.invariant.2 x after lt) (λ e. subst (λ x. Alike (begun l).args.levels.now (begun l).args.labels.now (begun l).args.i x → ⊥) (sym e) (c.before.same_labels.ensures.1 c.if-same_labels.false)) (below x l.loop-j.j b),
     )
 
-returns-2 : tie.Need-returns-2 invariant-loop decreases-loop
+returns-2 : tie.Need-returns invariant-loop decreases-loop
 returns-2 c =
     let l = c.before in
     let s = begun l in
     λ ks same. record {
       none = λ _. refl;
-      after = λ lt. let z : ⊥ = omega (arith, s.pre.0.few) in absurd z;
-      typed = λ lt. let z : ⊥ = omega (arith, s.pre.0.few) in absurd z;
-      passed = λ x a b lt e. l.loop.invariant.2 x a (omega (arith, c.loop-test.false)) ((same s.args.i x s.pre.1 b).1 e);
+      after = λ lt. let z : ⊥ = omega (arith, s.requires.0.few) in absurd z;
+      typed = λ lt. let z : ⊥ = omega (arith, s.requires.0.few) in absurd z;
+      passed = λ x a b lt e. l.loop-j.invariant.2 x a (omega (arith, c.loop-j-test.false)) ((same s.args.i x s.requires.1 b).1 e);
     }
 
-pub next-alike-spec : {M : Type 1} → statement M
-next-alike-spec =
+pub next_alike_spec : {M : Type 1} → statement M
+next_alike_spec =
     tie.close
     (tie.spec
     invariant-loop

@@ -16,81 +16,81 @@ use borrow.Author.Rules.{rules}
 use Rattle.indexes.proofs.labels.row_labels.Statement.{statement}
 use Rattle.indexes.proofs.labels.row_labels.Tie as tie
 
-abbrev invariant-loop : tie.invariant-loop
+abbrev invariant-loop : tie.invariant-loop-i
 invariant-loop table f rows labels₀ i₀ labels i = (i ≤ rows) × (length labels ≡ length labels₀) × LabelLists i (row_types (Tables.rows f table)) labels
 
-abbrev decreases-loop : tie.decreases-loop
+abbrev decreases-loop : tie.decreases-loop-i
 decreases-loop table f rows labels₀ i₀ labels i = rows - i
 
-abbrev begun : tie.At-loop invariant-loop decreases-loop → tie.Start invariant-loop decreases-loop
+abbrev begun : tie.At-loop-i invariant-loop decreases-loop → tie.Start invariant-loop decreases-loop
 begun l = l.before.before.before
 
 -- the turn in which a label is read, and its row
-abbrev held : tie.After-word invariant-loop decreases-loop → tie.After-record invariant-loop decreases-loop
+abbrev held : tie.After-word-a invariant-loop decreases-loop → tie.After-record-row invariant-loop decreases-loop
 held c = c.before.before.before
 
-abbrev turn : tie.After-word invariant-loop decreases-loop → tie.At-loop invariant-loop decreases-loop
+abbrev turn : tie.After-word-a invariant-loop decreases-loop → tie.At-loop-i invariant-loop decreases-loop
 turn c = (held c).before.before.before
 
-abbrev row_of : tie.At-loop invariant-loop decreases-loop → List ℕ
-row_of l = rec (row_bytes (begun l).args.f) l.loop.i (begun l).args.table.now
+abbrev row_of : tie.At-loop-i invariant-loop decreases-loop → List ℕ
+row_of l = rec (row_bytes (begun l).args.f) l.loop-i.i (begun l).args.table.now
 
-here : (l : tie.At-loop invariant-loop decreases-loop) → l.loop.i < (begun l).args.rows → l.loop.i < whole (row_bytes (begun l).args.f) (begun l).args.table.now
-here l lt = let s : tie.Start invariant-loop decreases-loop = search in omega (arith, s.pre.0.rows_n, count-rows s.args.f s.args.table.now)
+here : (l : tie.At-loop-i invariant-loop decreases-loop) → l.loop-i.i < (begun l).args.rows → l.loop-i.i < whole (row_bytes (begun l).args.f) (begun l).args.table.now
+here l lt = let s : tie.Start invariant-loop decreases-loop = search in omega (arith, s.requires.0.rows_n, count-rows s.args.f s.args.table.now)
 
-in_table : (c : tie.After-word invariant-loop decreases-loop) → (turn c).loop.i < whole (row_bytes (begun (turn c)).args.f) (begun (turn c)).args.table.now
-in_table c = let l : tie.At-loop invariant-loop decreases-loop = search in let i : tie.In-loop invariant-loop decreases-loop = search in here l i.loop-test.taken
+in_table : (c : tie.After-word-a invariant-loop decreases-loop) → (turn c).loop-i.i < whole (row_bytes (begun (turn c)).args.f) (begun (turn c)).args.table.now
+in_table c = let l : tie.At-loop-i invariant-loop decreases-loop = search in let i : tie.In-loop-i invariant-loop decreases-loop = search in here l i.loop-i-test.true
 
-level-is : (c : tie.After-word invariant-loop decreases-loop) → c.before.wide.result ≡ byte (row_of (turn c)) 0
+level-is : (c : tie.After-word-a invariant-loop decreases-loop) → c.before.wide-l.result ≡ byte (row_of (turn c)) 0
 level-is c = cc
 
-label_is : (c : tie.After-word invariant-loop decreases-loop) → c.word.result ≡ word (row_of (turn c)) 2
+label_is : (c : tie.After-word-a invariant-loop decreases-loop) → c.word-a.result ≡ word (row_of (turn c)) 2
 label_is c = cc
 
-loop-holds : tie.Need-loop-init invariant-loop decreases-loop
+loop-holds : tie.Need-loop-i-init invariant-loop decreases-loop
 loop-holds c = (omega arith, refl, labels-none _ _ c.before.before.requires.0.sound.kept c.before.before.args.labels.now)
 
-record-requires : tie.Need-record-requires invariant-loop decreases-loop
+record-requires : tie.Need-record-row-requires invariant-loop decreases-loop
 record-requires c κs =
     let s : tie.Start invariant-loop decreases-loop = search in
-    let l : tie.At-loop invariant-loop decreases-loop = search in
-    row_in c.row-bytes.result l.loop.i s.args.table.now (rw c.row-bytes.ensures (here l c.before.loop-test.true))
+    let l : tie.At-loop-i invariant-loop decreases-loop = search in
+    row_in c.row_bytes.result l.loop-i.i s.args.table.now (rw c.row_bytes.ensures (here l c.before.loop-i-test.true))
 
-put-labels-requires : tie.Need-put-labels-requires invariant-loop decreases-loop
+put-labels-requires : tie.Need-put_labels-requires invariant-loop decreases-loop
 put-labels-requires c κs =
     let s : tie.Start invariant-loop decreases-loop = search in
-    let l : tie.At-loop invariant-loop decreases-loop = search in
-    let i : tie.In-loop invariant-loop decreases-loop = search in
+    let l : tie.At-loop-i invariant-loop decreases-loop = search in
+    let i : tie.In-loop-i invariant-loop decreases-loop = search in
     let r = c.before in
-    let kept = s.pre.0.sound.kept in (
+    let kept = s.requires.0.sound.kept in (
       l_pos _ _ kept _ (in_table r) _ _ (level-is r) (label_is r),
-      omega (arith, l_fits _ _ kept _ (in_table r) _ _ (level-is r) (label_is r), s.pre.1),
-      omega (arith, s.pre.2, l.loop.inv.1, i.loop-test.taken),
-      λ e. omega (arith, level-is r, first-level _ _ kept l.loop.i (in_table r) e),
+      omega (arith, l_fits _ _ kept _ (in_table r) _ _ (level-is r) (label_is r), s.requires.1),
+      omega (arith, s.requires.2, l.loop-i.invariant.1, i.loop-i-test.true),
+      λ e. omega (arith, level-is r, first-level _ _ kept l.loop-i.i (in_table r) e),
     )
 
-loop-again : tie.Need-loop-preserved invariant-loop decreases-loop
+loop-again : tie.Need-loop-i-preserved invariant-loop decreases-loop
 loop-again c =
     let s : tie.Start invariant-loop decreases-loop = search in
-    let l : tie.At-loop invariant-loop decreases-loop = search in
-    let i : tie.In-loop invariant-loop decreases-loop = search in
-    let r : tie.After-word invariant-loop decreases-loop = search in
-    let p : tie.After-put-labels invariant-loop decreases-loop = search in (
-      omega (arith, i.loop-test.taken),
+    let l : tie.At-loop-i invariant-loop decreases-loop = search in
+    let i : tie.In-loop-i invariant-loop decreases-loop = search in
+    let r : tie.After-word-a invariant-loop decreases-loop = search in
+    let p : tie.After-put_labels invariant-loop decreases-loop = search in (
+      omega (arith, i.loop-i-test.true),
       search rules,
-      labels-more _ _ s.pre.0.sound.kept s.pre.1 l.loop.i (in_table r) _ _ l.loop.inv.2 _ _ (level-is r) (label_is r) p.put-labels.ensures,
+      labels-more _ _ s.requires.0.sound.kept s.requires.1 l.loop-i.i (in_table r) _ _ l.loop-i.invariant.2 _ _ (level-is r) (label_is r) p.put_labels.ensures,
     )
 
-same_length : tie.Need-same-length invariant-loop decreases-loop
-same_length c = c.before.loop.invariant.1
+same_length : tie.Need-shape_of-labels invariant-loop decreases-loop
+same_length c = c.before.loop-i.invariant.1
 
 returns : tie.Need-returns invariant-loop decreases-loop
 returns c =
     let w = c.before in
-    λ i m lt. w.loop.invariant.2 i m (omega (arith, c.loop-test.false))
+    λ i m lt. w.loop-i.invariant.2 i m (omega (arith, c.loop-i-test.false))
 
-pub row-labels-spec : {M : Type 1} → statement M
-row-labels-spec =
+pub row_labels_spec : {M : Type 1} → statement M
+row_labels_spec =
     tie.close
     (tie.spec
     invariant-loop

@@ -11,10 +11,10 @@ use Rattle.indexes.specs.Labels.{label_of}
 use Rattle.indexes.proofs.labels.same_labels.Statement.{statement}
 use Rattle.indexes.proofs.labels.same_labels.Tie as tie
 
-abbrev invariant-loop : tie.invariant-loop
+abbrev invariant-loop : tie.invariant-loop-m
 invariant-loop levels labels rows i j m₀ m = (m ≤ get_or levels i 0) × ((k : ℕ) → m ≤ k → k < get_or levels i 0 → label_of labels i k ≡ label_of labels j k)
 
-abbrev decreases-loop : tie.decreases-loop
+abbrev decreases-loop : tie.decreases-loop-m
 decreases-loop levels labels rows i j m₀ m = m
 
 -- a row has eight levels at the most, and both rows have their place among the labels
@@ -22,53 +22,53 @@ inside : (s : tie.Start invariant-loop decreases-loop) → let a = s.args in
     (get_or a.levels.now a.i 0 ≤ 8) × (8 * a.i + 8 ≤ length a.labels.now) × (8 * a.j + 8 ≤ length a.labels.now)
 inside s = let p = s.requires in (p.0.shallow s.args.i p.1, omega (arith, p.0.labels_long, p.1), omega (arith, p.0.labels_long, p.2))
 
-returns : tie.Need-returns invariant-loop decreases-loop
-returns c = (λ e. absurd (true≢false (sym e)), λ _ alike. c.if1.true alike.level)
+returns : tie.Need-returns-then-levels-j invariant-loop decreases-loop
+returns c = (λ e. absurd (true≢false (sym e)), λ _ alike. c.if-levels-j.true alike.level)
 
-loop-holds : tie.Need-loop-init invariant-loop decreases-loop
-loop-holds c = (omega (arith, c.wide.ensures.0), λ k a b. let z : ⊥ = omega (arith, c.wide.ensures.0) in absurd z)
+loop-holds : tie.Need-loop-m-init invariant-loop decreases-loop
+loop-holds c = (omega (arith, c.wide-m.ensures.0), λ k a b. let z : ⊥ = omega (arith, c.wide-m.ensures.0) in absurd z)
 
-shared-slice-read-if2 : tie.Need-shared-slice-read-if2 invariant-loop decreases-loop
+shared-slice-read-if2 : tie.Need-bounds-labels-i invariant-loop decreases-loop
 shared-slice-read-if2 c =
     let s : tie.Start invariant-loop decreases-loop = search in
-    let i : tie.In-loop invariant-loop decreases-loop = search in
-    omega (arith, inside s, i.before.loop.inv.0, i.loop-test.taken)
+    let i : tie.In-loop-m invariant-loop decreases-loop = search in
+    omega (arith, inside s, i.before.loop-m.invariant.0, i.loop-m-test.true)
 
-shared-slice-read-if2-2 : tie.Need-shared-slice-read-if2-2 invariant-loop decreases-loop
+shared-slice-read-if2-2 : tie.Need-bounds-labels-j invariant-loop decreases-loop
 shared-slice-read-if2-2 c =
     let s : tie.Start invariant-loop decreases-loop = search in
-    let i : tie.In-loop invariant-loop decreases-loop = search in
-    omega (arith, inside s, i.before.loop.inv.0, i.loop-test.taken)
+    let i : tie.In-loop-m invariant-loop decreases-loop = search in
+    omega (arith, inside s, i.before.loop-m.invariant.0, i.loop-m-test.true)
 
-returns-2 : tie.Need-returns-2 invariant-loop decreases-loop
+returns-2 : tie.Need-returns-then-labels-i invariant-loop decreases-loop
 returns-2 c =
-    let w : tie.At-loop invariant-loop decreases-loop = search in
-    let i : tie.In-loop invariant-loop decreases-loop = search in
-    let pos = i.loop-test.taken in
-    (λ e. absurd (true≢false (sym e)), λ _ alike. c.if2.true (alike.label (w.loop.m - 1) (omega (arith, w.loop.inv.0))))
+    let w : tie.At-loop-m invariant-loop decreases-loop = search in
+    let i : tie.In-loop-m invariant-loop decreases-loop = search in
+    let pos = i.loop-m-test.true in
+    (λ e. absurd (true≢false (sym e)), λ _ alike. c.if-labels-i.true (alike.label (w.loop-m.m - 1) (omega (arith, w.loop-m.invariant.0))))
 
-loop-again : tie.Need-loop-preserved invariant-loop decreases-loop
+loop-again : tie.Need-loop-m-preserved invariant-loop decreases-loop
 loop-again c =
     let start : tie.Start invariant-loop decreases-loop = search in
-    let w : tie.At-loop invariant-loop decreases-loop = search in
-    let i : tie.In-loop invariant-loop decreases-loop = search in
-    let pos = i.loop-test.taken in
+    let w : tie.At-loop-m invariant-loop decreases-loop = search in
+    let i : tie.In-loop-m invariant-loop decreases-loop = search in
+    let pos = i.loop-m-test.true in
     let s = start.args in (
-      omega (arith, w.loop.inv.0),
-      λ k a b. ⊎_elim (λ lt. w.loop.inv.1 k (omega arith) b)
-          (λ e. subst (λ k. label_of s.labels.now s.i k ≡ label_of s.labels.now s.j k) e c.if2.false) (below (w.loop.m - 1) k (omega arith)),
+      omega (arith, w.loop-m.invariant.0),
+      λ k a b. ⊎_elim (λ lt. w.loop-m.invariant.1 k (omega arith) b)
+          (λ e. subst (λ k. label_of s.labels.now s.i k ≡ label_of s.labels.now s.j k) e c.if-labels-i.false) (below (w.loop-m.m - 1) k (omega arith)),
     )
 
-returns-3 : tie.Need-returns-3 invariant-loop decreases-loop
+returns-3 : tie.Need-returns invariant-loop decreases-loop
 returns-3 c =
-    let u : tie.Else1 invariant-loop decreases-loop = search in
+    let u : tie.Else-levels-j invariant-loop decreases-loop = search in
     let w = c.before in (
-      λ _. record { level = u.if1.left; label = λ k lt. w.loop.invariant.1 k (omega (arith, c.loop-test.false)) lt },
+      λ _. record { level = u.if-levels-j.false; label = λ k lt. w.loop-m.invariant.1 k (omega (arith, c.loop-m-test.false)) lt },
       λ e. absurd (true≢false e),
     )
 
-pub same-labels-spec : {M : Type 1} → statement M
-same-labels-spec =
+pub same_labels_spec : {M : Type 1} → statement M
+same_labels_spec =
     tie.close
     (tie.spec
     invariant-loop

@@ -4,28 +4,28 @@ use borrow.Author.Rules.{rules}
 use Rattle.indexes.proofs.test.test_lists.Statement.{statement}
 use Rattle.indexes.proofs.test.test_lists.Tie as tie
 
-returns : tie.Need-returns
-returns c = holds_short_last _ _ _ _ _ c.if1.true
+returns : tie.Need-returns-then-last-rows
+returns c = holds_short_last _ _ _ _ _ c.if-last-rows.true
 
-returns-2 : tie.Need-returns-2
-returns-2 c = holds_short _ _ _ _ _ c.if2.true
+returns-2 : tie.Need-returns-then-next-rows
+returns-2 c = holds_short _ _ _ _ _ c.if-next-rows.true
 
-returns-3 : tie.Need-returns-3
+returns-3 : tie.Need-returns-then-wrong-rows
 returns-3 c =
     let n = c.before.before in
     let l = n.before in
     let e = l.before in
-    holds_wrong _ _ _ _ _ e.before.if1.false e.if2.false _ _ _ l.wrong_last.ensures n.wrong_next.ensures c.before.smaller.ensures c.if3.true
+    holds_wrong _ _ _ _ _ e.before.if-last-rows.false e.if-next-rows.false _ _ _ l.wrong_last.ensures n.wrong_next.ensures c.before.smaller-wrong.ensures c.if-wrong-rows.true
 
-returns-4 : tie.Need-returns-4
+returns-4 : tie.Need-returns
 returns-4 c =
     let n = c.before.before in
     let l = n.before in
     let e = l.before in
-    holds_right _ _ _ _ _ e.before.if1.false e.if2.false _ _ _ l.wrong_last.ensures n.wrong_next.ensures c.before.smaller.ensures c.if3.false
+    holds_right _ _ _ _ _ e.before.if-last-rows.false e.if-next-rows.false _ _ _ l.wrong_last.ensures n.wrong_next.ensures c.before.smaller-wrong.ensures c.if-wrong-rows.false
 
-pub test-lists-spec : {M : Type 1} → statement M
-test-lists-spec =
+pub test_lists_spec : {M : Type 1} → statement M
+test_lists_spec =
     tie.close
     (tie.spec
     returns

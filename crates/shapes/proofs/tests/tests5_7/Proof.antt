@@ -9,61 +9,61 @@ use Rattle.shapes.proofs.tests.tests5_7.Statement.{statement}
 use Rattle.shapes.proofs.tests.tests5_7.Tie as tie
 
 -- where the function begins; the shape that is lent, and its format
-abbrev lent : tie.After-slice-known → tie.Start
+abbrev lent : tie.After-slice_known-1 → tie.Start
 lent x = x.before.before.before.before
 
-abbrev begun : tie.After-examine-shape → tie.Start
+abbrev begun : tie.After-examine_shape-examined → tie.Start
 begun x = lent x.before
 
-abbrev shape : tie.After-examine-shape → List ℕ
+abbrev shape : tie.After-examine_shape-examined → List ℕ
 shape x = (begun x).args.shape.now
 
-abbrev format : tie.After-examine-shape → Format
+abbrev format : tie.After-examine_shape-examined → Format
 format x = (begun x).args.f
 
-shaped : (c : tie.Else1) → Shaped (format c.before) (shape c.before) c.before.examine-shape.result.entries
-shaped c = let x = c.before in shape_passed (format x) (shape x) x.examine-shape.result x.examine-shape.ensures c.if1.false
+shaped : (c : tie.Else-number-ne0) → Shaped (format c.before) (shape c.before) c.before.examine_shape-examined.result.entries
+shaped c = let x = c.before in shape_passed (format x) (shape x) x.examine_shape-examined.result x.examine_shape-examined.ensures c.if-number-ne0.false
 
-returns : tie.Need-returns
+returns : tie.Need-returns-then-number-ne0
 returns c t table told =
-    let x : tie.After-examine-shape = search in
-    let r = x.examine-shape.result in
-    refusal (format x) t (shape x) c.refused.result _ r.number r.place c.refused.ensures c.before.if1.true
-    (shape-refused (format x) (shape x) r x.examine-shape.ensures t table c.before.if1.true)
+    let x : tie.After-examine_shape-examined = search in
+    let r = x.examine_shape-examined.result in
+    refusal (format x) t (shape x) c.refused.result _ r.number r.place c.refused.ensures c.before.if-number-ne0.true
+    (shape-refused (format x) (shape x) r x.examine_shape-examined.ensures t table c.before.if-number-ne0.true)
 
-entry-types-requires : tie.Need-entry-types-requires
+entry-types-requires : tie.Need-entry_types-named-requires
 entry-types-requires c κs =
     let s : tie.Start = search in
-    let ((whole, some, deep), kept) = shape_asked s.pre.0.0 (shaped c) in
-    ((whole, some, omega arith), (kept, s.pre.1))
+    let ((whole, some, deep), kept) = shape_asked s.requires.0.0 (shaped c) in
+    ((whole, some, omega arith), (kept, s.requires.1))
 
-returns-2 : tie.Need-returns-2
+returns-2 : tie.Need-returns-then-missing-entries
 returns-2 c t table told =
-    let x : tie.After-examine-shape = search in
-    let s : tie.Else1 = search in
-    let k : tie.After-entry-types = search in
-    refusal (format x) t (shape x) c.refused2.result _ 7 k.entry-types.result.place c.refused2.ensures (λ z. omega (arith, z))
-    (types_missing t table told (shaped s) k.entry-types.result k.entry-types.ensures (omega (arith, c.before.if2.true)))
+    let x : tie.After-examine_shape-examined = search in
+    let s : tie.Else-number-ne0 = search in
+    let k : tie.After-entry_types-named = search in
+    refusal (format x) t (shape x) c.refused-then-missing-entries.result _ 7 k.entry_types-named.result.place c.refused-then-missing-entries.ensures (λ z. omega (arith, z))
+    (types_missing t table told (shaped s) k.entry_types-named.result k.entry_types-named.ensures (omega (arith, c.before.if-missing-entries.true)))
 
-entry-ways-requires : tie.Need-entry-ways-requires
+entry-ways-requires : tie.Need-entry_ways-laid-requires
 entry-ways-requires c κs =
     let start : tie.Start = search in
-    let s : tie.Else1 = search in
-    let (asked, kept) = shape_asked start.pre.0.0 (shaped s) in
-    (asked, (kept, start.pre.0.1))
+    let s : tie.Else-number-ne0 = search in
+    let (asked, kept) = shape_asked start.requires.0.0 (shaped s) in
+    (asked, (kept, start.requires.0.1))
 
-returns-3 : tie.Need-returns-3
+returns-3 : tie.Need-returns
 returns-3 c t table told =
-    let u : tie.Else1 = search in
-    let k : tie.After-entry-types = search in
-    let v : tie.After-entry-ways = search in
-    let w = v.entry-ways in
-    let ways = w.last.1.1.1.0 in
-    passes t table told (shaped u) k.entry-types.result k.entry-types.ensures (omega (arith, v.before.before.if2.left)) w.result ways
+    let u : tie.Else-number-ne0 = search in
+    let k : tie.After-entry_types-named = search in
+    let v : tie.After-entry_ways-laid = search in
+    let w = v.entry_ways-laid in
+    let ways = w.new.ways in
+    passes t table told (shaped u) k.entry_types-named.result k.entry_types-named.ensures (omega (arith, v.before.before.if-missing-entries.false)) w.result ways
     w.ensures
 
-pub tests5-7-spec : {M : Type 1} → statement M
-tests5-7-spec =
+pub tests5_7_spec : {M : Type 1} → statement M
+tests5_7_spec =
     tie.close
     (tie.spec
     (λ c κs. search rules) (λ c κs. search rules)

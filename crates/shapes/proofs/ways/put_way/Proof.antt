@@ -6,40 +6,40 @@ use borrow.Author.Rules.{rules}
 use Rattle.shapes.proofs.ways.put_way.Statement.{statement}
 use Rattle.shapes.proofs.ways.put_way.Tie as tie
 
-abbrev invariant-loop : tie.invariant-loop
+abbrev invariant-loop : tie.invariant-loop-k
 invariant-loop ways₀ e l k₀ ways k = (k + 1 ≤ l) × Copied ways₀ e k ways
 
-abbrev decreases-loop : tie.decreases-loop
+abbrev decreases-loop : tie.decreases-loop-k
 decreases-loop ways₀ e l k₀ ways k = l - k
 
 -- where the function begins
-abbrev begun : tie.At-loop invariant-loop decreases-loop → tie.Start invariant-loop decreases-loop
+abbrev begun : tie.At-loop-k invariant-loop decreases-loop → tie.Start invariant-loop decreases-loop
 begun l = l.before
 
-loop-holds : tie.Need-loop-init invariant-loop decreases-loop
+loop-holds : tie.Need-loop-k-init invariant-loop decreases-loop
 loop-holds c = let a = c.args in (omega arith, copied_none a.ways.now a.e)
 
-sub-ways : tie.Need-overflow-sub-ways invariant-loop decreases-loop
+sub-ways : tie.Need-overflow_sub-ways invariant-loop decreases-loop
 sub-ways c =
     let s = begun c.before in
-    later s.args.e s.args.l s.pre.4 (omega arith)
+    later s.args.e s.args.l s.requires.4 (omega arith)
 
-loop-again : tie.Need-loop-preserved invariant-loop decreases-loop
+loop-again : tie.Need-loop-k-preserved invariant-loop decreases-loop
 loop-again c =
     let l = c.before.before in
     let s = begun l in
     let a = s.args in
-    let pos : 1 ≤ a.e = later a.e a.l s.pre.4 (omega arith) in
-    (omega arith, copied_more a.ways.now a.e l.loop.k l.loop.ways l.loop.invariant.1 pos (omega arith) (omega arith))
+    let pos : 1 ≤ a.e = later a.e a.l s.requires.4 (omega arith) in
+    (omega arith, copied_more a.ways.now a.e l.loop-k.k l.loop-k.ways l.loop-k.invariant.1 pos (omega arith) (omega arith))
 
 returns : tie.Need-returns invariant-loop decreases-loop
 returns c =
     let l = c.before in
     let a = (begun l).args in
-    copied_put a.ways.now a.e l.loop.k l.loop.ways l.loop.invariant.1 a.l (omega arith) (omega arith) (omega arith)
+    copied_put a.ways.now a.e l.loop-k.k l.loop-k.ways l.loop-k.invariant.1 a.l (omega arith) (omega arith) (omega arith)
 
-pub put-way-spec : {M : Type 1} → statement M
-put-way-spec =
+pub put_way_spec : {M : Type 1} → statement M
+put_way_spec =
     tie.close
     (tie.spec
     invariant-loop
