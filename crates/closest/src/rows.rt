@@ -12,7 +12,7 @@ use types::list::list_types;
 
 // A refusal with zeros, or the number of rows and the types: how many, and of each its parent type (64 for none) and last label. It is small
 // enough to go by value with no call that copies.
-#[derive(Drop)]
+#[derive(Clone, Copy, Drop)]
 pub struct RowsRead {
     pub number: usize,
     pub place: usize,

@@ -20,7 +20,7 @@ use shapes::work::prepare;
 
 // What judging answers: a refusal with verdict Kept, no and zeros, or the verdict, the second answer, and for each entry but the first how many
 // closest rows there are along its edge, both ways; entry 0 and unused entries hold zeros.
-#[derive(Drop)]
+#[derive(Clone, Copy, Drop)]
 pub struct Judged {
     pub number: usize,
     pub place: usize,

@@ -78,7 +78,7 @@ fn sure_down(
 }
 
 // What is found of the path between two entries.
-#[derive(Drop)]
+#[derive(Clone, Copy, Drop)]
 pub struct Path {
     pub shared: usize, // how many entries their ways share
     pub least: usize, // the least level on it

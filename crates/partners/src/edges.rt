@@ -37,7 +37,7 @@ fn run_start(levels: &[u8], l: u8, row: usize) -> usize
 
 // Eight edges as they are walked at once: the level up to which a row begins a run, the types of the parents and those of the children.
 // 65,535 is no row's type.
-#[derive(Drop)]
+#[derive(Clone, Copy, Drop)]
 pub struct Group {
     pub bounds: [u16; 8],
     pub over: [u16; 8],
@@ -154,7 +154,7 @@ fn lone_start(levels: &[u8], shape: Shape, low: [u16; 8], high: [u16; 8], c: usi
 
 // What is found of the edges: for each entry but the first the least and the greatest number of children under a parent row, and of parents of
 // a child row; entry 0 and unused entries hold zeros.
-#[derive(Drop)]
+#[derive(Clone, Copy, Drop)]
 pub struct Edges {
     pub least_children: [usize; 16],
     pub greatest_children: [usize; 16],

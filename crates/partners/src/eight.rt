@@ -5,7 +5,7 @@ ghost use Rattle.partners.specs.Eight.{places, Eights, nothing, ended, fewer, mo
 ghost use Rattle.partners.specs.Eight.{Closes, Within, Few, CountsDeep, LevelAt, WalkedAll};
 
 // What is found of eight edges. 65,535 stands for the least of no numbers, and for no end.
-#[derive(Drop)]
+#[derive(Clone, Copy, Drop)]
 pub struct Eight {
     pub least_children: [u16; 8],
     pub greatest_children: [u16; 8],
@@ -133,7 +133,7 @@ fn close(
 }
 
 // The rows counted so far, and the row that comes next.
-#[derive(Drop)]
+#[derive(Clone, Copy, Drop)]
 pub struct Counts {
     pub parents: [u16; 8],
     pub children: [u16; 8],

@@ -7,7 +7,7 @@ use crate::edges::{edge_levels, entry_ends};
 
 // Of each entry its level, the last label of its type, the number of its type, its parent, the level at which the two types meet, and one
 // past its last child entry. It goes by value, and what is past the entries does not matter.
-#[derive(Drop)]
+#[derive(Clone, Copy, Drop)]
 pub struct Shape {
     pub entries: usize,
     pub levels: [u8; 16],

@@ -11,7 +11,7 @@ use crate::ways::entry_ways;
 use paper::Format;
 
 // What examining a shape by itself answers.
-#[derive(Drop)]
+#[derive(Clone, Copy, Drop)]
 pub struct ShapeExamined {
     pub number: usize,
     pub place: usize,
@@ -62,7 +62,7 @@ pub fn examine_shape(shape: &[u8], f: Format) -> ShapeExamined
 }
 
 // A refusal, or the number of entries with the level, last label, parent and type number of each.
-#[derive(Drop)]
+#[derive(Clone, Copy, Drop)]
 pub struct Tested {
     pub number: usize,
     pub place: usize,

@@ -34,7 +34,7 @@ fn parent_of(ways: &[u8], e: usize, l: usize) -> u8
 }
 
 // Each entry's level, the last label of its type, and its parent (0 for entry 0).
-#[derive(Drop)]
+#[derive(Clone, Copy, Drop)]
 pub struct Fields {
     pub levels: [u8; 16],
     pub labels: [u16; 16],

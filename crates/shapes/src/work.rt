@@ -10,7 +10,7 @@ use closest::rows::RowsRead;
 use paper::Format;
 
 // A refusal, or the number of rows and the shape.
-#[derive(Drop)]
+#[derive(Clone, Copy, Drop)]
 pub struct Preparation {
     pub number: usize,
     pub place: usize,

@@ -13,7 +13,7 @@ use paper::Format;
 
 // What examining answers.
 #[repr(C)]
-#[derive(Drop)]
+#[derive(Clone, Copy, Drop)]
 pub struct Examined {
     pub number: usize,
     pub place: usize,
@@ -108,7 +108,7 @@ pub fn examine(table: &[u8], f: Format) -> Examined
 }
 
 // A refusal's number and place; zeros for none.
-#[derive(Drop)]
+#[derive(Clone, Copy, Drop)]
 pub struct Refusal {
     pub number: usize,
     pub place: usize,

@@ -9,7 +9,7 @@ ghost use Rattle.types.specs.Types.{Lists, Found, FoundNear};
 use paper::Format;
 
 // Each type's parent type (64 for none) and last label. `over` is the first row of the 65th type, or the number of rows.
-#[derive(Drop)]
+#[derive(Clone, Copy, Drop)]
 pub struct Types {
     pub count: usize,
     pub over: usize,
