@@ -6,18 +6,18 @@ use borrow.Author.Rules.{rules}
 use Rattle.partners.proofs.edges.of_entry.Statement.{statement}
 use Rattle.partners.proofs.edges.of_entry.Tie as tie
 
-returns : tie.Need-returns
+returns : tie.Need-returns-then-c-ge8
 returns c =
     let a = c.before.before.args in
-    (c.wide16.ensures.0 ∙ sym (of_high a.t1 a.t2 a.c c.before.if1.true), omega (arith, c.wide16.ensures.1))
+    (c.wide16.ensures.0 ∙ sym (of_high a.low a.high a.c c.before.if-c-ge8.true), omega (arith, c.wide16.ensures.1))
 
-returns-2 : tie.Need-returns-2
+returns-2 : tie.Need-returns
 returns-2 c =
     let a = c.before.before.args in
-    (c.wide162.ensures.0 ∙ sym (of_low a.t1 a.t2 a.c c.before.if1.false), omega (arith, c.wide162.ensures.1))
+    (c.wide16-2.ensures.0 ∙ sym (of_low a.low a.high a.c c.before.if-c-ge8.false), omega (arith, c.wide16-2.ensures.1))
 
-pub of-entry-spec : {M : Type 1} → statement M
-of-entry-spec =
+pub of_entry_spec : {M : Type 1} → statement M
+of_entry_spec =
     tie.close
     (tie.spec
     (λ c. search rules) (λ c. search rules) (λ c κs. search rules)

@@ -17,42 +17,42 @@ start_back : (levels : List ℕ) (l i : ℕ) → 0 < i → begins levels l i ≡
 start_back levels l zero pos on = absurd (not-suc-le-zero pos)
 start_back levels l (suc i) pos on = let back : suc i - 1 ≡ i = omega arith in ap (start_of levels l) back ∙ sym (start_on levels l i on)
 
-abbrev invariant-loop : tie.invariant-loop
+abbrev invariant-loop : tie.invariant-loop-i
 invariant-loop levels l row bound i₀ i = (i ≤ row) × (start_of levels l i ≡ start_of levels l row)
 
-abbrev decreases-loop : tie.decreases-loop
+abbrev decreases-loop : tie.decreases-loop-i
 decreases-loop levels l row bound i₀ i = i
 
-loop-holds : tie.Need-loop-init invariant-loop decreases-loop
+loop-holds : tie.Need-loop-i-init invariant-loop decreases-loop
 loop-holds c = (omega arith, refl)
 
-returns : tie.Need-returns invariant-loop decreases-loop
+returns : tie.Need-returns-then-levels-i invariant-loop decreases-loop
 returns c =
     let w = c.before.before.before in
     let a = w.before.before.before.args in
-    sym (start_begins a.levels.now a.l w.loop.i
-    (begins-within a.levels.now a.l w.before.run-bound.result w.loop.i w.before.run-bound.ensures
-    (c.before.shared-slice-known2.given w.loop.i).fits c.if1.true)) ∙ w.loop.invariant.1
+    sym (start_begins a.levels.now a.l w.loop-i.i
+    (begins-within a.levels.now a.l w.before.run_bound-bound.result w.loop-i.i w.before.run_bound-bound.ensures
+    (c.before.shared_slice_known-in-loop-i-1.given w.loop-i.i).fits c.if-levels-i.true)) ∙ w.loop-i.invariant.1
 
-loop-again : tie.Need-loop-preserved invariant-loop decreases-loop
+loop-again : tie.Need-loop-i-preserved invariant-loop decreases-loop
 loop-again c =
     let w = c.before.before.before in
     let a = w.before.before.before.args in (
-      omega (arith, w.loop.invariant.0),
-      start_back a.levels.now a.l w.loop.i c.before.before.loop-test.true
-          (on_above a.levels.now a.l w.before.run-bound.result w.loop.i w.before.run-bound.ensures
-          (c.before.shared-slice-known2.given w.loop.i).fits c.if1.false) ∙ w.loop.invariant.1,
+      omega (arith, w.loop-i.invariant.0),
+      start_back a.levels.now a.l w.loop-i.i c.before.before.loop-i-test.true
+          (on_above a.levels.now a.l w.before.run_bound-bound.result w.loop-i.i w.before.run_bound-bound.ensures
+          (c.before.shared_slice_known-in-loop-i-1.given w.loop-i.i).fits c.if-levels-i.false) ∙ w.loop-i.invariant.1,
     )
 
-returns-2 : tie.Need-returns-2 invariant-loop decreases-loop
+returns-2 : tie.Need-returns invariant-loop decreases-loop
 returns-2 c =
     let w = c.before in
     let a = w.before.before.before.args in
-    let first : w.loop.i ≡ 0 = omega (arith, c.loop-test.false) in
-    first ∙ sym (start_first a.levels.now a.l) ∙ ap (start_of a.levels.now a.l) (sym first) ∙ w.loop.invariant.1
+    let first : w.loop-i.i ≡ 0 = omega (arith, c.loop-i-test.false) in
+    first ∙ sym (start_first a.levels.now a.l) ∙ ap (start_of a.levels.now a.l) (sym first) ∙ w.loop-i.invariant.1
 
-pub run-start-spec : {M : Type 1} → statement M
-run-start-spec =
+pub run_start_spec : {M : Type 1} → statement M
+run_start_spec =
     tie.close
     (tie.spec
     invariant-loop

@@ -6,28 +6,28 @@ use Rattle.partners.proofs.edges.walk_group.Statement.{statement}
 use Rattle.partners.proofs.edges.walk_group.Tie as tie
 
 -- where the slices are known, and where the function begins
-abbrev known : tie.After-struct-known2 → tie.After-shared-slice-known
+abbrev known : tie.After-struct_known-2-1 → tie.After-shared_slice_known-1
 known c = c.before.before.before
 
-abbrev begun : tie.After-struct-known2 → tie.Start
+abbrev begun : tie.After-struct_known-2-1 → tie.Start
 begun c = (known c).before
 
-returns : tie.Need-returns
+returns : tie.Need-returns-then-shape-first
 returns c =
     let t = c.before in
     let s = begun t.before in
     let a = s.args in
-    nothing_found a.levels.now a.types.now a.rows s.pre.0 (λ i lt. ((known t.before).shared-slice-known.given i).fits) a.shape
-    (none_there a.shape a.first t.if1.true) c.nothing.ensures
+    nothing_found a.levels.now a.types.now a.rows s.requires.0 (λ i lt. ((known t.before).shared_slice_known-1.given i).fits) a.shape
+    (none_there a.shape a.first t.if-shape-first.true) c.nothing.ensures
 
-returns-2 : tie.Need-returns-2
+returns-2 : tie.Need-returns
 returns-2 c =
     let g = c.before.before.before.before in
     let k = g.before.before in
     let s = begun k in
     let a = s.args in
-    group_found a.levels.now a.types.now a.rows s.pre.0 (λ i lt. ((known k).shared-slice-known.given i).fits) a.shape
-    g.group-from.ensures c.walk-eight.ensures
+    group_found a.levels.now a.types.now a.rows s.requires.0 (λ i lt. ((known k).shared_slice_known-1.given i).fits) a.shape
+    g.group_from-group.ensures c.walk_eight.ensures
 
-pub walk-group-spec : {M : Type 1} → statement M
-walk-group-spec = tie.close (tie.spec (λ c κs. search rules) returns (λ c κs. search rules) (λ c κs. search rules) returns-2)
+pub walk_group_spec : {M : Type 1} → statement M
+walk_group_spec = tie.close (tie.spec (λ c κs. search rules) returns (λ c κs. search rules) (λ c κs. search rules) returns-2)

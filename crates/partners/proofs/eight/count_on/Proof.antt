@@ -11,58 +11,58 @@ use borrow.Author.Rules.{rules}
 use Rattle.partners.proofs.eight.count_on.Statement.{statement}
 use Rattle.partners.proofs.eight.count_on.Tie as tie
 
-abbrev invariant-loop : tie.invariant-loop
+abbrev invariant-loop : tie.invariant-loop-e
 invariant-loop k level counts wanted bounds on₀ e₀ on e =
     (e ≤ places) × Filled (λ j. onward (get_or bounds j 0) level (get_or wanted j 0) k (get_or counts j 0)) 0 places e on
 
-abbrev decreases-loop : tie.decreases-loop
+abbrev decreases-loop : tie.decreases-loop-e
 decreases-loop k level counts wanted bounds on₀ e₀ on e = places - e
 
 -- the turn, seen from where what is counted is known
-abbrev turn : tie.Joined2 invariant-loop decreases-loop → tie.At-loop invariant-loop decreases-loop
+abbrev turn : tie.Joined-wanted-e invariant-loop decreases-loop → tie.At-loop-e invariant-loop decreases-loop
 turn c = c.before.before.before
 
-loop-holds : tie.Need-loop-init invariant-loop decreases-loop
-loop-holds c = (omega arith, filled_none _ 0 places c.args.t1 (omega (arith, c.well-formed)))
+loop-holds : tie.Need-loop-e-init invariant-loop decreases-loop
+loop-holds c = (omega arith, filled_none _ 0 places c.args.counts (omega (arith, c.well_formed)))
 
-add-on : tie.Need-overflow-add-on invariant-loop decreases-loop
+add-on : tie.Need-overflow_add-on invariant-loop decreases-loop
 add-on c =
     let j = c.before.before in
     let l = turn j in
-    let before : j.before.if1.before ≤ get_or l.before.args.t1 l.loop.e 0 =
-    ⊎_elim (λ w. omega (arith, w.1)) (λ w. omega (arith, w.1)) j.before.if1.branch in
-    let own : j.if2.own ≤ 1 = ⊎_elim (λ w. omega (arith, w.1)) (λ w. omega (arith, w.1)) j.if2.branch in
-    omega (arith, before, own, l.before.pre l.loop.e (omega arith))
+    let before : j.before.if-level-bounds.before ≤ get_or l.before.args.counts l.loop-e.e 0 =
+    ⊎_elim (λ w. omega (arith, w.before-is)) (λ w. omega (arith, w.before-is)) j.before.if-level-bounds.branch-raw in
+    let own : j.if-wanted-e.own ≤ 1 = ⊎_elim (λ w. omega (arith, w.own-is)) (λ w. omega (arith, w.own-is)) j.if-wanted-e.branch-raw in
+    omega (arith, before, own, l.before.requires l.loop-e.e (omega arith))
 
 -- what is put at a place is the rows counted there
-lane : (c : tie.Joined2 invariant-loop decreases-loop) →
+lane : (c : tie.Joined-wanted-e invariant-loop decreases-loop) →
     let l = turn c in
     let a = l.before.args in
-    let e = l.loop.e in
-    c.before.if1.before + c.if2.own ≡ onward (get_or a.t3 e 0) a.level (get_or a.t2 e 0) a.k (get_or a.t1 e 0)
+    let e = l.loop-e.e in
+    c.before.if-level-bounds.before + c.if-wanted-e.own ≡ onward (get_or a.bounds e 0) a.level (get_or a.wanted e 0) a.k (get_or a.counts e 0)
 lane c =
     let l = turn c in
     let a = l.before.args in
-    let count = get_or a.t1 l.loop.e 0 in
-    let wanted = get_or a.t2 l.loop.e 0 in
-    let bound = get_or a.t3 l.loop.e 0 in
-    let own : c.if2.own ≡ single wanted a.k =
-    ⊎_elim (λ w. omega (arith, w.1, single_own wanted a.k w.0.taken))
-    (λ w. omega (arith, w.1, single_other wanted a.k w.0.left)) c.if2.branch in
-    ⊎_elim (λ w. omega (arith, w.1, own, onward-within bound a.level wanted a.k count w.0.taken))
-    (λ w. omega (arith, w.1, own, onward_above bound a.level wanted a.k count w.0.left)) c.before.if1.branch
+    let count = get_or a.counts l.loop-e.e 0 in
+    let wanted = get_or a.wanted l.loop-e.e 0 in
+    let bound = get_or a.bounds l.loop-e.e 0 in
+    let own : c.if-wanted-e.own ≡ single wanted a.k =
+    ⊎_elim (λ w. omega (arith, w.own-is, single_own wanted a.k w.if-wanted-e.true))
+    (λ w. omega (arith, w.own-is, single_other wanted a.k w.if-wanted-e.false)) c.if-wanted-e.branch-raw in
+    ⊎_elim (λ w. omega (arith, w.before-is, own, onward-within bound a.level wanted a.k count w.if-level-bounds.true))
+    (λ w. omega (arith, w.before-is, own, onward_above bound a.level wanted a.k count w.if-level-bounds.false)) c.before.if-level-bounds.branch-raw
 
-loop-again : tie.Need-loop-preserved invariant-loop decreases-loop
+loop-again : tie.Need-loop-e-preserved invariant-loop decreases-loop
 loop-again c =
     let j = c.before.before in
     let l = turn j in
-    (omega arith, filled_more _ 0 places l.loop.e l.loop.on (j.before.if1.before + j.if2.own) (omega arith) l.loop.inv.1 (lane j))
+    (omega arith, filled_more _ 0 places l.loop-e.e l.loop-e.on (j.before.if-level-bounds.before + j.if-wanted-e.own) (omega arith) l.loop-e.invariant.1 (lane j))
 
 returns : tie.Need-returns invariant-loop decreases-loop
-returns c = λ e lt. c.before.loop.invariant.1.at e (omega arith)
+returns c = λ e lt. c.before.loop-e.invariant.1.at e (omega arith)
 
-pub count-on-spec : {M : Type 1} → statement M
-count-on-spec =
+pub count_on_spec : {M : Type 1} → statement M
+count_on_spec =
     tie.close
     (tie.spec
     invariant-loop

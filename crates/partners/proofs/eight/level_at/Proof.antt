@@ -4,8 +4,8 @@ use borrow.Author.Rules.{rules}
 use Rattle.partners.proofs.eight.level_at.Statement.{statement}
 use Rattle.partners.proofs.eight.level_at.Tie as tie
 
-cast-result : tie.Need-overflow-cast-result
-cast-result c = omega (arith, c.shared-slice-known.given c.before.before.args.i)
+cast-result : tie.Need-overflow_cast-result
+cast-result c = omega (arith, c.shared_slice_known-1.given c.before.before.args.i)
 
-pub level-at-spec : {M : Type 1} → statement M
-level-at-spec = tie.close (tie.spec (λ c. search rules) cast-result (λ c. search rules) (λ c. search rules))
+pub level_at_spec : {M : Type 1} → statement M
+level_at_spec = tie.close (tie.spec (λ c. search rules) cast-result (λ c. search rules) (λ c. search rules))
