@@ -9,7 +9,6 @@ use Rattle.paper.specs.Lists.{Has}
 use Rattle.paper.specs.Format.{Format, row_bytes, whole}
 use Rattle.paper.specs.Tables as Tables
 use Rattle.paper.specs.Tables.{row_types, types, type_number}
-use Rattle.paper.specs.Closeness.{level}
 use Rattle.paper.proofs.Lists.{get_d_has}
 use Rattle.paper.proofs.Tables.{step, length-ways, has-distinct, number_same}
 use Rattle.paper.proofs.Calls.{count-rows}

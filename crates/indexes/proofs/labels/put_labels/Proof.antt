@@ -30,7 +30,7 @@ sub-labels c = omega (arith, later c, c.before.loop-m.invariant.1.some)
 slice-read-labels : tie.Need-bounds-labels-at invariant-loop decreases-loop
 slice-read-labels c = let w = c.before.before in omega (arith, w.loop-m.invariant.1.long, w.before.requires.2, w.before.requires.1, c.before.loop-m-test.true)
 
-sub-labels-2 : tie.Need-overflow_sub-labels-2 invariant-loop decreases-loop
+sub-labels-2 : tie.Need-overflow_sub-labels-in-loop-m invariant-loop decreases-loop
 sub-labels-2 c = omega (arith, c.before.before.loop-m.invariant.1.some)
 
 slice-write-labels : tie.Need-bounds-labels-at-in-loop-m invariant-loop decreases-loop

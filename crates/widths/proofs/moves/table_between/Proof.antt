@@ -6,18 +6,18 @@ use borrow.Author.Rules.{rules}
 use Rattle.widths.proofs.moves.table_between.Statement.{statement}
 use Rattle.widths.proofs.moves.table_between.Tie as tie
 
-move-table-requires : tie.Need-move-table-requires
+move-table-requires : tie.Need-move_table-requires
 move-table-requires c κs =
     let g = c.before in
     let a = g.before.before.before.before.args in
-    (format_served _ a.from g.before.format-of.ensures, format_served _ a.to g.format-of2.ensures)
+    (format_served _ a.from g.before.format_of.ensures, format_served _ a.to g.format_of-2.ensures)
 
 returns : tie.Need-returns
 returns c =
     let m = c.before.before in
     let g = m.before.before in
     let a = g.before.before.before.before.args in
-    between move_table _ _ a.from a.to g.before.format-of.ensures g.format-of2.ensures _ _ _ _ m.move-table.ensures
+    between move_table _ _ a.from a.to g.before.format_of.ensures g.format_of-2.ensures _ _ _ _ m.move_table.ensures
 
-pub table-between-spec : {M : Type 1} → statement M
-table-between-spec = tie.close (tie.spec (λ c κs. search rules) (λ c κs. search rules) move-table-requires (λ c. search rules) returns)
+pub table_between_spec : {M : Type 1} → statement M
+table_between_spec = tie.close (tie.spec (λ c κs. search rules) (λ c κs. search rules) move-table-requires (λ c. search rules) returns)

@@ -7,13 +7,13 @@ use borrow.Author.Rules.{rules}
 use Rattle.widths.proofs.records.byte_of.Statement.{statement}
 use Rattle.widths.proofs.records.byte_of.Tie as tie
 
-returns : tie.Need-returns
-returns c = let a = c.before.before.args in sym (get_or-take a.from a.r.now a.k 0 c.before.if1.true)
+returns : tie.Need-returns-then-k-from
+returns c = let a = c.before.before.args in sym (get_or-take a.from a.r.now a.k 0 c.before.if-k-from.true)
 
-returns-2 : tie.Need-returns-2
+returns-2 : tie.Need-returns
 returns-2 c =
     let a = c.before.args in
-    sym (get_or-eq_default (take a.from a.r.now) 0 {n = a.k} (omega (arith, length-take a.from a.r.now, c.if1.false)))
+    sym (get_or-eq_default (take a.from a.r.now) 0 {n = a.k} (omega (arith, length-take a.from a.r.now, c.if-k-from.false)))
 
-pub byte-of-spec : {M : Type 1} → statement M
-byte-of-spec = tie.close (tie.spec (λ c. search rules) returns returns-2)
+pub byte_of_spec : {M : Type 1} → statement M
+byte_of_spec = tie.close (tie.spec (λ c. search rules) returns returns-2)

@@ -13,19 +13,19 @@ use borrow.Author.Rules.{rules}
 use Rattle.widths.proofs.records.move_records.Statement.{statement}
 use Rattle.widths.proofs.records.move_records.Tie as tie
 
-abbrev invariant-loop : tie.invariant-loop
+abbrev invariant-loop : tie.invariant-loop-i
 invariant-loop b w count from to new₀ each i₀ new i = (i ≤ count) × Going (fitted from to) w (moved_bytes w from to) count b new₀ new i
 
-abbrev decreases-loop : tie.decreases-loop
+abbrev decreases-loop : tie.decreases-loop-i
 decreases-loop b w count from to new₀ each i₀ new i = count - i
 
 abbrev At-loop : Type 0
-At-loop = tie.At-loop invariant-loop decreases-loop
+At-loop = tie.At-loop-i invariant-loop decreases-loop
 
 abbrev begun : At-loop → tie.Start invariant-loop decreases-loop
 begun l = l.before.before.before.before
 
-loop-holds : tie.Need-loop-init invariant-loop decreases-loop
+loop-holds : tie.Need-loop-i-init invariant-loop decreases-loop
 loop-holds c =
     let a = c.before.before.before.args in
     (omega arith, going_start (fitted a.from a.to) a.w _ a.count a.b.now a.new.now)
@@ -33,53 +33,53 @@ loop-holds c =
 record-requires : tie.Need-record-requires invariant-loop decreases-loop
 record-requires c κs =
     let s = begun c.before in
-    row_in s.args.w c.before.loop.i s.args.b.now (omega (arith, s.pre.1.0, c.loop-test.true))
+    row_in s.args.w c.before.loop-i.i s.args.b.now (omega (arith, s.requires.1.0, c.loop-i-test.true))
 
 -- The moved record lies within what is lent.
-room : (c : tie.In-loop invariant-loop decreases-loop) →
+room : (c : tie.In-loop-i invariant-loop decreases-loop) →
     let l = c.before in
-    let each = l.before.moved-bytes.result in
-    each * l.loop.i + each ≤ length (begun l).args.new.now
+    let each = l.before.moved_bytes-each.result in
+    each * l.loop-i.i + each ≤ length (begun l).args.new.now
 room c =
     let l = c.before in
     let s = begun l in
-    let e = l.before.moved-bytes.ensures in
-    record_in l.before.moved-bytes.result l.loop.i s.args.count (length s.args.new.now) c.loop-test.true
-    (omega (arith, ap (λ n. n * s.args.count) e, s.pre.1.1))
+    let e = l.before.moved_bytes-each.ensures in
+    record_in l.before.moved_bytes-each.result l.loop-i.i s.args.count (length s.args.new.now) c.loop-i-test.true
+    (omega (arith, ap (λ n. n * s.args.count) e, s.requires.1.1))
 
-mul-move-record : tie.Need-overflow-mul-move-record invariant-loop decreases-loop
+mul-move-record : tie.Need-overflow_mul-each invariant-loop decreases-loop
 mul-move-record c = let fits = room c.before.before in search rules
 
-move-record-requires : tie.Need-move-record-requires invariant-loop decreases-loop
+move-record-requires : tie.Need-move_record-requires invariant-loop decreases-loop
 move-record-requires c κs =
     let l = c.before.before.before in
     let r = c.before.«record».ensures in (
       omega (arith, r.1, (begun l).requires.0.0),
-      omega (arith, r.1, room c.before.before, l.before.moved-bytes.ensures, l.loop.invariant.1.as_long),
+      omega (arith, r.1, room c.before.before, l.before.moved_bytes-each.ensures, l.loop-i.invariant.1.as_long),
     )
 
-loop-again : tie.Need-loop-preserved invariant-loop decreases-loop
+loop-again : tie.Need-loop-i-preserved invariant-loop decreases-loop
 loop-again c =
     let m = c.before.before in
     let r = m.before.before in
     let l = r.before.before in
     let a = (begun l).args in
     let own = r.«record».ensures in
-    let put = m.move-record.ensures
-    ∙ ap₂ (λ n x. sets l.loop.new (n * l.loop.i) (fitted a.from a.to x)) l.before.moved-bytes.ensures own.0 in (
+    let put = m.move_record.ensures
+    ∙ ap₂ (λ n x. sets l.loop-i.new (n * l.loop-i.i) (fitted a.from a.to x)) l.before.moved_bytes-each.ensures own.0 in (
       omega arith,
-      going_on (fitted a.from a.to) a.w _ a.count a.b.now a.new.now l.loop.new l.loop.i l.loop.invariant.1
-          (fitted_as a.w a.from a.to) r.before.loop-test.true (sym (ap length own.0) ∙ own.1) _ put,
+      going_on (fitted a.from a.to) a.w _ a.count a.b.now a.new.now l.loop-i.new l.loop-i.i l.loop-i.invariant.1
+          (fitted_as a.w a.from a.to) r.before.loop-i-test.true (sym (ap length own.0) ∙ own.1) _ put,
     )
 
 returns : tie.Need-returns invariant-loop decreases-loop
 returns c =
     let l = c.before in
     let a = (begun l).args in
-    going_end (fitted a.from a.to) a.w _ a.count a.b.now a.new.now l.loop.new l.loop.i l.loop.invariant.1 c.loop-test.false
+    going_end (fitted a.from a.to) a.w _ a.count a.b.now a.new.now l.loop-i.new l.loop-i.i l.loop-i.invariant.1 c.loop-i-test.false
 
-pub move-records-spec : {M : Type 1} → statement M
-move-records-spec =
+pub move_records_spec : {M : Type 1} → statement M
+move_records_spec =
     tie.close
     (tie.spec
     invariant-loop

@@ -11,31 +11,31 @@ use borrow.Author.Rules.{rules}
 use Rattle.widths.proofs.records.put_list.Statement.{statement}
 use Rattle.widths.proofs.records.put_list.Tie as tie
 
-abbrev invariant-loop : tie.invariant-loop
+abbrev invariant-loop : tie.invariant-loop-k
 invariant-loop r from to new₀ at k₀ new k =
     let list = padded to (take from r) in
     (k ≤ to) × Writing new₀ at list new (at + k) (drop k list)
 
-abbrev decreases-loop : tie.decreases-loop
+abbrev decreases-loop : tie.decreases-loop-k
 decreases-loop r from to new₀ at k₀ new k = to - k
 
-loop-holds : tie.Need-loop-init invariant-loop decreases-loop
+loop-holds : tie.Need-loop-k-init invariant-loop decreases-loop
 loop-holds c =
     let a = c.before.before.args in
     (omega arith, all_left a.new.now a.at (padded a.to (take a.from a.r.now)) _ (omega arith))
 
-loop-again : tie.Need-loop-preserved invariant-loop decreases-loop
+loop-again : tie.Need-loop-k-preserved invariant-loop decreases-loop
 loop-again c =
     let l = c.before.before in
     let a = l.before.before.before.args in
-    let k = l.loop.k in
+    let k = l.loop-k.k in
     let first = take a.from a.r.now in
     let list = padded a.to first in
-    let lt = c.before.loop-test.true in (
+    let lt = c.before.loop-k-test.true in (
       omega arith,
-      subst (λ v. Writing a.new.now a.at list (set l.loop.new (a.at + k) v) (a.at + (k + 1)) (drop (k + 1) list))
+      subst (λ v. Writing a.new.now a.at list (set l.loop-k.new (a.at + k) v) (a.at + (k + 1)) (drop (k + 1) list))
           (padded-at a.to first k lt ∙ sym c.byte_of.ensures)
-          (byte_written k list l.loop.invariant.1 (omega (arith, length-padded a.to first, lt))),
+          (byte_written k list l.loop-k.invariant.1 (omega (arith, length-padded a.to first, lt))),
     )
 
 returns : tie.Need-returns invariant-loop decreases-loop
@@ -43,11 +43,11 @@ returns c =
     let l = c.before in
     let a = l.before.before.before.args in
     let first = take a.from a.r.now in
-    all_written l.loop.invariant.1
-    (drop_of_length-le (padded a.to first) {i = l.loop.k} (omega (arith, length-padded a.to first, c.loop-test.false)))
+    all_written l.loop-k.invariant.1
+    (drop_of_length-le (padded a.to first) {i = l.loop-k.k} (omega (arith, length-padded a.to first, c.loop-k-test.false)))
 
-pub put-list-spec : {M : Type 1} → statement M
-put-list-spec =
+pub put_list_spec : {M : Type 1} → statement M
+put_list_spec =
     tie.close
     (tie.spec
     invariant-loop
