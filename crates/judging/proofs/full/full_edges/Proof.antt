@@ -27,33 +27,33 @@ first-full : (least : List ℕ) (xs : List Bool) → length xs ≡ most_entries 
 first-full least xs long root =
     record { long = long; at = below_more (λ e. get_or xs e false ≡ fullAt least e) 0 (λ e lt. absurd (not-suc-le-zero lt)) root }
 
-abbrev invariant-loop : tie.invariant-loop
+abbrev invariant-loop : tie.invariant-loop-c
 invariant-loop least full₀ c₀ full c = (1 ≤ c) × (c ≤ most_entries) × Filled (fullAt least) false most_entries c full
 
-abbrev decreases-loop : tie.decreases-loop
+abbrev decreases-loop : tie.decreases-loop-c
 decreases-loop least full₀ c₀ full c = most_entries - c
 
-loop-holds : tie.Need-loop-init invariant-loop decreases-loop
-loop-holds c = (omega arith, omega arith, first-full c.args.t1 _ refl refl)
+loop-holds : tie.Need-loop-c-init invariant-loop decreases-loop
+loop-holds c = (omega arith, omega arith, first-full c.args.least _ refl refl)
 
-loop-again : tie.Need-loop-preserved invariant-loop decreases-loop
+loop-again : tie.Need-loop-c-preserved invariant-loop decreases-loop
 loop-again c =
-    let l = c.before.loop in (
+    let l = c.before.loop-c in (
       omega arith,
-      omega (arith, c.loop-test.true),
-      filled_more (fullAt c.before.before.args.t1) false most_entries l.c l.full _ c.loop-test.true l.invariant.2
-          (sym (full_at c.before.before.args.t1 l.c l.invariant.0)),
+      omega (arith, c.loop-c-test.true),
+      filled_more (fullAt c.before.before.args.least) false most_entries l.c l.full _ c.loop-c-test.true l.invariant.2
+          (sym (full_at c.before.before.args.least l.c l.invariant.0)),
     )
 
 returns : tie.Need-returns invariant-loop decreases-loop
 returns c =
-    let l = c.before.loop in
-    let all : (e : ℕ) → e < most_entries → get_or l.full e false ≡ fullAt c.before.before.args.t1 e =
-    λ e lt. l.invariant.2.at e (omega (arith, c.loop-test.false)) in
-    record { root = all 0 (omega arith); each = λ e some lt. all e lt ∙ full_at c.before.before.args.t1 e some }
+    let l = c.before.loop-c in
+    let all : (e : ℕ) → e < most_entries → get_or l.full e false ≡ fullAt c.before.before.args.least e =
+    λ e lt. l.invariant.2.at e (omega (arith, c.loop-c-test.false)) in
+    record { root = all 0 (omega arith); each = λ e some lt. all e lt ∙ full_at c.before.before.args.least e some }
 
-pub full-edges-spec : {M : Type 1} → statement M
-full-edges-spec =
+pub full_edges_spec : {M : Type 1} → statement M
+full_edges_spec =
     tie.close
     (tie.spec
     invariant-loop

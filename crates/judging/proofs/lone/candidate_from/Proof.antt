@@ -5,11 +5,11 @@ use Rattle.judging.proofs.Search.{candidate_new, candidate_on}
 use Rattle.judging.proofs.lone.candidate_from.Statement.{statement}
 use Rattle.judging.proofs.lone.candidate_from.Tie as tie
 
-returns : tie.Need-returns
-returns c = let a = c.before.before.args in sym (candidate_new a.levels.now a.bound a.r a.j c.if1.true)
+returns : tie.Need-returns-then-levels-r
+returns c = let a = c.before.before.args in sym (candidate_new a.levels.now a.bound a.r a.j c.if-levels-r.true)
 
-returns-2 : tie.Need-returns-2
-returns-2 c = let a = c.before.before.args in sym (candidate_on a.levels.now a.bound a.r a.j c.if1.false)
+returns-2 : tie.Need-returns
+returns-2 c = let a = c.before.before.args in sym (candidate_on a.levels.now a.bound a.r a.j c.if-levels-r.false)
 
-pub candidate-from-spec : {M : Type 1} → statement M
-candidate-from-spec = tie.close (tie.spec (λ c. search rules) returns returns-2)
+pub candidate_from_spec : {M : Type 1} → statement M
+candidate_from_spec = tie.close (tie.spec (λ c. search rules) returns returns-2)

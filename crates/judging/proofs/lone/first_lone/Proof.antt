@@ -15,11 +15,11 @@ use Rattle.judging.proofs.Search.{Stands, Asked, Done, done_before, standing, do
 use Rattle.judging.proofs.lone.first_lone.Statement.{statement}
 use Rattle.judging.proofs.lone.first_lone.Tie as tie
 
-abbrev invariant-loop : tie.invariant-loop
+abbrev invariant-loop : tie.invariant-loop-j
 invariant-loop levels types rows met from shape lone c r₀ own other bound j₀ r j =
     (r ≡ r₀) × Candidates levels types rows (edge_of shape c) (type_of shape (parent_of shape c)) r₀ j
 
-abbrev decreases-loop : tie.decreases-loop
+abbrev decreases-loop : tie.decreases-loop-j
 decreases-loop levels types rows met from shape lone c r₀ own other bound j₀ r j = rows - j
 
 abbrev invariant-rows : tie.invariant-rows
@@ -44,140 +44,140 @@ begun e = e.before.before.before
 
 -- the parent of the entry whose rows are searched, and the entry
 abbrev widened :
-    tie.After-run-bound invariant-loop decreases-loop invariant-rows decreases-rows invariant-entries decreases-entries → tie.After-wide invariant-loop decreases-loop invariant-rows decreases-rows invariant-entries decreases-entries
+    tie.After-run_bound-bound invariant-loop decreases-loop invariant-rows decreases-rows invariant-entries decreases-entries → tie.After-wide invariant-loop decreases-loop invariant-rows decreases-rows invariant-entries decreases-entries
 widened p = p.before.before.before
 
-abbrev entry : tie.After-run-bound invariant-loop decreases-loop invariant-rows decreases-rows invariant-entries decreases-entries → tie.In-entries invariant-loop decreases-loop invariant-rows decreases-rows invariant-entries decreases-entries
+abbrev entry : tie.After-run_bound-bound invariant-loop decreases-loop invariant-rows decreases-rows invariant-entries decreases-entries → tie.In-entries invariant-loop decreases-loop invariant-rows decreases-rows invariant-entries decreases-entries
 entry p = (widened p).before.before.before
 
 -- ---- what is known there
 -- what is asked for the entry
-asked : (p : tie.After-run-bound invariant-loop decreases-loop invariant-rows decreases-rows invariant-entries decreases-entries)
+asked : (p : tie.After-run_bound-bound invariant-loop decreases-loop invariant-rows decreases-rows invariant-entries decreases-entries)
     → let e = (entry p).before in
     let a = (begun e).args in
-    Asked a.levels.now a.types.now a.rows a.t4 e.entries.c (type_of a.t4 e.entries.c)
-    (type_of a.t4 (widened p).wide.result) p.run-bound.result
+    Asked a.levels.now a.types.now a.rows a.shape e.entries.c (type_of a.shape e.entries.c)
+    (type_of a.shape (widened p).wide.result) p.run_bound-bound.result
 asked p =
     let i : tie.In-entries invariant-loop decreases-loop invariant-rows decreases-rows invariant-entries decreases-entries = search in
     let s : tie.Start invariant-loop decreases-loop invariant-rows decreases-rows invariant-entries decreases-entries = search in
     record {
-      bytes = λ j. (i.before.before.before.shared-slice-known.given j).fits;
-      before = i.entries-test.taken;
+      bytes = λ j. (i.before.before.before.shared_slice_known-1.given j).fits;
+      before = i.entries-test.true;
       own_is = refl;
-      other_is = ap (type_of s.args.t4) (widened p).wide.ensures.0;
-      bounds = p.run-bound.ensures;
+      other_is = ap (type_of s.args.shape) (widened p).wide.ensures.0;
+      bounds = p.run_bound-bound.ensures;
     }
 
 -- what the rows of the entry are searched for
-abbrev wanted : tie.After-run-bound invariant-loop decreases-loop invariant-rows decreases-rows invariant-entries decreases-entries → Verdict
-wanted p = let a = (begun (entry p).before).args in entries_from a.levels.now a.types.now a.rows a.t4 1
+abbrev wanted : tie.After-run_bound-bound invariant-loop decreases-loop invariant-rows decreases-rows invariant-entries decreases-entries → Verdict
+wanted p = let a = (begun (entry p).before).args in entries_from a.levels.now a.types.now a.rows a.shape 1
 
 -- where the walk stands for the row
-stood : (k : tie.After-candidate-from invariant-loop decreases-loop invariant-rows decreases-rows invariant-entries decreases-entries)
+stood : (k : tie.After-candidate_from-j invariant-loop decreases-loop invariant-rows decreases-rows invariant-entries decreases-entries)
     → let w = k.before.before in
     let e = (entry w.before).before in
     let a = (begun e).args in
-    Stands a.levels.now a.types.now a.rows (edge_of a.t4 e.entries.c) (type_of a.t4 (parent_of a.t4 e.entries.c))
-    w.rows.r k.candidate-from.result
+    Stands a.levels.now a.types.now a.rows (edge_of a.shape e.entries.c) (type_of a.shape (parent_of a.shape e.entries.c))
+    w.rows.r k.candidate_from-j.result
 stood k =
     let w : tie.At-rows invariant-loop decreases-loop invariant-rows decreases-rows invariant-entries decreases-entries = search in
-    standing (asked w.before) (wanted w.before) w.rows.j w.rows.r w.rows.inv.1 k.before.rows-test.true
-    k.candidate-from.result k.candidate-from.ensures
+    standing (asked w.before) (wanted w.before) w.rows.j w.rows.r w.rows.invariant.1 k.before.rows-test.true
+    k.candidate_from-j.result k.candidate_from-j.ensures
 
 -- ---- the answers
 entries-holds : tie.Need-entries-init invariant-loop decreases-loop invariant-rows decreases-rows invariant-entries decreases-entries
 entries-holds c =
     let a = c.before.before.args in
     let m = c.before.before.requires.2 in
-    (m.some, m.few, refl, entries_met a.levels.now a.types.now a.rows a.t4 a.met m.some m.few m.each, m.before)
+    (m.some, m.few, refl, entries_met a.levels.now a.types.now a.rows a.shape a.met m.some m.few m.each, m.before)
 
 element-copy-out-own :
-    tie.Need-element-copy-out-own invariant-loop decreases-loop invariant-rows decreases-rows invariant-entries decreases-entries
+    tie.Need-bounds-shape-c invariant-loop decreases-loop invariant-rows decreases-rows invariant-entries decreases-entries
 element-copy-out-own c = search rules
 
 element-copy-out-wide :
-    tie.Need-element-copy-out-wide invariant-loop decreases-loop invariant-rows decreases-rows invariant-entries decreases-entries
+    tie.Need-bounds-shape-c-in-entries invariant-loop decreases-loop invariant-rows decreases-rows invariant-entries decreases-entries
 element-copy-out-wide c = search rules
 
 element-copy-out-other :
-    tie.Need-element-copy-out-other invariant-loop decreases-loop invariant-rows decreases-rows invariant-entries decreases-entries
+    tie.Need-bounds-shape-wide invariant-loop decreases-loop invariant-rows decreases-rows invariant-entries decreases-entries
 element-copy-out-other c =
     let i : tie.In-entries invariant-loop decreases-loop invariant-rows decreases-rows invariant-entries decreases-entries = search in
     let s : tie.Start invariant-loop decreases-loop invariant-rows decreases-rows invariant-entries decreases-entries = search in
-    let z = s.pre.1 in
-    omega (arith, c.wide.ensures.0, z.under i.before.entries.c i.before.entries.inv.0 i.entries-test.taken, z.few)
+    let z = s.requires.1 in
+    omega (arith, c.wide.ensures.0, z.under i.before.entries.c i.before.entries.invariant.0 i.entries-test.true, z.few)
 
 element-copy-out-run-bound :
-    tie.Need-element-copy-out-run-bound invariant-loop decreases-loop invariant-rows decreases-rows invariant-entries decreases-entries
+    tie.Need-bounds-shape-c-in-entries-2 invariant-loop decreases-loop invariant-rows decreases-rows invariant-entries decreases-entries
 element-copy-out-run-bound c = search rules
 
 run-bound-requires :
-    tie.Need-run-bound-requires invariant-loop decreases-loop invariant-rows decreases-rows invariant-entries decreases-entries
+    tie.Need-run_bound-bound-requires invariant-loop decreases-loop invariant-rows decreases-rows invariant-entries decreases-entries
 run-bound-requires c κs = search rules
 
 rows-holds : tie.Need-rows-init invariant-loop decreases-loop invariant-rows decreases-rows invariant-entries decreases-entries
 rows-holds c =
     let i : tie.In-entries invariant-loop decreases-loop invariant-rows decreases-rows invariant-entries decreases-entries = search in
     let e = i.before.entries in
-    (e.inv.2, done_before (asked c) (wanted c) e.r (e.inv.4 i.entries-test.taken) e.inv.3)
+    (e.invariant.2, done_before (asked c) (wanted c) e.r (e.invariant.4 i.entries-test.true) e.invariant.3)
 
 candidate-from-requires :
-    tie.Need-candidate-from-requires invariant-loop decreases-loop invariant-rows decreases-rows invariant-entries decreases-entries
+    tie.Need-candidate_from-j-requires invariant-loop decreases-loop invariant-rows decreases-rows invariant-entries decreases-entries
 candidate-from-requires c κs = search rules
 
 shared-slice-read-if1 :
-    tie.Need-shared-slice-read-if1 invariant-loop decreases-loop invariant-rows decreases-rows invariant-entries decreases-entries
+    tie.Need-bounds-types-r invariant-loop decreases-loop invariant-rows decreases-rows invariant-entries decreases-entries
 shared-slice-read-if1 c = search rules
 
-loop-holds : tie.Need-loop-init invariant-loop decreases-loop invariant-rows decreases-rows invariant-entries decreases-entries
+loop-holds : tie.Need-loop-j-init invariant-loop decreases-loop invariant-rows decreases-rows invariant-entries decreases-entries
 loop-holds c =
-    let k : tie.After-candidate-from invariant-loop decreases-loop invariant-rows decreases-rows invariant-entries decreases-entries = search in
-    let p : tie.After-run-bound invariant-loop decreases-loop invariant-rows decreases-rows invariant-entries decreases-entries = search in
-    (refl, candidates_here (asked p) (wanted p) k.before.before.rows.r k.candidate-from.result (stood k))
+    let k : tie.After-candidate_from-j invariant-loop decreases-loop invariant-rows decreases-rows invariant-entries decreases-entries = search in
+    let p : tie.After-run_bound-bound invariant-loop decreases-loop invariant-rows decreases-rows invariant-entries decreases-entries = search in
+    (refl, candidates_here (asked p) (wanted p) k.before.before.rows.r k.candidate_from-j.result (stood k))
 
 shared-slice-read-if2 :
-    tie.Need-shared-slice-read-if2 invariant-loop decreases-loop invariant-rows decreases-rows invariant-entries decreases-entries
+    tie.Need-bounds-types-j invariant-loop decreases-loop invariant-rows decreases-rows invariant-entries decreases-entries
 shared-slice-read-if2 c = search rules
 
-rows-again : tie.Need-rows-preserved invariant-loop decreases-loop invariant-rows decreases-rows invariant-entries decreases-entries
+rows-again : tie.Need-rows-preserved-then-types-j invariant-loop decreases-loop invariant-rows decreases-rows invariant-entries decreases-entries
 rows-again c =
-    let l : tie.At-loop invariant-loop decreases-loop invariant-rows decreases-rows invariant-entries decreases-entries = search in
+    let l : tie.At-loop-j invariant-loop decreases-loop invariant-rows decreases-rows invariant-entries decreases-entries = search in
     let d : tie.In-rows invariant-loop decreases-loop invariant-rows decreases-rows invariant-entries decreases-entries = search in
     let w : tie.At-rows invariant-loop decreases-loop invariant-rows decreases-rows invariant-entries decreases-entries = search in
-    rw l.loop.inv.0 (
-      w.rows.inv.0,
-      done_partnered (asked w.before) (wanted w.before) w.rows.j w.rows.r w.rows.inv.1 d.rows-test.taken l.before.if1.taken
-          l.loop.j l.loop.inv.1 c.before.before.loop-test.true c.if2.true,
+    rw l.loop-j.invariant.0 (
+      w.rows.invariant.0,
+      done_partnered (asked w.before) (wanted w.before) w.rows.j w.rows.r w.rows.invariant.1 d.rows-test.true l.before.if-types-r.true
+          l.loop-j.j l.loop-j.invariant.1 c.before.before.loop-j-test.true c.if-types-j.true,
     )
 
 next-in-run-requires :
-    tie.Need-next-in-run-requires invariant-loop decreases-loop invariant-rows decreases-rows invariant-entries decreases-entries
+    tie.Need-next_in_run-j-requires invariant-loop decreases-loop invariant-rows decreases-rows invariant-entries decreases-entries
 next-in-run-requires c κs = search rules
 
-loop-less : tie.Need-loop-smaller invariant-loop decreases-loop invariant-rows decreases-rows invariant-entries decreases-entries
+loop-less : tie.Need-loop-j-smaller invariant-loop decreases-loop invariant-rows decreases-rows invariant-entries decreases-entries
 loop-less c =
-    let i : tie.In-loop invariant-loop decreases-loop invariant-rows decreases-rows invariant-entries decreases-entries = search in
-    ⊎_elim (λ x. omega (arith, x.0, i.loop-test.taken)) (λ x. omega (arith, x.0, i.loop-test.taken)) c.next-in-run.ensures
+    let i : tie.In-loop-j invariant-loop decreases-loop invariant-rows decreases-rows invariant-entries decreases-entries = search in
+    ⊎_elim (λ x. omega (arith, x.0, i.loop-j-test.true)) (λ x. omega (arith, x.0, i.loop-j-test.true)) c.next_in_run-j.ensures
 
-loop-again : tie.Need-loop-preserved invariant-loop decreases-loop invariant-rows decreases-rows invariant-entries decreases-entries
+loop-again : tie.Need-loop-j-preserved invariant-loop decreases-loop invariant-rows decreases-rows invariant-entries decreases-entries
 loop-again c =
-    let i : tie.In-loop invariant-loop decreases-loop invariant-rows decreases-rows invariant-entries decreases-entries = search in
-    let l : tie.At-loop invariant-loop decreases-loop invariant-rows decreases-rows invariant-entries decreases-entries = search in
+    let i : tie.In-loop-j invariant-loop decreases-loop invariant-rows decreases-rows invariant-entries decreases-entries = search in
+    let l : tie.At-loop-j invariant-loop decreases-loop invariant-rows decreases-rows invariant-entries decreases-entries = search in
     let w : tie.At-rows invariant-loop decreases-loop invariant-rows decreases-rows invariant-entries decreases-entries = search in
     let o = c.before in (
-      l.loop.inv.0,
-      candidates_on (asked w.before) (wanted w.before) w.rows.r l.loop.j c.next-in-run.result l.loop.inv.1
-          i.loop-test.taken o.if2.false c.next-in-run.ensures,
+      l.loop-j.invariant.0,
+      candidates_on (asked w.before) (wanted w.before) w.rows.r l.loop-j.j c.next_in_run-j.result l.loop-j.invariant.1
+          i.loop-j-test.true o.if-types-j.false c.next_in_run-j.ensures,
     )
 
-rows-again-2 : tie.Need-rows-preserved-2 invariant-loop decreases-loop invariant-rows decreases-rows invariant-entries decreases-entries
+rows-again-2 : tie.Need-rows-preserved invariant-loop decreases-loop invariant-rows decreases-rows invariant-entries decreases-entries
 rows-again-2 c =
-    let k : tie.After-candidate-from invariant-loop decreases-loop invariant-rows decreases-rows invariant-entries decreases-entries = search in
+    let k : tie.After-candidate_from-j invariant-loop decreases-loop invariant-rows decreases-rows invariant-entries decreases-entries = search in
     let d : tie.In-rows invariant-loop decreases-loop invariant-rows decreases-rows invariant-entries decreases-entries = search in
     let w : tie.At-rows invariant-loop decreases-loop invariant-rows decreases-rows invariant-entries decreases-entries = search in (
-      w.rows.inv.0,
-      done_other (asked w.before) (wanted w.before) w.rows.j w.rows.r w.rows.inv.1 d.rows-test.taken k.candidate-from.result
-          (stood k) c.if1.false,
+      w.rows.invariant.0,
+      done_other (asked w.before) (wanted w.before) w.rows.j w.rows.r w.rows.invariant.1 d.rows-test.true k.candidate_from-j.result
+          (stood k) c.if-types-r.false,
     )
 
 entries-again : tie.Need-entries-preserved invariant-loop decreases-loop invariant-rows decreases-rows invariant-entries decreases-entries
@@ -185,30 +185,30 @@ entries-again c =
     let i : tie.In-entries invariant-loop decreases-loop invariant-rows decreases-rows invariant-entries decreases-entries = search in
     let w = c.before in (
       omega arith,
-      omega (arith, i.entries-test.taken),
+      omega (arith, i.entries-test.true),
       w.rows.invariant.0,
       done_all (asked w.before) (wanted w.before) w.rows.j w.rows.r c.rows-test.false w.rows.invariant.1,
       λ lt. before_none _ _ _ _ _ _,
     )
 
-returns : tie.Need-returns invariant-loop decreases-loop invariant-rows decreases-rows invariant-entries decreases-entries
+returns : tie.Need-returns-after-entries invariant-loop decreases-loop invariant-rows decreases-rows invariant-entries decreases-entries
 returns c =
     let s : tie.Start invariant-loop decreases-loop invariant-rows decreases-rows invariant-entries decreases-entries = search in let a = s.args in
     let e = c.before in
     ap told e.entries.invariant.2
-    ∙ sym (entry-none a.levels.now a.types.now a.rows a.t4 e.entries.c c.entries-test.false) ∙ e.entries.invariant.3
+    ∙ sym (entry-none a.levels.now a.types.now a.rows a.shape e.entries.c c.entries-test.false) ∙ e.entries.invariant.3
 
-returns-2 : tie.Need-returns-2 invariant-loop decreases-loop invariant-rows decreases-rows invariant-entries decreases-entries
+returns-2 : tie.Need-returns-after-loop-j invariant-loop decreases-loop invariant-rows decreases-rows invariant-entries decreases-entries
 returns-2 c =
     let d : tie.In-rows invariant-loop decreases-loop invariant-rows decreases-rows invariant-entries decreases-entries = search in
     let w : tie.At-rows invariant-loop decreases-loop invariant-rows decreases-rows invariant-entries decreases-entries = search in
     let l = c.before in
-    rw l.loop.invariant.0
-    (done-alone (asked w.before) (wanted w.before) w.rows.j w.rows.r w.rows.inv.1 d.rows-test.taken l.before.if1.true
-    l.loop.j l.loop.invariant.1 c.loop-test.false)
+    rw l.loop-j.invariant.0
+    (done-alone (asked w.before) (wanted w.before) w.rows.j w.rows.r w.rows.invariant.1 d.rows-test.true l.before.if-types-r.true
+    l.loop-j.j l.loop-j.invariant.1 c.loop-j-test.false)
 
-pub first-lone-spec : {M : Type 1} → statement M
-first-lone-spec =
+pub first_lone_spec : {M : Type 1} → statement M
+first_lone_spec =
     tie.close
     (tie.spec
     invariant-loop

@@ -13,16 +13,16 @@ use Rattle.judging.proofs.Faults.{faults_of, faults_none, faults_one}
 use Rattle.judging.proofs.pairs.first_fault.Statement.{statement}
 use Rattle.judging.proofs.pairs.first_fault.Tie as tie
 
-abbrev invariant-loop2 : tie.invariant-loop2
+abbrev invariant-loop2 : tie.invariant-loop-f
 invariant-loop2 shape ways full meetings levels edges types e f₀ f = Inner (first_or kept) (faults_of shape ways full meetings) shape.entries e f
 
-abbrev decreases-loop2 : tie.decreases-loop2
+abbrev decreases-loop2 : tie.decreases-loop-f
 decreases-loop2 shape ways full meetings levels edges types e f₀ f = shape.entries - f
 
-abbrev invariant-loop : tie.invariant-loop
+abbrev invariant-loop : tie.invariant-loop-e
 invariant-loop shape ways full meetings levels edges types e₀ e = Outer (first_or kept) (faults_of shape ways full meetings) shape.entries e
 
-abbrev decreases-loop : tie.decreases-loop
+abbrev decreases-loop : tie.decreases-loop-e
 decreases-loop shape ways full meetings levels edges types e₀ e = shape.entries - e
 
 -- what each pair of entries earns, where it is a fault
@@ -32,73 +32,73 @@ faults s = let a = s.args in faults_of a.shape a.ways.now a.full a.meetings.now
 abbrev entries : tie.Start invariant-loop2 decreases-loop2 invariant-loop decreases-loop → ℕ
 entries s = s.args.shape.entries
 
-loop-holds : tie.Need-loop-init invariant-loop2 decreases-loop2 invariant-loop decreases-loop
+loop-holds : tie.Need-loop-e-init invariant-loop2 decreases-loop2 invariant-loop decreases-loop
 loop-holds c =
     let s : tie.Start invariant-loop2 decreases-loop2 invariant-loop decreases-loop = search in let a = s.args in
     outer_start (first_or kept) (faults_of a.shape a.ways.now a.full a.meetings.now) a.shape.entries
 
-loop2-holds : tie.Need-loop2-init invariant-loop2 decreases-loop2 invariant-loop decreases-loop
+loop2-holds : tie.Need-loop-f-init invariant-loop2 decreases-loop2 invariant-loop decreases-loop
 loop2-holds c =
-    let w : tie.At-loop invariant-loop2 decreases-loop2 invariant-loop decreases-loop = search in
+    let w : tie.At-loop-e invariant-loop2 decreases-loop2 invariant-loop decreases-loop = search in
     let s : tie.Start invariant-loop2 decreases-loop2 invariant-loop decreases-loop = search in
-    inner_start (first_or kept) (faults s) (entries s) w.loop.e c.if1.true w.loop.inv
+    inner_start (first_or kept) (faults s) (entries s) w.loop-e.e c.loop-e-test.true w.loop-e.invariant
 
-meeting-requires : tie.Need-meeting-requires invariant-loop2 decreases-loop2 invariant-loop decreases-loop
+meeting-requires : tie.Need-meeting-l-requires invariant-loop2 decreases-loop2 invariant-loop decreases-loop
 meeting-requires c κs =
-    let d : tie.At-loop2 invariant-loop2 decreases-loop2 invariant-loop decreases-loop = search in
-    let w : tie.At-loop invariant-loop2 decreases-loop2 invariant-loop decreases-loop = search in
+    let d : tie.At-loop-f invariant-loop2 decreases-loop2 invariant-loop decreases-loop = search in
+    let w : tie.At-loop-e invariant-loop2 decreases-loop2 invariant-loop decreases-loop = search in
     let s : tie.Start invariant-loop2 decreases-loop2 invariant-loop decreases-loop = search in
-    let p = s.pre in
+    let p = s.requires in
     let z = p.0.sized in
-    let le = d.before.if1.taken in
-    (p.1, omega (arith, z.few, le), omega (arith, z.few, c.if2.true), z.typed w.loop.e le, z.typed d.loop2.f c.if2.true)
+    let le = d.before.loop-e-test.true in
+    (p.1, omega (arith, z.few, le), omega (arith, z.few, c.loop-f-test.true), z.typed w.loop-e.e le, z.typed d.loop-f.f c.loop-f-test.true)
 
-pair-verdict-requires : tie.Need-pair-verdict-requires invariant-loop2 decreases-loop2 invariant-loop decreases-loop
+pair-verdict-requires : tie.Need-pair_verdict-v-requires invariant-loop2 decreases-loop2 invariant-loop decreases-loop
 pair-verdict-requires c κs =
-    let d : tie.At-loop2 invariant-loop2 decreases-loop2 invariant-loop decreases-loop = search in
-    let w : tie.At-loop invariant-loop2 decreases-loop2 invariant-loop decreases-loop = search in
+    let d : tie.At-loop-f invariant-loop2 decreases-loop2 invariant-loop decreases-loop = search in
+    let w : tie.At-loop-e invariant-loop2 decreases-loop2 invariant-loop decreases-loop = search in
     let s : tie.Start invariant-loop2 decreases-loop2 invariant-loop decreases-loop = search in
-    let room = s.pre.0 in
-    (way_fits room w.loop.e d.before.if1.taken, way_fits room d.loop2.f c.before.if2.true)
+    let room = s.requires.0 in
+    (way_fits room w.loop-e.e d.before.loop-e-test.true, way_fits room d.loop-f.f c.before.loop-f-test.true)
 
-loop2-again : tie.Need-loop2-preserved invariant-loop2 decreases-loop2 invariant-loop decreases-loop
+loop2-again : tie.Need-loop-f-preserved invariant-loop2 decreases-loop2 invariant-loop decreases-loop
 loop2-again c =
-    let v : tie.After-pair-verdict invariant-loop2 decreases-loop2 invariant-loop decreases-loop = search in
-    let d : tie.At-loop2 invariant-loop2 decreases-loop2 invariant-loop decreases-loop = search in
-    let w : tie.At-loop invariant-loop2 decreases-loop2 invariant-loop decreases-loop = search in
+    let v : tie.After-pair_verdict-v invariant-loop2 decreases-loop2 invariant-loop decreases-loop = search in
+    let d : tie.At-loop-f invariant-loop2 decreases-loop2 invariant-loop decreases-loop = search in
+    let w : tie.At-loop-e invariant-loop2 decreases-loop2 invariant-loop decreases-loop = search in
     let s : tie.Start invariant-loop2 decreases-loop2 invariant-loop decreases-loop = search in let a = s.args in
-    inner_step (first_or kept) (faults s) (entries s) w.loop.e d.loop2.f d.loop2.inv v.before.before.if2.taken
-    (faults_none a.shape a.ways.now a.full a.meetings.now w.loop.e d.loop2.f v.before.meeting.result
-    v.before.meeting.ensures.0 v.pair_verdict.result v.pair_verdict.ensures c.enum_told.given.1)
+    inner_step (first_or kept) (faults s) (entries s) w.loop-e.e d.loop-f.f d.loop-f.invariant v.before.before.loop-f-test.true
+    (faults_none a.shape a.ways.now a.full a.meetings.now w.loop-e.e d.loop-f.f v.before.meeting-l.result
+    v.before.meeting-l.ensures.0 v.pair_verdict-v.result v.pair_verdict-v.ensures c.in-Kept.is)
 
-returns : tie.Need-returns invariant-loop2 decreases-loop2 invariant-loop decreases-loop
+returns : tie.Need-returns-in_default invariant-loop2 decreases-loop2 invariant-loop decreases-loop
 unfolding first_fault
 returns c =
-    let d : tie.At-loop2 invariant-loop2 decreases-loop2 invariant-loop decreases-loop = search in
-    let w : tie.At-loop invariant-loop2 decreases-loop2 invariant-loop decreases-loop = search in
+    let d : tie.At-loop-f invariant-loop2 decreases-loop2 invariant-loop decreases-loop = search in
+    let w : tie.At-loop-e invariant-loop2 decreases-loop2 invariant-loop decreases-loop = search in
     let s : tie.Start invariant-loop2 decreases-loop2 invariant-loop decreases-loop = search in let a = s.args in
     let v = c.before in
-    inner_found (first_or kept) (faults s) (entries s) w.loop.e d.loop2.f d.loop2.inv v.before.before.if2.true
-    (told v.pair_verdict.result)
-    (faults_one a.shape a.ways.now a.full a.meetings.now w.loop.e d.loop2.f v.before.meeting.result
-    v.before.meeting.ensures.0 v.pair_verdict.result v.pair_verdict.ensures c.match.keys2)
+    inner_found (first_or kept) (faults s) (entries s) w.loop-e.e d.loop-f.f d.loop-f.invariant v.before.before.loop-f-test.true
+    (told v.pair_verdict-v.result)
+    (faults_one a.shape a.ways.now a.full a.meetings.now w.loop-e.e d.loop-f.f v.before.meeting-l.result
+    v.before.meeting-l.ensures.0 v.pair_verdict-v.result v.pair_verdict-v.ensures c.in_default.in_default-own.keys2)
 
-loop-again : tie.Need-loop-preserved invariant-loop2 decreases-loop2 invariant-loop decreases-loop
+loop-again : tie.Need-loop-e-preserved invariant-loop2 decreases-loop2 invariant-loop decreases-loop
 loop-again c =
-    let d : tie.At-loop2 invariant-loop2 decreases-loop2 invariant-loop decreases-loop = search in
-    let w : tie.At-loop invariant-loop2 decreases-loop2 invariant-loop decreases-loop = search in
+    let d : tie.At-loop-f invariant-loop2 decreases-loop2 invariant-loop decreases-loop = search in
+    let w : tie.At-loop-e invariant-loop2 decreases-loop2 invariant-loop decreases-loop = search in
     let s : tie.Start invariant-loop2 decreases-loop2 invariant-loop decreases-loop = search in
-    inner_end (first_or kept) (faults s) (entries s) w.loop.e d.loop2.f d.loop2.inv c.if2.false
+    inner_end (first_or kept) (faults s) (entries s) w.loop-e.e d.loop-f.f d.loop-f.invariant c.loop-f-test.false
 
-returns-2 : tie.Need-returns-2 invariant-loop2 decreases-loop2 invariant-loop decreases-loop
+returns-2 : tie.Need-returns invariant-loop2 decreases-loop2 invariant-loop decreases-loop
 unfolding first_fault
 returns-2 c =
-    let w : tie.At-loop invariant-loop2 decreases-loop2 invariant-loop decreases-loop = search in
+    let w : tie.At-loop-e invariant-loop2 decreases-loop2 invariant-loop decreases-loop = search in
     let s : tie.Start invariant-loop2 decreases-loop2 invariant-loop decreases-loop = search in
-    outer_end (first_or kept) (faults s) (entries s) w.loop.e c.if1.false w.loop.inv
+    outer_end (first_or kept) (faults s) (entries s) w.loop-e.e c.loop-e-test.false w.loop-e.invariant
 
-pub first-fault-spec : {M : Type 1} → statement M
-first-fault-spec =
+pub first_fault_spec : {M : Type 1} → statement M
+first_fault_spec =
     tie.close
     (tie.spec
     invariant-loop2

@@ -10,57 +10,57 @@ use Rattle.judging.proofs.Ways.{Alike, way_within, shared_apart, shared-whole}
 use Rattle.judging.proofs.pairs.shared_way.Statement.{statement}
 use Rattle.judging.proofs.pairs.shared_way.Tie as tie
 
-abbrev invariant-loop : tie.invariant-loop
+abbrev invariant-loop : tie.invariant-loop-k
 invariant-loop ways e f most k₀ k = (k ≤ most) × Alike ways e f k
 
-abbrev decreases-loop : tie.decreases-loop
+abbrev decreases-loop : tie.decreases-loop-k
 decreases-loop ways e f most k₀ k = most - k
 
 -- where the walk begins
-abbrev begun : tie.After-smaller invariant-loop decreases-loop → tie.Start invariant-loop decreases-loop
+abbrev begun : tie.After-smaller-most invariant-loop decreases-loop → tie.Start invariant-loop decreases-loop
 begun p = p.before.before.before.before
 
 -- the smaller of the two levels
-least : (p : tie.After-smaller invariant-loop decreases-loop)
-    → let a = (begun p).args in p.smaller.result ≡ min (get_or a.t1 a.e 0) (get_or a.t1 a.f 0)
-least p = p.smaller.ensures ∙ ap₂ min p.before.before.wide.ensures.0 p.before.wide2.ensures.0
+least : (p : tie.After-smaller-most invariant-loop decreases-loop)
+    → let a = (begun p).args in p.smaller-most.result ≡ min (get_or a.levels a.e 0) (get_or a.levels a.f 0)
+least p = p.smaller-most.ensures ∙ ap₂ min p.before.before.wide.ensures.0 p.before.wide-2.ensures.0
 
-loop-holds : tie.Need-loop-init invariant-loop decreases-loop
+loop-holds : tie.Need-loop-k-init invariant-loop decreases-loop
 loop-holds c = (omega arith, λ j lt. absurd (not-suc-le-zero lt))
 
-shared-slice-read-if1 : tie.Need-shared-slice-read-if1 invariant-loop decreases-loop
+shared-slice-read-if1 : tie.Need-bounds-ways-e invariant-loop decreases-loop
 shared-slice-read-if1 c =
     let w = c.before.before in
     let s = begun w.before in
-    omega (arith, least w.before, way_within s.pre.0)
+    omega (arith, least w.before, way_within s.requires.0)
 
-shared-slice-read-if1-2 : tie.Need-shared-slice-read-if1-2 invariant-loop decreases-loop
+shared-slice-read-if1-2 : tie.Need-bounds-ways-f invariant-loop decreases-loop
 shared-slice-read-if1-2 c =
     let w = c.before.before.before in
     let s = begun w.before in
-    omega (arith, least w.before, way_within s.pre.1)
+    omega (arith, least w.before, way_within s.requires.1)
 
-returns : tie.Need-returns invariant-loop decreases-loop
+returns : tie.Need-returns-then-ways-e invariant-loop decreases-loop
 returns c =
     let w = c.before.before.before.before in
     let s = begun w.before in
-    shared_apart s.pre.0 s.pre.1 w.before.smaller.result w.loop.k (least w.before) w.loop.invariant.1
-    c.before.before.before.loop-test.true c.if1.true
+    shared_apart s.requires.0 s.requires.1 w.before.smaller-most.result w.loop-k.k (least w.before) w.loop-k.invariant.1
+    c.before.before.before.loop-k-test.true c.if-ways-e.true
 
-loop-again : tie.Need-loop-preserved invariant-loop decreases-loop
+loop-again : tie.Need-loop-k-preserved invariant-loop decreases-loop
 loop-again c =
     let w = c.before.before.before.before in
-    (omega (arith, c.before.before.before.loop-test.true), below_more _ _ w.loop.invariant.1 c.if1.false)
+    (omega (arith, c.before.before.before.loop-k-test.true), below_more _ _ w.loop-k.invariant.1 c.if-ways-e.false)
 
-returns-2 : tie.Need-returns-2 invariant-loop decreases-loop
+returns-2 : tie.Need-returns invariant-loop decreases-loop
 returns-2 c =
     let w = c.before in
     let s = begun w.before in
-    shared-whole s.pre.0 s.pre.1 w.before.smaller.result w.loop.k (least w.before) w.loop.invariant.1
-    w.loop.invariant.0 c.loop-test.false
+    shared-whole s.requires.0 s.requires.1 w.before.smaller-most.result w.loop-k.k (least w.before) w.loop-k.invariant.1
+    w.loop-k.invariant.0 c.loop-k-test.false
 
-pub shared-way-spec : {M : Type 1} → statement M
-shared-way-spec =
+pub shared_way_spec : {M : Type 1} → statement M
+shared_way_spec =
     tie.close
     (tie.spec
     invariant-loop

@@ -8,10 +8,10 @@ returns c =
     let down = c.before in
     let way = down.before in
     record {
-      shared-is = way.shared-way.ensures;
-      least-is = rw (← way.shared-way.ensures, ← down.least-level.ensures) c.least-level2.ensures;
+      shared-is = way.shared_way-k.ensures;
+      least-is = rw (← way.shared_way-k.ensures, ← down.least_level-down.ensures) c.least_level-least.ensures;
     }
 
-pub walk-path-spec : {M : Type 1} → statement M
-walk-path-spec =
+pub walk_path_spec : {M : Type 1} → statement M
+walk_path_spec =
     tie.close (tie.spec (λ c κs. search rules) (λ c κs. search rules) (λ c κs. search rules) returns)

@@ -6,18 +6,18 @@ use Rattle.judging.proofs.Beside.{beside_none, beside_apart}
 use Rattle.judging.proofs.second.none_apart_beside.Statement.{statement}
 use Rattle.judging.proofs.second.none_apart_beside.Tie as tie
 
-returns : tie.Need-returns
+returns : tie.Need-returns-in-Kept
 returns c =
     let b : tie.Start = search in let a = b.args in
-    let (full, e) = b.pre.2 in
-    beside_none a.shape a.ways.now full a.meetings.now (ap told (sym c.enum_told.given.1) ∙ e)
+    let (full, e) = b.requires.2 in
+    beside_none a.shape a.ways.now full a.meetings.now (ap told (sym c.in-Kept.is) ∙ e)
 
-returns-2 : tie.Need-returns-2
+returns-2 : tie.Need-returns-in-Apart
 returns-2 c =
     let b : tie.Start = search in let a = b.args in
-    let (full, e) = b.pre.2 in
-    beside_apart a.shape a.ways.now full a.meetings.now _ _ (ap told (sym c.before.fault.given.1) ∙ e)
+    let (full, e) = b.requires.2 in
+    beside_apart a.shape a.ways.now full a.meetings.now _ _ (ap told (sym c.in-Apart.is) ∙ e)
 
-pub none-apart-beside-spec : {M : Type 1} → statement M
-none-apart-beside-spec =
+pub none_apart_beside_spec : {M : Type 1} → statement M
+none_apart_beside_spec =
     tie.close (tie.spec (λ c. search rules) (λ c. search rules) (λ c κs. search rules) returns returns-2 (λ c. search rules))
