@@ -57,7 +57,7 @@ module _ {M : Type 1} {𝓤 : Ura M} {𝓛 : Logic 𝓤} {K : Type 0} where
 
 -- the relation of an element, at the machine value that the array's has for it
 module _ (R : RattleType) (val : R.Denot → Val) (tells : Tells R (Is R) (λ x. val x ∷ [])) (d : R.Denot) where
-  each-is : (xs : List R.Denot) (us : List Val) (i : ℕ) → shadow (each_of R.Denot R.own xs us) → i < length xs → Is R (get_or xs i d) (get_or (map val xs) i (val d) ∷ [])
+  each-is : (xs : List R.Denot) (us : List Val) (i : ℕ) → shadow (each_of R.Denot R.own_val xs us) → i < length xs → Is R (get_or xs i d) (get_or (map val xs) i (val d) ∷ [])
   each-is [] us i s l = absurd (not-suc-le-zero l)
   each-is (x ∷ xs) [] i s l = absurd s
   each-is (x ∷ xs) (u ∷ us) zero s l = subst (Is R x) (tells x (u ∷ []) s.0) s.0

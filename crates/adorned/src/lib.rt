@@ -81,7 +81,7 @@ fn children_range(types: &[u8], rows: usize, p: usize, k: usize) -> Range
 // The summary of a type: its parent type (64 for none), last label, level, number of rows, and the least and the greatest number
 // of children of this type under a row of the parent type.
 #[repr(C)]
-#[derive(Drop)]
+#[derive(Clone, Copy, Drop)]
 pub struct TypeSummary {
     pub parent: usize,
     pub label: usize,

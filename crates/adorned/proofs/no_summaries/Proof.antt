@@ -8,7 +8,7 @@ use Rattle.adorned.proofs.no_summaries.Statement.{statement}
 use Rattle.adorned.proofs.no_summaries.Tie as tie
 
 returns : tie.Need-returns
-returns c = map-replicate told 64 c.no-summary.result ∙ ap (replicate 64) c.no-summary.ensures
+returns c = map-replicate told 64 c.no_summary-none.result ∙ ap (replicate 64) c.no_summary-none.ensures
 
-pub no-summaries-spec : {M : Type 1} → statement M
-no-summaries-spec = tie.close (tie.spec (λ c κs. search rules) returns)
+pub no_summaries_spec : {M : Type 1} → statement M
+no_summaries_spec = tie.close (tie.spec (λ c κs. search rules) returns)

@@ -14,48 +14,48 @@ use borrow.Author.Rules.{rules}
 use Rattle.adorned.proofs.summaries_of.Statement.{statement}
 use Rattle.adorned.proofs.summaries_of.Tie as tie
 
-abbrev invariant-loop : tie.invariant-loop
+abbrev invariant-loop : tie.invariant-loop-k
 invariant-loop levels types read rows count depths all₀ k₀ all k =
     (k ≤ count) × (count ≤ most_types) × (length all ≡ 64) × (told_from k all ≡ replicate (64 - k) no_summary)
     × ((f : Format) (t : List ℕ) → RowsIn f t read levels types → told_first k all ≡ take k (adorned (Tables.rows f t)))
 
-abbrev decreases-loop : tie.decreases-loop
+abbrev decreases-loop : tie.decreases-loop-k
 decreases-loop levels types read rows count depths all₀ k₀ all k = count - k
 
-loop-holds : tie.Need-loop-init invariant-loop decreases-loop
+loop-holds : tie.Need-loop-k-init invariant-loop decreases-loop
 loop-holds c =
     let s : tie.Start invariant-loop decreases-loop = search in
-    let r = c.no-summaries in
-    (omega arith, s.pre.1, start_length r.result r.ensures, r.ensures, λ f t read. refl)
+    let r = c.no_summaries-all in
+    (omega arith, s.requires.1, start_length r.result r.ensures, r.ensures, λ f t read. refl)
 
-loop-again : tie.Need-loop-preserved invariant-loop decreases-loop
+loop-again : tie.Need-loop-k-preserved invariant-loop decreases-loop
 loop-again c =
-    let h : tie.After-wide2 invariant-loop decreases-loop = search in
-    let b : tie.After-wide16 invariant-loop decreases-loop = search in
-    let p : tie.After-wide invariant-loop decreases-loop = search in
-    let x : tie.In-loop invariant-loop decreases-loop = search in
-    let l : tie.At-loop invariant-loop decreases-loop = search in
-    let d : tie.After-type-levels invariant-loop decreases-loop = search in
-    let v = l.loop in
-    let r = c.summary-of in (
+    let h : tie.After-wide-l invariant-loop decreases-loop = search in
+    let b : tie.After-wide16-a invariant-loop decreases-loop = search in
+    let p : tie.After-wide-p invariant-loop decreases-loop = search in
+    let x : tie.In-loop-k invariant-loop decreases-loop = search in
+    let l : tie.At-loop-k invariant-loop decreases-loop = search in
+    let d : tie.After-type_levels-depths invariant-loop decreases-loop = search in
+    let v = l.loop-k in
+    let r = c.summary_of in (
       omega arith,
-      v.inv.1,
-      length-set v.all v.k r.result ∙ v.inv.2,
-      rest-step v.all v.k r.result (omega (arith, x.loop-test.taken, v.inv.1)) v.inv.3,
-      λ f t read. fill_step (Tables.rows f t) v.all v.k r.result (omega (arith, x.loop-test.taken, read.told.count-is))
-          (omega (arith, x.loop-test.taken, v.inv.1, v.inv.2)) (v.inv.4 f t read) (r.ensures f t _ _ _ read.levelled.typed
-          (listed read d.type-levels.result d.type-levels.ensures v.k p.wide.result b.wide16.result h.wide2.result
-          x.loop-test.taken p.wide.ensures.0 b.wide16.ensures.0 h.wide2.ensures.0)),
+      v.invariant.1,
+      length-set v.all v.k r.result ∙ v.invariant.2,
+      rest-step v.all v.k r.result (omega (arith, x.loop-k-test.true, v.invariant.1)) v.invariant.3,
+      λ f t read. fill_step (Tables.rows f t) v.all v.k r.result (omega (arith, x.loop-k-test.true, read.told.count-is))
+          (omega (arith, x.loop-k-test.true, v.invariant.1, v.invariant.2)) (v.invariant.4 f t read) (r.ensures f t _ _ _ read.levelled.typed
+          (listed read d.type_levels-depths.result d.type_levels-depths.ensures v.k p.wide-p.result b.wide16-a.result h.wide-l.result
+          x.loop-k-test.true p.wide-p.ensures.0 b.wide16-a.ensures.0 h.wide-l.ensures.0)),
     )
 
 returns : tie.Need-returns invariant-loop decreases-loop
 returns c f t read =
-    let l : tie.At-loop invariant-loop decreases-loop = search in
-    let v = l.loop in
-    fill_end (Tables.rows f t) v.all v.k _ read.told.count-is v.inv.0 c.loop-test.false (v.inv.4 f t read) v.inv.3
+    let l : tie.At-loop-k invariant-loop decreases-loop = search in
+    let v = l.loop-k in
+    fill_end (Tables.rows f t) v.all v.k _ read.told.count-is v.invariant.0 c.loop-k-test.false (v.invariant.4 f t read) v.invariant.3
 
-pub summaries-of-spec : {M : Type 1} → statement M
-summaries-of-spec =
+pub summaries_of_spec : {M : Type 1} → statement M
+summaries_of_spec =
     tie.close
     (tie.spec
     invariant-loop

@@ -7,42 +7,42 @@ use borrow.Author.Rules.{rules}
 use Rattle.labels.proofs.convert.occurs.Statement.{statement}
 use Rattle.labels.proofs.convert.occurs.Tie as tie
 
-file-has-requires : tie.Need-file-has-requires
+file-has-requires : tie.Need-file_has-requires
 file-has-requires c κs =
     let s : tie.Start = search in
-    let w = c.row-bytes.ensures in
-    let levels = s.pre.served.shallow in
-    (omega (arith, w), omega (arith, w, levels), s.pre.rows-counted ∙ ap (λ n. whole n s.args.table.now) (sym w))
+    let w = c.row_bytes.ensures in
+    let levels = s.requires.served.shallow in
+    (omega (arith, w), omega (arith, w, levels), s.requires.rows-counted ∙ ap (λ n. whole n s.args.table.now) (sym w))
 
-returns : tie.Need-returns
+returns : tie.Need-returns-then-file_has
 returns c =
     let s : tie.Start = search in
-    let w : tie.After-row-bytes = search in
+    let w : tie.After-row_bytes = search in
     let h = c.before in
     let a = s.args in
-    in_table a.f a.table.now a.shape.now a.x _ a.rows w.row-bytes.ensures s.pre.rows-counted
-    (sym h.file-has.ensures ∙ c.if1.true)
+    in_table a.f a.table.now a.shape.now a.x _ a.rows w.row_bytes.ensures s.requires.rows-counted
+    (sym h.file_has.ensures ∙ c.if-file_has.true)
 
-file-has-requires-2 : tie.Need-file-has-requires-2
+file-has-requires-2 : tie.Need-file_has-requires-2
 file-has-requires-2 c κs =
     let s : tie.Start = search in
-    let w = c.entry-bytes.ensures in
-    let levels = s.pre.served.shallow in
-    (omega (arith, w), omega (arith, w, levels), s.pre.entries-counted ∙ ap (λ n. whole n s.args.shape.now) (sym w))
+    let w = c.entry_bytes.ensures in
+    let levels = s.requires.served.shallow in
+    (omega (arith, w), omega (arith, w, levels), s.requires.entries-counted ∙ ap (λ n. whole n s.args.shape.now) (sym w))
 
-returns-2 : tie.Need-returns-2
+returns-2 : tie.Need-returns
 returns-2 c =
     let s : tie.Start = search in
-    let w : tie.After-row-bytes = search in
-    let h : tie.After-file-has = search in
-    let e : tie.Else1 = search in
+    let w : tie.After-row_bytes = search in
+    let h : tie.After-file_has = search in
+    let e : tie.Else-file_has = search in
     let v = c.before in
     let a = s.args in
-    in_shape a.f a.table.now a.shape.now a.x _ a.rows w.row-bytes.ensures s.pre.rows-counted
-    (sym h.file-has.ensures ∙ e.if1.left) _ a.entries v.entry-bytes.ensures s.pre.entries-counted _ c.file-has2.ensures
+    in_shape a.f a.table.now a.shape.now a.x _ a.rows w.row_bytes.ensures s.requires.rows-counted
+    (sym h.file_has.ensures ∙ e.if-file_has.false) _ a.entries v.entry_bytes.ensures s.requires.entries-counted _ c.file_has-2.ensures
 
-pub occurs-spec : {M : Type 1} → statement M
-occurs-spec =
+pub occurs_spec : {M : Type 1} → statement M
+occurs_spec =
     tie.close
     (tie.spec
     (λ c κs. search rules)

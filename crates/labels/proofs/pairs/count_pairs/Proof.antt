@@ -7,5 +7,5 @@ use Rattle.labels.proofs.pairs.count_pairs.Tie as tie
 returns : tie.Need-returns
 returns c = count-is c.args.list.now
 
-pub count-pairs-spec : {M : Type 1} → statement M
-count-pairs-spec = tie.close (tie.spec (λ c. search rules) returns)
+pub count_pairs_spec : {M : Type 1} → statement M
+count_pairs_spec = tie.close (tie.spec (λ c. search rules) returns)

@@ -4,18 +4,18 @@ use borrow.Author.Rules.{rules}
 use Rattle.labels.proofs.pairs.is_unlisted.Statement.{statement}
 use Rattle.labels.proofs.pairs.is_unlisted.Tie as tie
 
-returns : tie.Need-returns
-returns c = let a = c.before.before.before.args in unlisted-small a.f _ a.x c.if1.true
+returns : tie.Need-returns-then-x-f
+returns c = let a = c.before.before.before.args in unlisted-small a.f _ a.x c.if-x-f.true
 
-returns-2 : tie.Need-returns-2
+returns-2 : tie.Need-returns
 returns-2 c =
     let n = c.before in
     let e = n.before in
     let a = e.before.before.before.args in
-    unlisted-at a.list.now _ _ a.x n.count-pairs.ensures c.find.ensures a.f e.if1.false
+    unlisted-at a.list.now _ _ a.x n.count_pairs-n.ensures c.find.ensures a.f e.if-x-f.false
 
-pub is-unlisted-spec : {M : Type 1} → statement M
-is-unlisted-spec =
+pub is_unlisted_spec : {M : Type 1} → statement M
+is_unlisted_spec =
     tie.close
     (tie.spec
     returns

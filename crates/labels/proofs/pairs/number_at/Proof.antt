@@ -6,9 +6,9 @@ use borrow.Author.Rules.{rules}
 use Rattle.labels.proofs.pairs.number_at.Statement.{statement}
 use Rattle.labels.proofs.pairs.number_at.Tie as tie
 
-returns-2 : tie.Need-returns-2
-returns-2 c = let a = c.before.before.args in (sym (get_or-eq_default a.list.now 0 {n = a.k} c.if1.false), omega arith)
+returns-2 : tie.Need-returns
+returns-2 c = let a = c.before.before.args in (sym (get_or-eq_default a.list.now 0 {n = a.k} c.if-k-list.false), omega arith)
 
-pub number-at-spec : {M : Type 1} → statement M
-number-at-spec =
+pub number_at_spec : {M : Type 1} → statement M
+number_at_spec =
     tie.close (tie.spec (λ c. search rules) (λ c. search rules) (λ c κs. search rules) (λ c. search rules) returns-2)

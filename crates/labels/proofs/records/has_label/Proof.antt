@@ -11,45 +11,45 @@ use borrow.Author.Rules.{rules}
 use Rattle.labels.proofs.records.has_label.Statement.{statement}
 use Rattle.labels.proofs.records.has_label.Tie as tie
 
-abbrev invariant-loop : tie.invariant-loop
+abbrev invariant-loop : tie.invariant-loop-k
 invariant-loop r from n x k₀ k = Looking (eqb x) (words n r from) n k
 
-abbrev decreases-loop : tie.decreases-loop
+abbrev decreases-loop : tie.decreases-loop-k
 decreases-loop r from n x k₀ k = n - k
 
-abbrev begun : tie.At-loop invariant-loop decreases-loop → tie.Start invariant-loop decreases-loop
+abbrev begun : tie.At-loop-k invariant-loop decreases-loop → tie.Start invariant-loop decreases-loop
 begun l = l.before.before
 
-loop-holds : tie.Need-loop-init invariant-loop decreases-loop
+loop-holds : tie.Need-loop-k-init invariant-loop decreases-loop
 loop-holds c = let a = c.before.args in looking_start (eqb a.x) (words a.n a.r.now a.from) a.n
 
-returns : tie.Need-returns invariant-loop decreases-loop
+returns : tie.Need-returns-then-label_at-x invariant-loop decreases-loop
 returns c =
     let y = c.before in
     let l = y.before.before in
     let a = (begun l).args in
-    let lt = y.before.loop-test.true in
-    looking_found (eqb a.x) (words a.n a.r.now a.from) a.n l.loop.k l.loop.invariant lt _
-    (next_word a.n a.r.now a.from l.loop.k lt) (eq-eqb _ _ (sym (sym y.label_at_lem.ensures.0 ∙ c.if1.true)))
+    let lt = y.before.loop-k-test.true in
+    looking_found (eqb a.x) (words a.n a.r.now a.from) a.n l.loop-k.k l.loop-k.invariant lt _
+    (next_word a.n a.r.now a.from l.loop-k.k lt) (eq-eqb _ _ (sym (sym y.label_at.ensures.0 ∙ c.if-label_at-x.true)))
 
-loop-again : tie.Need-loop-preserved invariant-loop decreases-loop
+loop-again : tie.Need-loop-k-preserved invariant-loop decreases-loop
 loop-again c =
     let y = c.before in
     let l = y.before.before in
     let a = (begun l).args in
-    let lt = y.before.loop-test.true in
-    looking_on (eqb a.x) (words a.n a.r.now a.from) a.n l.loop.k l.loop.invariant lt _
-    (next_word a.n a.r.now a.from l.loop.k lt) (ne_eqb _ _ (λ e. c.if1.false (y.label_at_lem.ensures.0 ∙ sym e)))
+    let lt = y.before.loop-k-test.true in
+    looking_on (eqb a.x) (words a.n a.r.now a.from) a.n l.loop-k.k l.loop-k.invariant lt _
+    (next_word a.n a.r.now a.from l.loop-k.k lt) (ne_eqb _ _ (λ e. c.if-label_at-x.false (y.label_at.ensures.0 ∙ sym e)))
 
-returns-2 : tie.Need-returns-2 invariant-loop decreases-loop
+returns-2 : tie.Need-returns invariant-loop decreases-loop
 returns-2 c =
     let l = c.before in
     let a = (begun l).args in
-    looking_none (eqb a.x) (words a.n a.r.now a.from) a.n l.loop.k l.loop.invariant
-    (length-words a.n a.r.now a.from) c.loop-test.false
+    looking_none (eqb a.x) (words a.n a.r.now a.from) a.n l.loop-k.k l.loop-k.invariant
+    (length-words a.n a.r.now a.from) c.loop-k-test.false
 
-pub has-label-spec : {M : Type 1} → statement M
-has-label-spec =
+pub has_label_spec : {M : Type 1} → statement M
+has_label_spec =
     tie.close
     (tie.spec
     invariant-loop

@@ -11,5 +11,5 @@ returns c =
     let a = s.args in
     (c.word.ensures.0 ∙ sym (words-at a.n a.r.now a.from a.k s.requires.1), c.word.ensures.1)
 
-pub label-at-spec : {M : Type 1} → statement M
-label-at-spec = tie.close (tie.spec (λ c. search rules) (λ c. search rules) (λ c κs. search rules) returns)
+pub label_at_spec : {M : Type 1} → statement M
+label_at_spec = tie.close (tie.spec (λ c. search rules) (λ c. search rules) (λ c κs. search rules) returns)

@@ -14,25 +14,25 @@ use borrow.Author.Rules.{rules}
 use Rattle.spelling.proofs.line.put_line.Statement.{statement}
 use Rattle.spelling.proofs.line.put_line.Tie as tie
 
-abbrev invariant-loop : tie.invariant-loop
+abbrev invariant-loop : tie.invariant-loop-e
 invariant-loop out₀ shape f entries w p₀ level₀ e₀ out p level e =
     (1 ≤ e) × (e ≤ entries) × (p ≤ 95 * e) × (level ≤ most_levels)
     × Going f shape out₀ p₀ (behind level₀ (drop 1 (Shapes.entries f shape))) out p level e
 
-abbrev decreases-loop : tie.decreases-loop
+abbrev decreases-loop : tie.decreases-loop-e
 decreases-loop out₀ shape f entries w p₀ level₀ e₀ out p level e = entries - e
 
-abbrev begun : tie.After-entry-bytes invariant-loop decreases-loop → tie.Start invariant-loop decreases-loop
+abbrev begun : tie.After-entry_bytes-w invariant-loop decreases-loop → tie.Start invariant-loop decreases-loop
 begun x = x.before.before
 
 -- the first entry's bytes are read
-abbrev sized : tie.After-wide2 invariant-loop decreases-loop → tie.After-wide invariant-loop decreases-loop
+abbrev sized : tie.After-wide-level invariant-loop decreases-loop → tie.After-wide invariant-loop decreases-loop
 sized x = x.before.before.before
 
-abbrev opened : tie.After-wide2 invariant-loop decreases-loop → tie.After-record invariant-loop decreases-loop
+abbrev opened : tie.After-wide-level invariant-loop decreases-loop → tie.After-record-first invariant-loop decreases-loop
 opened x = (sized x).before.before.before
 
-abbrev start : tie.At-loop invariant-loop decreases-loop → tie.Start invariant-loop decreases-loop
+abbrev start : tie.At-loop-e invariant-loop decreases-loop → tie.Start invariant-loop decreases-loop
 start l = begun (opened l.before).before
 
 -- there is an entry, and no more than 16
@@ -40,126 +40,126 @@ fits : (s : tie.Start invariant-loop decreases-loop) → (1 ≤ s.args.entries) 
 fits s = let a = s.args in count_fits a.f a.shape.now a.entries s.requires
 
 -- the first entry's bytes
-first-is : (r : tie.After-record invariant-loop decreases-loop) →
+first-is : (r : tie.After-record-first invariant-loop decreases-loop) →
     let a = (begun r.before).args in
-    r.«record».result.now ≡ rec (entry_bytes a.f) 0 a.shape.now
+    r.record-first.result.now ≡ rec (entry_bytes a.f) 0 a.shape.now
 first-is r =
     let a = (begun r.before).args in
-    r.«record».ensures.0 ∙ ap (λ w. rec w 0 a.shape.now) r.before.entry-bytes.ensures
+    r.record-first.ensures.0 ∙ ap (λ w. rec w 0 a.shape.now) r.before.entry_bytes-w.ensures
 
 -- the next entry's bytes
-next_is : (r : tie.After-record2 invariant-loop decreases-loop) →
+next_is : (r : tie.After-record-entry invariant-loop decreases-loop) →
     let l = r.before.before in
     let a = (start l).args in
-    r.record2.result.now ≡ rec (entry_bytes a.f) l.loop.e a.shape.now
+    r.record-entry.result.now ≡ rec (entry_bytes a.f) l.loop-e.e a.shape.now
 next_is r =
     let l = r.before.before in
     let a = (start l).args in
-    r.record2.ensures.0 ∙ ap (λ w. rec w l.loop.e a.shape.now) (opened l.before).before.entry-bytes.ensures
+    r.record-entry.ensures.0 ∙ ap (λ w. rec w l.loop-e.e a.shape.now) (opened l.before).before.entry_bytes-w.ensures
 
 -- its level
-next_level : (w : tie.After-wide3 invariant-loop decreases-loop) → (1 ≤ w.wide3.result) × (w.wide3.result ≤ most_levels)
+next_level : (w : tie.After-wide-next invariant-loop decreases-loop) → (1 ≤ w.wide-next.result) × (w.wide-next.result ≤ most_levels)
 next_level w =
     let r = w.before.before in
     let l = r.before.before in
     let s = start l in
     let a = s.args in
-    level_in a.f a.shape.now a.entries s.pre l.loop.e r.before.loop-test.true r.record2.result.now (next_is r)
-    w.wide3.result w.wide3.ensures.0
+    level_in a.f a.shape.now a.entries s.requires l.loop-e.e r.before.loop-e-test.true r.record-entry.result.now (next_is r)
+    w.wide-next.result w.wide-next.ensures.0
 
-record-requires : tie.Need-record-requires invariant-loop decreases-loop
+record-requires : tie.Need-record-first-requires invariant-loop decreases-loop
 record-requires c κs =
     let s = begun c in
     let a = s.args in
-    entry_in a.f a.shape.now a.entries s.pre 0 (fits s).0 c.entry-bytes.result c.entry-bytes.ensures
+    entry_in a.f a.shape.now a.entries s.requires 0 (fits s).0 c.entry_bytes-w.result c.entry_bytes-w.ensures
 
-put-path-requires : tie.Need-put-path-requires invariant-loop decreases-loop
+put-path-requires : tie.Need-put_path-p-requires invariant-loop decreases-loop
 put-path-requires c κs =
     let r = c.before.before.before in
     let s = begun r.before in
     let a = s.args in
     let some = (fits s).0 in
-    let size = size_in a.f a.shape.now a.entries s.pre 0 some r.«record».result.now (first-is r) c.wide.result c.wide.ensures.0 in
-    let long = r.«record».ensures.1 ∙ r.before.entry-bytes.ensures in
-    (s.pre.served, long, size.1, omega arith)
+    let size = size_in a.f a.shape.now a.entries s.requires 0 some r.record-first.result.now (first-is r) c.wide.result c.wide.ensures.0 in
+    let long = r.record-first.ensures.1 ∙ r.before.entry_bytes-w.ensures in
+    (s.requires.served, long, size.1, omega arith)
 
-loop-holds : tie.Need-loop-init invariant-loop decreases-loop
+loop-holds : tie.Need-loop-e-init invariant-loop decreases-loop
 loop-holds c =
     let q = c.before.before in
     let r = opened c in
     let s = begun r.before in
     let a = s.args in
     let some = (fits s).0 in
-    let level = level_in a.f a.shape.now a.entries s.pre 0 some r.«record».result.now (first-is r)
-    c.wide2.result c.wide2.ensures.0 in
-    (omega arith, some, omega (arith, q.put-path.ensures.1), level.1, left_all _ _ _)
+    let level = level_in a.f a.shape.now a.entries s.requires 0 some r.record-first.result.now (first-is r)
+    c.wide-level.result c.wide-level.ensures.0 in
+    (omega arith, some, omega (arith, q.put_path-p.ensures.1), level.1, left_all _ _ _)
 
-record-requires-2 : tie.Need-record-requires-2 invariant-loop decreases-loop
+record-requires-2 : tie.Need-record-entry-requires invariant-loop decreases-loop
 record-requires-2 c κs =
     let l = c.before in
     let s = start l in
     let a = s.args in
-    let w = (opened l.before).before.entry-bytes in
-    entry_in a.f a.shape.now a.entries s.pre l.loop.e c.loop-test.true w.result w.ensures
+    let w = (opened l.before).before.entry_bytes-w in
+    entry_in a.f a.shape.now a.entries s.requires l.loop-e.e c.loop-e-test.true w.result w.ensures
 
-put-brackets-requires : tie.Need-put-brackets-requires invariant-loop decreases-loop
+put-brackets-requires : tie.Need-put_brackets-behind-requires invariant-loop decreases-loop
 put-brackets-requires c κs =
     let w = c.before in
-    let l : tie.At-loop invariant-loop decreases-loop = search in
+    let l : tie.At-loop-e invariant-loop decreases-loop = search in
     let few = (fits (start l)).1 in
     let level = next_level w in
     search rules
 
-put-byte-requires : tie.Need-put-byte-requires invariant-loop decreases-loop
+put-byte-requires : tie.Need-put_byte-gap-requires invariant-loop decreases-loop
 put-byte-requires c κs =
-    let w : tie.After-wide3 invariant-loop decreases-loop = search in
-    let l : tie.At-loop invariant-loop decreases-loop = search in
+    let w : tie.After-wide-next invariant-loop decreases-loop = search in
+    let l : tie.At-loop-e invariant-loop decreases-loop = search in
     let few = (fits (start l)).1 in
     search rules
 
-put-path-requires-2 : tie.Need-put-path-requires-2 invariant-loop decreases-loop
+put-path-requires-2 : tie.Need-put_path-p-requires-in-loop-e invariant-loop decreases-loop
 put-path-requires-2 c κs =
-    let g : tie.After-put-byte invariant-loop decreases-loop = search in
-    let b : tie.After-put-brackets invariant-loop decreases-loop = search in
-    let r : tie.After-record2 invariant-loop decreases-loop = search in
-    let l : tie.At-loop invariant-loop decreases-loop = search in
+    let g : tie.After-put_byte-gap invariant-loop decreases-loop = search in
+    let b : tie.After-put_brackets-behind invariant-loop decreases-loop = search in
+    let r : tie.After-record-entry invariant-loop decreases-loop = search in
+    let l : tie.At-loop-e invariant-loop decreases-loop = search in
     let s = start l in
     let a = s.args in
     let few = (fits s).1 in
-    let size = size_in a.f a.shape.now a.entries s.pre l.loop.e r.before.loop-test.taken r.record2.result.now (next_is r)
-    c.wide4.result c.wide4.ensures.0 in
-    let long = r.record2.ensures.1 ∙ (opened l.before).before.entry-bytes.ensures in
-    (s.pre.served, long, size.1, omega (arith, g.put_byte.ensures.ends, b.put-brackets.ensures.1, l.loop.inv.2, r.before.loop-test.taken))
+    let size = size_in a.f a.shape.now a.entries s.requires l.loop-e.e r.before.loop-e-test.true r.record-entry.result.now (next_is r)
+    c.wide-in-loop-e.result c.wide-in-loop-e.ensures.0 in
+    let long = r.record-entry.ensures.1 ∙ (opened l.before).before.entry_bytes-w.ensures in
+    (s.requires.served, long, size.1, omega (arith, g.put_byte-gap.ensures.ends, b.put_brackets-behind.ensures.1, l.loop-e.invariant.2, r.before.loop-e-test.true))
 
-add-e : tie.Need-overflow-add-e invariant-loop decreases-loop
+add-e : tie.Need-overflow_add-e invariant-loop decreases-loop
 add-e c =
-    let g : tie.After-put-byte invariant-loop decreases-loop = search in
-    let w : tie.After-wide3 invariant-loop decreases-loop = search in
-    let l : tie.At-loop invariant-loop decreases-loop = search in
+    let g : tie.After-put_byte-gap invariant-loop decreases-loop = search in
+    let w : tie.After-wide-next invariant-loop decreases-loop = search in
+    let l : tie.At-loop-e invariant-loop decreases-loop = search in
     let few = (fits (start l)).1 in
     search rules
 
-loop-again : tie.Need-loop-preserved invariant-loop decreases-loop
+loop-again : tie.Need-loop-e-preserved invariant-loop decreases-loop
 loop-again c =
     let v = c.before in
-    let g : tie.After-put-byte invariant-loop decreases-loop = search in
-    let b : tie.After-put-brackets invariant-loop decreases-loop = search in
-    let w : tie.After-wide3 invariant-loop decreases-loop = search in
-    let r : tie.After-record2 invariant-loop decreases-loop = search in
-    let l : tie.At-loop invariant-loop decreases-loop = search in
+    let g : tie.After-put_byte-gap invariant-loop decreases-loop = search in
+    let b : tie.After-put_brackets-behind invariant-loop decreases-loop = search in
+    let w : tie.After-wide-next invariant-loop decreases-loop = search in
+    let r : tie.After-record-entry invariant-loop decreases-loop = search in
+    let l : tie.At-loop-e invariant-loop decreases-loop = search in
     let s = start l in
     let a = s.args in
-    let lt = r.before.loop-test.taken in (
+    let lt = r.before.loop-e-test.true in (
       omega arith,
       omega (arith, lt),
-      omega (arith, l.loop.inv.2, c.put-path2.ensures.1, g.put_byte.ensures.ends, b.put-brackets.ensures.1),
+      omega (arith, l.loop-e.invariant.2, c.put_path-p-in-loop-e.ensures.1, g.put_byte-gap.ensures.ends, b.put_brackets-behind.ensures.1),
       (next_level w).1,
-      going_on a.f a.shape.now a.entries s.pre l.loop.level l.loop.e l.loop.inv.4 lt r.record2.result.now (next_is r)
-          w.wide3.result v.wide4.result w.wide3.ensures.0 v.wide4.ensures.0 b.put-brackets.ensures.0 g.put_byte.ensures
-          c.put-path2.ensures.0,
+      going_on a.f a.shape.now a.entries s.requires l.loop-e.level l.loop-e.e l.loop-e.invariant.4 lt r.record-entry.result.now (next_is r)
+          w.wide-next.result v.wide-in-loop-e.result w.wide-next.ensures.0 v.wide-in-loop-e.ensures.0 b.put_brackets-behind.ensures.0 g.put_byte-gap.ensures
+          c.put_path-p-in-loop-e.ensures.0,
     )
 
-put-brackets-requires-2 : tie.Need-put-brackets-requires-2 invariant-loop decreases-loop
+put-brackets-requires-2 : tie.Need-put_brackets-requires invariant-loop decreases-loop
 put-brackets-requires-2 c κs =
     let few = (fits (start c.before.before)).1 in
     search rules
@@ -173,14 +173,14 @@ returns c =
     let s = start l in
     let a = s.args in
     let few = (fits s).1 in
-    let first = going_first a.f a.shape.now a.entries s.pre r.«record».result.now (first-is r) x.wide2.result q.before.wide.result
-    x.wide2.ensures.0 q.before.wide.ensures.0 a.out.now _ _ q.put-path.ensures.0 in
-    let rest = going_last a.f a.shape.now a.entries s.pre l.loop.level l.loop.e l.loop.invariant.4 c.before.before.loop-test.false
-    c.put-brackets2.ensures.0 in
-    (first.asked _ _ rest, omega (arith, l.loop.invariant.1, l.loop.invariant.2, few, c.put-brackets2.ensures.1))
+    let first = going_first a.f a.shape.now a.entries s.requires r.record-first.result.now (first-is r) x.wide-level.result q.before.wide.result
+    x.wide-level.ensures.0 q.before.wide.ensures.0 a.out.now _ _ q.put_path-p.ensures.0 in
+    let rest = going_last a.f a.shape.now a.entries s.requires l.loop-e.level l.loop-e.e l.loop-e.invariant.4 c.before.before.loop-e-test.false
+    c.put_brackets.ensures.0 in
+    (first.asked _ _ rest, omega (arith, l.loop-e.invariant.1, l.loop-e.invariant.2, few, c.put_brackets.ensures.1))
 
-pub put-line-spec : {M : Type 1} → statement M
-put-line-spec =
+pub put_line_spec : {M : Type 1} → statement M
+put_line_spec =
     tie.close
     (tie.spec
     invariant-loop
