@@ -15,14 +15,14 @@ returns c =
     let first = second.before.before in
     let kind = first.before.before in
     let word = kind.before.before in
-    let values = put_then first.put-after2.ensures.0 (put_last second.put-after3.ensures.0) in
-    let parts = put_then word.put-bytes.ensures (put_then kind.put-after.ensures.0 values) in
+    let values = put_then first.put_after-left.ensures.0 (put_last second.put_after-right.ensures.0) in
+    let parts = put_then word.put_bytes-word.ensures (put_then kind.put_after-told.ensures.0 values) in
     let whole = put_then parts c.put_byte.ensures in
-    (whole, prefix_len_of_le c.put_byte.result c.put_byte.new.0 (omega (arith, as_long whole, c.put_byte.ensures.ends)))
+    (whole, prefix_len_of_le c.put_byte.result c.put_byte.new.out (omega (arith, as_long whole, c.put_byte.ensures.ends)))
 
-pub put-found-spec : {M : Type 1} → statement M
-put-found-spec =
+pub put_found_spec : {M : Type 1} → statement M
+put_found_spec =
     tie.close
     (tie.spec
-    (λ c. search rules) (λ c κs. search rules) (λ c κs. search rules) (λ c κs. search rules) (λ c κs. search rules) (λ c κs. search rules)
+    (λ c κs. search rules) (λ c κs. search rules) (λ c κs. search rules) (λ c κs. search rules) (λ c κs. search rules)
     returns)

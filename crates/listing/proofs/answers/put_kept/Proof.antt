@@ -13,12 +13,12 @@ unfolding followed parted verdict_text
 returns c =
     let a = c.before.before in
     let w = a.before.before in
-    let whole = put_then (put_then w.put-bytes.ensures (put_last a.put-after.ensures.0)) c.put_byte.ensures in
-    (whole, prefix_len_of_le c.put_byte.result c.put_byte.new.0 (omega (arith, as_long whole, c.put_byte.ensures.ends, a.put-after.ensures.1)))
+    let whole = put_then (put_then w.put_bytes-word.ensures (put_last a.put_after-told.ensures.0)) c.put_byte.ensures in
+    (whole, prefix_len_of_le c.put_byte.result c.put_byte.new.out (omega (arith, as_long whole, c.put_byte.ensures.ends, a.put_after-told.ensures.1)))
 
-pub put-kept-spec : {M : Type 1} → statement M
-put-kept-spec =
+pub put_kept_spec : {M : Type 1} → statement M
+put_kept_spec =
     tie.close
     (tie.spec
-    (λ c. search rules) (λ c κs. search rules) (λ c κs. search rules) (λ c κs. search rules)
+    (λ c κs. search rules) (λ c κs. search rules) (λ c κs. search rules)
     returns)

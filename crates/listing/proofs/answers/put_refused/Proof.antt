@@ -15,15 +15,15 @@ returns c =
     let number = place.before.before in
     let word = number.before.before in
     let a = word.before.before.before.args in
-    let first = put_figure number.put-after.ensures.0 a.number (omega arith) in
-    let second = put_figure place.put-after2.ensures.0 a.place (omega arith) in
-    let parts = put_then word.put-bytes.ensures (put_then first (put_last second)) in
+    let first = put_figure number.put_after-first.ensures.0 a.number (omega arith) in
+    let second = put_figure place.put_after-second.ensures.0 a.place (omega arith) in
+    let parts = put_then word.put_bytes-word.ensures (put_then first (put_last second)) in
     let whole = put_then parts c.put_byte.ensures in
-    (whole, prefix_len_of_le c.put_byte.result c.put_byte.new.0 (omega (arith, as_long whole, c.put_byte.ensures.ends)))
+    (whole, prefix_len_of_le c.put_byte.result c.put_byte.new.out (omega (arith, as_long whole, c.put_byte.ensures.ends)))
 
-pub put-refused-spec : {M : Type 1} → statement M
-put-refused-spec =
+pub put_refused_spec : {M : Type 1} → statement M
+put_refused_spec =
     tie.close
     (tie.spec
-    (λ c. search rules) (λ c κs. search rules) (λ c κs. search rules) (λ c κs. search rules) (λ c κs. search rules)
+    (λ c κs. search rules) (λ c κs. search rules) (λ c κs. search rules) (λ c κs. search rules)
     returns)

@@ -7,20 +7,20 @@ use borrow.Author.Rules.{rules}
 use Rattle.listing.proofs.answers.put_verdict.Statement.{statement}
 use Rattle.listing.proofs.answers.put_verdict.Tie as tie
 
-returns : tie.Need-returns
-returns c = (put_as c.put-kept.ensures.0 (sym (ap (λ v. verdict_text (numbers_of v)) c.before.before.enum_told.given.1)), c.put-kept.ensures.1)
+returns : tie.Need-returns-in-Kept
+returns c = let k : tie.In-Kept = search in (put_as c.put_kept.ensures.0 (sym (ap (λ v. verdict_text (numbers_of v)) k.in-Kept.is)), c.put_kept.ensures.1)
 
-returns-2 : tie.Need-returns-2
-returns-2 c = (put_as c.put-found.ensures.0 (sym (ap (λ v. verdict_text (numbers_of v)) c.before.before.before.v.given.1)), c.put-found.ensures.1)
+returns-2 : tie.Need-returns-in-Missing
+returns-2 c = let k : tie.In-Missing = search in (put_as c.put_found.ensures.0 (sym (ap (λ v. verdict_text (numbers_of v)) k.in-Missing.is)), c.put_found.ensures.1)
 
-returns-3 : tie.Need-returns-3
-returns-3 c = (put_as c.put-found2.ensures.0 (sym (ap (λ v. verdict_text (numbers_of v)) c.before.before.before.v2.given.1)), c.put-found2.ensures.1)
+returns-3 : tie.Need-returns-in-Apart
+returns-3 c = let k : tie.In-Apart = search in (put_as c.put_found-in-Apart.ensures.0 (sym (ap (λ v. verdict_text (numbers_of v)) k.in-Apart.is)), c.put_found-in-Apart.ensures.1)
 
-returns-4 : tie.Need-returns-4
-returns-4 c = (put_as c.put-found3.ensures.0 (sym (ap (λ v. verdict_text (numbers_of v)) c.before.before.before.v3.given.1)), c.put-found3.ensures.1)
+returns-4 : tie.Need-returns-in-Unsure
+returns-4 c = let k : tie.In-Unsure = search in (put_as c.put_found-in-Unsure.ensures.0 (sym (ap (λ v. verdict_text (numbers_of v)) k.in-Unsure.is)), c.put_found-in-Unsure.ensures.1)
 
-pub put-verdict-spec : {M : Type 1} → statement M
-put-verdict-spec =
+pub put_verdict_spec : {M : Type 1} → statement M
+put_verdict_spec =
     tie.close
     (tie.spec
     (λ c. search rules) (λ c κs. search rules) (λ c. search rules) (λ c κs. search rules) (λ c. search rules) (λ c κs. search rules)

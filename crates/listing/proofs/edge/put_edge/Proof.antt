@@ -14,13 +14,13 @@ returns c =
     let numbers = c.before.before in
     let entry = numbers.before.before in
     let word = entry.before.before in
-    let parts = put_then word.put-bytes.ensures (put_then entry.put-after.ensures.0 numbers.put-numbers.ensures.0) in
+    let parts = put_then word.put_bytes-word.ensures (put_then entry.put_after-entry.ensures.0 numbers.put_numbers-numbers.ensures.0) in
     let whole = put_then parts c.put_byte.ensures in
-    (whole, prefix_len_of_le c.put_byte.result c.put_byte.new.0 (omega (arith, as_long whole, c.put_byte.ensures.ends)))
+    (whole, prefix_len_of_le c.put_byte.result c.put_byte.new.out (omega (arith, as_long whole, c.put_byte.ensures.ends)))
 
-pub put-edge-spec : {M : Type 1} → statement M
-put-edge-spec =
+pub put_edge_spec : {M : Type 1} → statement M
+put_edge_spec =
     tie.close
     (tie.spec
-    (λ c. search rules) (λ c κs. search rules) (λ c κs. search rules) (λ c κs. search rules) (λ c κs. search rules)
+    (λ c κs. search rules) (λ c κs. search rules) (λ c κs. search rules) (λ c κs. search rules)
     returns)

@@ -13,12 +13,12 @@ returns c =
     let third = last.before.before.before.before in
     let second = third.before.before.before.before in
     let first = second.before.before.before.before in
-    let parents = put_then third.put-after3.ensures.0 (put_last last.put-after4.ensures.0) in
-    let children = put_then first.put-after.ensures.0 (put_then second.put-after2.ensures.0 parents) in
-    (children, omega (arith, first.put-after.ensures.1, second.put-after2.ensures.1, third.put-after3.ensures.1, last.put-after4.ensures.1))
+    let parents = put_then third.put_after-few.ensures.0 (put_last last.put_after.ensures.0) in
+    let children = put_then first.put_after-fewest.ensures.0 (put_then second.put_after-most.ensures.0 parents) in
+    (children, omega (arith, first.put_after-fewest.ensures.1, second.put_after-most.ensures.1, third.put_after-few.ensures.1, last.put_after.ensures.1))
 
-pub put-numbers-spec : {M : Type 1} → statement M
-put-numbers-spec =
+pub put_numbers_spec : {M : Type 1} → statement M
+put_numbers_spec =
     tie.close
     (tie.spec
     (λ c κs. search rules) (λ c κs. search rules) (λ c κs. search rules) (λ c κs. search rules) (λ c. search rules)

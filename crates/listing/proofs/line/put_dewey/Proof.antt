@@ -18,10 +18,10 @@ returns c =
     let w = s.before in
     let a = w.before.before.before.before.args in
     let row = a.row.now in
-    let least = s.smaller.ensures ∙ ap (λ k. min k a.f.levels) w.wide.ensures.0 in
-    let all = sym (take_words (get_or row 0 0) a.f.levels s.smaller.result row 4 least) in
-    (put_as l.put-list.ensures.0 (ap dewey_text all), l.put-list.ensures.1)
+    let least = s.smaller-n.ensures ∙ ap (λ k. min k a.f.levels) w.wide.ensures.0 in
+    let all = sym (take_words (get_or row 0 0) a.f.levels s.smaller-n.result row 4 least) in
+    (put_as l.put_list.ensures.0 (ap dewey_text all), l.put_list.ensures.1)
 
-pub put-dewey-spec : {M : Type 1} → statement M
-put-dewey-spec =
+pub put_dewey_spec : {M : Type 1} → statement M
+put_dewey_spec =
     tie.close (tie.spec (λ c. search rules) (λ c κs. search rules) (λ c κs. search rules) (λ c κs. search rules) (λ c. search rules) returns)

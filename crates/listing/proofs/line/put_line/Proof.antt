@@ -24,19 +24,19 @@ returns c =
     let h = w.before.before in
     let e = h.before.before in
     let d = e.before.before in
-    let value = put_last (put_then g.put-byte2.ensures v.put-value.ensures.0) in
-    let name = put_then h.put_byte.ensures (put_as n.put-name.ensures.0 (ap name_text w.word.ensures.0)) in
+    let value = put_last (put_then g.put_byte-gap2.ensures v.put_value-value.ensures.0) in
+    let name = put_then h.put_byte-gap.ensures (put_as n.put_name-name.ensures.0 (ap name_text w.word.ensures.0)) in
     let source = d.before.before.before.args.source in
-    let entry = put_figure e.put-after.ensures.0 (source / entry_unit) (omega arith) in
-    let origin = put_figure o.put-after2.ensures.0 (source % entry_unit) (omega arith) in
+    let entry = put_figure e.put_after-entry.ensures.0 (source / entry_unit) (omega arith) in
+    let origin = put_figure o.put_after-origin.ensures.0 (source % entry_unit) (omega arith) in
     let after = put_then entry (put_then name (put_then origin value)) in
-    let whole = put_then (put_then d.put-dewey.ensures.0 after) c.put-byte3.ensures in
-    let from : h.put_byte.result ≤ 189 = omega (arith, d.put-dewey.ensures.1, e.put-after.ensures.1, h.put_byte.ensures.ends) in
-    let to : g.put-byte2.result ≤ 231 = omega (arith, n.put-name.ensures.1, o.put-after2.ensures.1, g.put-byte2.ensures.ends) in
-    (whole, prefix_len_of_le c.put-byte3.result c.put-byte3.new.0 (omega (arith, d.before.put-dewey-arg.given.0.1, as_long whole, v.put-value.ensures.1, c.put-byte3.ensures.ends)))
+    let whole = put_then (put_then d.put_dewey-dewey.ensures.0 after) c.put_byte.ensures in
+    let from : h.put_byte-gap.result ≤ 189 = omega (arith, d.put_dewey-dewey.ensures.1, e.put_after-entry.ensures.1, h.put_byte-gap.ensures.ends) in
+    let to : g.put_byte-gap2.result ≤ 231 = omega (arith, n.put_name-name.ensures.1, o.put_after-origin.ensures.1, g.put_byte-gap2.ensures.ends) in
+    (whole, prefix_len_of_le c.put_byte.result c.put_byte.new.out (omega (arith, d.before.put_dewey-arg-1.given.0.1, as_long whole, v.put_value-value.ensures.1, c.put_byte.ensures.ends)))
 
-pub put-line-spec : {M : Type 1} → statement M
-put-line-spec =
+pub put_line_spec : {M : Type 1} → statement M
+put_line_spec =
     tie.close
     (tie.spec
     (λ c κs. search rules) (λ c κs. search rules) (λ c κs. search rules) (λ c κs. search rules) (λ c κs. search rules) (λ c κs. search rules)

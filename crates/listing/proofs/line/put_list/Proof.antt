@@ -10,23 +10,23 @@ use borrow.Author.Rules.{rules}
 use Rattle.listing.proofs.line.put_list.Statement.{statement}
 use Rattle.listing.proofs.line.put_list.Tie as tie
 
-returns : tie.Need-returns
+returns : tie.Need-returns-then-n-eq0
 returns c =
     let s : tie.Start = search in let a = s.args in
-    (put_as (put_none a.out.now a.at) (no_numbers a.n a.held.now c.if1.true), omega arith)
+    (put_as (put_none a.out.now a.at) (no_numbers a.n a.held.now c.if-n-eq0.true), omega arith)
 
-returns-2 : tie.Need-returns-2
+returns-2 : tie.Need-returns
 returns-2 c =
     let s : tie.Start = search in let a = s.args in
     let w : tie.After-word = search in
-    let p : tie.After-put-number = search in
-    let f : tie.After-put-further = search in
-    let whole = put_then p.put-number.ensures.0 f.put-further.ensures.0 in
+    let p : tie.After-put_number-first = search in
+    let f : tie.After-put_further = search in
+    let whole = put_then p.put_number-first.ensures.0 f.put_further.ensures.0 in
     let first = ap (λ x. decimal x ++ further (a.n - 1) a.held.now) w.word.ensures.0 in (
       put_as whole (first ∙ list_parts a.n a.held.now (omega arith)),
-      omega (arith, p.put-number.ensures.1, f.put-further.ensures.1),
+      omega (arith, p.put_number-first.ensures.1, f.put_further.ensures.1),
     )
 
-pub put-list-spec : {M : Type 1} → statement M
-put-list-spec =
+pub put_list_spec : {M : Type 1} → statement M
+put_list_spec =
     tie.close (tie.spec returns (λ c κs. search rules) (λ c κs. search rules) (λ c. search rules) (λ c κs. search rules) (λ c. search rules) returns-2)

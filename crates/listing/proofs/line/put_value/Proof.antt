@@ -9,7 +9,7 @@ use borrow.Author.Rules.{rules}
 use Rattle.listing.proofs.line.put_value.Statement.{statement}
 use Rattle.listing.proofs.line.put_value.Tie as tie
 
-returns : tie.Need-returns
+returns : tie.Need-returns-then-bits-lt9223372036854775808
 unfolding row_of
 returns c =
     let n = c.before.before in
@@ -17,12 +17,12 @@ returns c =
     let e = v.before in
     let a = e.before.before.before.args in
     let row = a.row.now in
-    let is = v.long.ensures ∙ ap (λ i. number (span 8 row i)) e.entry-bytes.ensures in (
-      put_as n.put-number.ensures.0 (not_below (row_of a.f row).value v.long.result is (omega arith)),
-      omega (arith, n.put-number.ensures.1),
+    let is = v.long-bits.ensures ∙ ap (λ i. number (span 8 row i)) e.entry_bytes-from.ensures in (
+      put_as n.put_number.ensures.0 (not_below (row_of a.f row).value v.long-bits.result is (omega arith)),
+      omega (arith, n.put_number.ensures.1),
     )
 
-returns-2 : tie.Need-returns-2
+returns-2 : tie.Need-returns-else-bits-lt9223372036854775808
 unfolding row_of
 returns-2 c =
     let n = c.before.before in
@@ -30,13 +30,13 @@ returns-2 c =
     let e = v.before in
     let a = e.before.before.before.args in
     let row = a.row.now in
-    let is = v.long.ensures ∙ ap (λ i. number (span 8 row i)) e.entry-bytes.ensures in (
-      put_as n.put-after.ensures.0 (below (row_of a.f row).value v.long.result is (omega arith) _ (omega arith) (omega arith)),
-      n.put-after.ensures.1,
+    let is = v.long-bits.ensures ∙ ap (λ i. number (span 8 row i)) e.entry_bytes-from.ensures in (
+      put_as n.put_after.ensures.0 (below (row_of a.f row).value v.long-bits.result is (omega arith) _ (omega arith) (omega arith)),
+      n.put_after.ensures.1,
     )
 
-pub put-value-spec : {M : Type 1} → statement M
-put-value-spec =
+pub put_value_spec : {M : Type 1} → statement M
+put_value_spec =
     tie.close
     (tie.spec
     (λ c κs. search rules) (λ c κs. search rules) (λ c κs. search rules) (λ c. search rules) (λ c. search rules) (λ c κs. search rules)
