@@ -14,7 +14,7 @@ use mathlib.Core.List.{List, [], ◌∷◌}
 use lib.Dec.{T as Holds}
 use lib.ListN.{length}
 use seplogic.Ra.Ura.{Ura}
-use mir.Syntax.{named, w64}
+use mir.Syntax.{named, w8, w64}
 use mir.Val.{Val, WT, has_ty, vint}
 use base.Logic.{SProp, ent, sep, emp, snd∗, ex_e}
 use base.Fml.{Lft, Share, Fml, ftrue, flft}
@@ -25,7 +25,7 @@ use contract.Monad.{Fun, fact}
 use types.Kit.{‵, raw, ◌⊛◌, given, ⋆, ◌$◌, ◌∵◌, !, qed, move, drop, use1, use2, split, join, learn, fsplit, fjoin, frame, done}
 use denote.RattleType.{owns}
 use denote.Laws.{Is}
-use denote.Plain.{uint_Makes}
+use denote.Plain.{uint_Makes, uint_row_laws}
 use denote.Builtin.{u8, usize}
 use denote.Enum.Laws as EL
 use denote.Ref.{Bor}
@@ -126,7 +126,7 @@ module _ {M : Type 1} {𝓤 : Ura M} (𝓛 : Logic 𝓤) (κ : Lft) (q : Share) 
     pub lent : (w : Width) (s : Bor (List ℕ)) (n : ℕ) → ent 𝓤 (With (Arg-table κ w s n)) (sep 𝓤 (Asks-table w s n) (sem 𝓛 (Table κ s)))
     lent w s n =
         qed 𝓛 ((‵ (flft κ q) ⊛ ‵ ftrue) ∷ ‵ (Arg-table κ w s n) ∷ []) ∵
-        move ! (1 ∷ []) $ fsplit ! $ move ! (1 ∷ []) $ fsplit ! $ use1 𝓛 (‵ (Table κ s) ⊛ ‵ (Table κ s)) ((shr_slice_copy 𝓛 (named 0) κ u8).twice s (cell s ∷ [])) $ split ! $
+        move ! (1 ∷ []) $ fsplit ! $ move ! (1 ∷ []) $ fsplit ! $ use1 𝓛 (‵ (Table κ s) ⊛ ‵ (Table κ s)) ((shr_slice_copy 𝓛 (named 0) κ u8 (uint_row_laws w8)).twice s (cell s ∷ [])) $ split ! $
         -- [what the table owns; the same; what the place owns; what the width owns; the token]
         move ! (0 ∷ 2 ∷ []) $ fjoin ! $ move ! (2 ∷ 0 ∷ []) $ fjoin ! $
         move ! (2 ∷ 0 ∷ []) $ use2 𝓛 (raw (Asks-table w s n)) (asked (Arg-table κ w s n)) $ frame ! $ done !

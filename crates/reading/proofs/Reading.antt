@@ -44,7 +44,7 @@ module _ (f : Format) (t : List ℕ) (at : ℕ) where
 -- ---- the part handed out
 -- the part of t that begins at byte i and ends before byte j
 abbrev part : Bor (List ℕ) → ℕ → ℕ → Bor (List ℕ)
-part t i j = record { ref_ptr = (t.ref_ptr.0, i + t.ref_ptr.1); ghost_name = t.ghost_name; now = take (j - i) (drop i t.now) }
+part t i j = record { ref_ptr = (t.ref_ptr.0, i + t.ref_ptr.1); now = take (j - i) (drop i t.now) }
 
 pub row_handed : (f : Format) (t : Bor (List ℕ)) (at : ℕ) → at < whole (row_bytes f) t.now → (p : Bor (List ℕ))
     → p.now ≡ take (row_bytes f) (drop (row_bytes f * at) t.now) → OwnFrom t (row_bytes f * at) p → Handed f t at p

@@ -13,33 +13,33 @@ use borrow.Author.Rules.{rules}
 use Rattle.reading.proofs.reader.place_after.Statement.{statement}
 use Rattle.reading.proofs.reader.place_after.Tie as tie
 
-abbrev begun : tie.After-row-bytes → tie.Start
+abbrev begun : tie.After-row_bytes-w → tie.Start
 begun c = c.before.before.before
 
 -- a row's bytes are those of the width
-wide : (c : tie.After-row-bytes) → c.row-bytes.result ≡ row_bytes (format_of (begun c).args.width)
-wide c = c.row-bytes.ensures ∙ ap row_bytes c.before.format-of.ensures
+wide : (c : tie.After-row_bytes-w) → c.row_bytes-w.result ≡ row_bytes (format_of (begun c).args.width)
+wide c = c.row_bytes-w.ensures ∙ ap row_bytes c.before.format_of.ensures
 
-row-bytes-requires : tie.Need-row-bytes-requires
+row-bytes-requires : tie.Need-row_bytes-w-requires
 row-bytes-requires c κs =
-    omega (arith, (format_served c.format-of.result c.before.before.args.width c.format-of.ensures).shallow)
+    omega (arith, (format_served c.format_of.result c.before.before.args.width c.format_of.ensures).shallow)
 
-add-result : tie.Need-overflow-add-result
+add-result : tie.Need-overflow_add-result
 add-result c =
     let a = (begun c.before).args in
-    omega (arith, c.if1.true, div-le_self (length a.table.now) c.before.row-bytes.result, (begun c.before).well-formed)
+    omega (arith, c.if-at-table.true, div-le_self (length a.table.now) c.before.row_bytes-w.result, (begun c.before).well_formed)
 
-returns : tie.Need-returns
+returns : tie.Need-returns-then-at-table
 returns c =
     let a = (begun c.before).args in
     add-one a.at
-    ∙ sym (reader_next-row (format_of a.width) a.table.now a.at (subst (λ w. a.at < whole w a.table.now) (wide c.before) c.if1.true))
+    ∙ sym (reader_next-row (format_of a.width) a.table.now a.at (subst (λ w. a.at < whole w a.table.now) (wide c.before) c.if-at-table.true))
 
-returns-2 : tie.Need-returns-2
+returns-2 : tie.Need-returns
 returns-2 c =
     let a = (begun c.before).args in
-    sym (reader_next_end (format_of a.width) a.table.now a.at (subst (λ w. whole w a.table.now ≤ a.at) (wide c.before) c.if1.false))
+    sym (reader_next_end (format_of a.width) a.table.now a.at (subst (λ w. whole w a.table.now ≤ a.at) (wide c.before) c.if-at-table.false))
 
-pub place-after-spec : {M : Type 1} → statement M
-place-after-spec =
+pub place_after_spec : {M : Type 1} → statement M
+place_after_spec =
     tie.close (tie.spec (λ c κs. search rules) row-bytes-requires (λ c. search rules) add-result returns returns-2)

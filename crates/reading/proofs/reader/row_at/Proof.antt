@@ -13,41 +13,41 @@ use borrow.Author.Rules.{rules}
 use Rattle.reading.proofs.reader.row_at.Statement.{statement}
 use Rattle.reading.proofs.reader.row_at.Tie as tie
 
-abbrev begun : tie.After-row-bytes → tie.Start
+abbrev begun : tie.After-row_bytes-w → tie.Start
 begun c = c.before.before.before
 
 -- a row's bytes are those of the width
-wide : (c : tie.After-row-bytes) → c.row-bytes.result ≡ row_bytes (format_of (begun c).args.width)
-wide c = c.row-bytes.ensures ∙ ap row_bytes c.before.format-of.ensures
+wide : (c : tie.After-row_bytes-w) → c.row_bytes-w.result ≡ row_bytes (format_of (begun c).args.width)
+wide c = c.row_bytes-w.ensures ∙ ap row_bytes c.before.format_of.ensures
 
-row-bytes-requires : tie.Need-row-bytes-requires
+row-bytes-requires : tie.Need-row_bytes-w-requires
 row-bytes-requires c κs =
-    omega (arith, (format_served c.format-of.result c.before.before.args.width c.format-of.ensures).shallow)
+    omega (arith, (format_served c.format_of.result c.before.before.args.width c.format_of.ensures).shallow)
 
 record-requires : tie.Need-record-requires
 record-requires c κs =
     let a = (begun c.before).args in
-    let w = c.before.row-bytes.result in
+    let w = c.before.row_bytes-w.result in
     let n = length a.table.now in
-    record_in w a.at (whole w a.table.now) n c.if1.true (mul-div-le n w)
+    record_in w a.at (whole w a.table.now) n c.if-at-rows.true (mul-div-le n w)
 
-returns : tie.Need-returns
+returns : tie.Need-returns-then-at-rows
 returns c =
     let x = c.before.before in
     let a = (begun x).args in
     let r = c.«record» in
-    row_handed (format_of a.width) a.table a.at (subst (λ w. a.at < whole w a.table.now) (wide x) c.before.if1.true)
+    row_handed (format_of a.width) a.table a.at (subst (λ w. a.at < whole w a.table.now) (wide x) c.before.if-at-rows.true)
     r.result (subst (λ w. r.result.now ≡ take w (drop (w * a.at) a.table.now)) (wide x) r.ensures.0)
     (subst (λ w. OwnFrom a.table (w * a.at) r.result) (wide x) r.ensures.2)
 
-returns-2 : tie.Need-returns-2
+returns-2 : tie.Need-returns
 returns-2 c =
     let e = c.before in
     let a = (begun e.before).args in
-    end_handed (format_of a.width) a.table a.at (subst (λ w. whole w a.table.now ≤ a.at) (wide e.before) e.if1.false)
+    end_handed (format_of a.width) a.table a.at (subst (λ w. whole w a.table.now ≤ a.at) (wide e.before) e.if-at-rows.false)
 
-pub row-at-spec : {M : Type 1} → statement M
-row-at-spec =
+pub row_at_spec : {M : Type 1} → statement M
+row_at_spec =
     tie.close
     (tie.spec
     (λ c κs. search rules)

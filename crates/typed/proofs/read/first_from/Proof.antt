@@ -11,57 +11,57 @@ use borrow.Author.Rules.{rules}
 use Rattle.typed.proofs.read.first_from.Statement.{statement}
 use Rattle.typed.proofs.read.first_from.Tie as tie
 
-abbrev invariant-loop : tie.invariant-loop
+abbrev invariant-loop : tie.invariant-loop-e
 invariant-loop list n bound e₀ e = Looking (leb bound) (take n list) n e
 
-abbrev decreases-loop : tie.decreases-loop
+abbrev decreases-loop : tie.decreases-loop-e
 decreases-loop list n bound e₀ e = n - e
 
-abbrev begun : tie.At-loop invariant-loop decreases-loop → tie.Start invariant-loop decreases-loop
+abbrev begun : tie.At-loop-e invariant-loop decreases-loop → tie.Start invariant-loop decreases-loop
 begun l = l.before.before
 
-abbrev looped : tie.After-wide16 invariant-loop decreases-loop → tie.At-loop invariant-loop decreases-loop
+abbrev looped : tie.After-wide16 invariant-loop decreases-loop → tie.At-loop-e invariant-loop decreases-loop
 looped w = w.before.before.before
 
 -- the next number
 next : (w : tie.After-wide16 invariant-loop decreases-loop) →
     let l = looped w in
     let a = (begun l).args in
-    drop l.loop.e (take a.n a.list.now) ≡ w.wide16.result ∷ drop (suc l.loop.e) (take a.n a.list.now)
+    drop l.loop-e.e (take a.n a.list.now) ≡ w.wide16.result ∷ drop (suc l.loop-e.e) (take a.n a.list.now)
 next w =
     let l = looped w in
     let s = begun l in
-    first_next s.args.list.now s.args.n s.pre l.loop.e w.wide16.result w.before.before.loop-test.true w.wide16.ensures.0
+    first_next s.args.list.now s.args.n s.requires l.loop-e.e w.wide16.result w.before.before.loop-e-test.true w.wide16.ensures.0
 
-loop-holds : tie.Need-loop-init invariant-loop decreases-loop
+loop-holds : tie.Need-loop-e-init invariant-loop decreases-loop
 loop-holds c = let a = c.before.args in looking_start (leb a.bound) (take a.n a.list.now) a.n
 
-returns : tie.Need-returns invariant-loop decreases-loop
+returns : tie.Need-returns-then-bound-wide16 invariant-loop decreases-loop
 returns c =
     let w = c.before in
     let l = looped w in
     let a = (begun l).args in
-    looking_stop (leb a.bound) (take a.n a.list.now) a.n l.loop.e l.loop.inv w.before.before.loop-test.true _
-    (next w) (le-leb _ _ c.if1.true)
+    looking_stop (leb a.bound) (take a.n a.list.now) a.n l.loop-e.e l.loop-e.invariant w.before.before.loop-e-test.true _
+    (next w) (le-leb _ _ c.if-bound-wide16.true)
 
-loop-again : tie.Need-loop-preserved invariant-loop decreases-loop
+loop-again : tie.Need-loop-e-preserved invariant-loop decreases-loop
 loop-again c =
     let w = c.before in
     let l = looped w in
     let a = (begun l).args in
-    looking_on (leb a.bound) (take a.n a.list.now) a.n l.loop.e l.loop.inv w.before.before.loop-test.true _
-    (next w) (lt-leb _ _ c.if1.false)
+    looking_on (leb a.bound) (take a.n a.list.now) a.n l.loop-e.e l.loop-e.invariant w.before.before.loop-e-test.true _
+    (next w) (lt-leb _ _ c.if-bound-wide16.false)
 
-returns-2 : tie.Need-returns-2 invariant-loop decreases-loop
+returns-2 : tie.Need-returns invariant-loop decreases-loop
 returns-2 c =
     let l = c.before in
     let s = begun l in
     let a = s.args in
-    looking_end (leb a.bound) (take a.n a.list.now) a.n l.loop.e l.loop.invariant
-    (first_long a.list.now a.n s.pre) c.loop-test.false
+    looking_end (leb a.bound) (take a.n a.list.now) a.n l.loop-e.e l.loop-e.invariant
+    (first_long a.list.now a.n s.requires) c.loop-e-test.false
 
-pub first-from-spec : {M : Type 1} → statement M
-first-from-spec =
+pub first_from_spec : {M : Type 1} → statement M
+first_from_spec =
     tie.close
     (tie.spec
     invariant-loop
