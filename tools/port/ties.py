@@ -169,7 +169,7 @@ def by_fields(text, ways, said):
 def closing(text, names, said):
     m = re.search(r"\(\s*tie\.spec(.*)\)\s*$", text, re.S)
     if not m:
-        return
+        return text
     body, depth, n, inside = m.group(1), 0, 0, False
     for token in re.finditer(r"[()]|[^\s()]+", re.sub(r"--[^\n]*", "", body)):
         t = token.group(0)
@@ -183,6 +183,9 @@ def closing(text, names, said):
     wanted = len(names["needs"]) + 2 * len(names["loops"])
     if n != wanted:
         said.append(f"closing list has {n} for {wanted}")
+    if n == wanted + 1:
+        return re.sub(r"(\(tie\.spec\s+)\(λ c\. search rules\)\s*", r"\1", text, count=1)
+    return text
 
 
 def goals(text):
@@ -220,7 +223,7 @@ def main(crates):
             new = re.sub(r"^[\w'-]+[-_]spec =", f"{p.parts[-2].lstrip('+')}_spec =", new, flags=re.M)
             if "⊎_elim" in new and path in lts:
                 new = by_fields(new, branches(lts[path]), said)
-            closing(new, by_path[path], said)
+            new = closing(new, by_path[path], said)
             if said:
                 print(f"{crate}: {path}: {', '.join(said)}")
             if new != text:

@@ -19,21 +19,27 @@ returns c =
     let gap = above.before.before in
     let entry = gap.before.before in
     let word = entry.before.before in
-    let names = put_then (put_then gap.put_byte.ensures above.put-name.ensures.0)
-    (put_then (put_then gap2.put-byte2.ensures below.put-name2.ensures.0) numbers.put-numbers.ensures.0) in
-    let parts = put_then word.put-bytes.ensures (put_then entry.put-after.ensures.0 names) in
-    let whole = put_then parts c.put-byte3.ensures in
-    let from : gap.put_byte.result ≤ 26 = omega (arith, word.put-bytes.ensures.ends, entry.put-after.ensures.1, gap.put_byte.ensures.ends) in
-    let to : below.put-name2.result ≤ 67 = omega (arith, above.put-name.ensures.1, gap2.put-byte2.ensures.ends, below.put-name2.ensures.1) in (
+    let names = put_then (put_then gap.put_byte-gap.ensures above.put_name-above.ensures.0)
+    (put_then (put_then gap2.put_byte-gap2.ensures below.put_name-below.ensures.0) numbers.put_numbers-numbers.ensures.0) in
+    let parts = put_then word.put_bytes-word.ensures (put_then entry.put_after-entry.ensures.0 names) in
+    let whole = put_then parts c.put_byte.ensures in
+    let from : gap.put_byte-gap.result ≤ 26 = omega (arith, word.put_bytes-word.ensures.ends, entry.put_after-entry.ensures.1, gap.put_byte-gap.ensures.ends) in
+    let to : below.put_name-below.result ≤ 67 = omega (arith, above.put_name-above.ensures.1, gap2.put_byte-gap2.ensures.ends, below.put_name-below.ensures.1) in (
       whole,
-      prefix_len_of_le c.put-byte3.result c.put-byte3.new.0
-          (omega (arith, word.before.before.put-bytes-arg.given.0.1, as_long whole, to, numbers.put-numbers.ensures.1, c.put-byte3.ensures.ends)),
+      prefix_len_of_le c.put_byte.result c.put_byte.new.out
+          (omega (arith, word.before.before.put_bytes-arg-1.given.0.1, as_long whole, to, numbers.put_numbers-numbers.ensures.1, c.put_byte.ensures.ends)),
     )
 
-pub put-edge-named-spec : {M : Type 1} → statement M
-put-edge-named-spec =
+pub put_edge_named_spec : {M : Type 1} → statement M
+put_edge_named_spec =
     tie.close
     (tie.spec
-    (λ c. search rules) (λ c κs. search rules) (λ c κs. search rules) (λ c κs. search rules) (λ c κs. search rules) (λ c κs. search rules)
-    (λ c κs. search rules) (λ c κs. search rules) (λ c κs. search rules)
+    (λ c. search rules)
+    (λ c. search rules)
+    (λ c. search rules)
+    (λ c. search rules)
+    (λ c. search rules)
+    (λ c. search rules)
+    (λ c. search rules)
+    (λ c. search rules)
     returns)

@@ -13,13 +13,16 @@ returns c =
     let labels = c.before.before in
     let colon = labels.before.before in
     let number = colon.before.before in
-    let parts = put_then number.put-named.ensures.0 (put_then colon.put_byte.ensures (put_last labels.put-labels.ensures.0)) in
-    let whole = put_then parts c.put-byte2.ensures in
-    (whole, prefix_len_of_le c.put-byte2.result c.put-byte2.new.0 (omega (arith, as_long whole, labels.put-labels.ensures.1, c.put-byte2.ensures.ends)))
+    let parts = put_then number.put_named-number.ensures.0 (put_then colon.put_byte-gap.ensures (put_last labels.put_labels-labels.ensures.0)) in
+    let whole = put_then parts c.put_byte.ensures in
+    (whole, prefix_len_of_le c.put_byte.result c.put_byte.new.out (omega (arith, as_long whole, labels.put_labels-labels.ensures.1, c.put_byte.ensures.ends)))
 
-pub put-entry-spec : {M : Type 1} → statement M
-put-entry-spec =
+pub put_entry_spec : {M : Type 1} → statement M
+put_entry_spec =
     tie.close
     (tie.spec
-    (λ c. search rules) (λ c κs. search rules) (λ c κs. search rules) (λ c κs. search rules) (λ c κs. search rules)
+    (λ c. search rules)
+    (λ c. search rules)
+    (λ c. search rules)
+    (λ c. search rules)
     returns)

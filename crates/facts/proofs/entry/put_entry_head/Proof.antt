@@ -18,17 +18,23 @@ returns c =
     let second = wide2.before.before.before.before in
     let wide = second.before in
     let first = wide.before.before.before.before in
-    let d = put_last (put_number_as (ascii ", zero bytes ") word.word.ensures.0 c.put-named4.ensures.0) in
-    let b = put_number_as (ascii ", length of its type ") wide2.wide2.ensures.0 third.put-named3.ensures.0 in
-    let a = put_number_as (ascii ": level ") wide.wide.ensures.0 second.put-named2.ensures.0 in
-    let near : second.put-named2.result ≤ 54 = omega (arith, first.put-named.ensures.1, second.put-named2.ensures.1) in
-    (put_then first.put-named.ensures.0 (put_then a (put_then b d)), omega (arith, near, third.put-named3.ensures.1, c.put-named4.ensures.1))
+    let d = put_last (put_number_as (ascii ", zero bytes ") word.word.ensures.0 c.put_named.ensures.0) in
+    let b = put_number_as (ascii ", length of its type ") wide2.wide-2.ensures.0 third.put_named-size.ensures.0 in
+    let a = put_number_as (ascii ": level ") wide.wide.ensures.0 second.put_named-level.ensures.0 in
+    let near : second.put_named-level.result ≤ 54 = omega (arith, first.put_named-number.ensures.1, second.put_named-level.ensures.1) in
+    (put_then first.put_named-number.ensures.0 (put_then a (put_then b d)), omega (arith, near, third.put_named-size.ensures.1, c.put_named.ensures.1))
 
-pub put-entry-head-spec : {M : Type 1} → statement M
-put-entry-head-spec =
+pub put_entry_head_spec : {M : Type 1} → statement M
+put_entry_head_spec =
     tie.close
     (tie.spec
-    (λ c. search rules) (λ c κs. search rules) (λ c. search rules) (λ c. search rules) (λ c κs. search rules) (λ c κs. search rules)
-    (λ c. search rules) (λ c. search rules) (λ c κs. search rules) (λ c κs. search rules) (λ c. search rules) (λ c κs. search rules)
-    (λ c κs. search rules)
+    (λ c. search rules)
+    (λ c. search rules)
+    (λ c. search rules)
+    (λ c. search rules)
+    (λ c. search rules)
+    (λ c. search rules)
+    (λ c. search rules)
+    (λ c. search rules)
+    (λ c. search rules)
     returns)

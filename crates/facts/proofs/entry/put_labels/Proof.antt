@@ -18,12 +18,12 @@ returns c =
     let w = s.before in
     let a = w.before.before.before.before.args in
     let entry = a.entry.now in
-    let least = s.smaller.ensures ∙ ap (λ k. min k a.f.levels) w.wide.ensures.0 in
-    let all = sym (take_words (get_or entry 1 0) a.f.levels s.smaller.result entry 4 least) in
-    (put_as n.put-names.ensures.0 (ap names_text all), n.put-names.ensures.1)
+    let least = s.smaller-n.ensures ∙ ap (λ k. min k a.f.levels) w.wide.ensures.0 in
+    let all = sym (take_words (get_or entry 1 0) a.f.levels s.smaller-n.result entry 4 least) in
+    (put_as n.put_names.ensures.0 (ap names_text all), n.put_names.ensures.1)
 
-pub put-labels-spec : {M : Type 1} → statement M
-put-labels-spec =
+pub put_labels_spec : {M : Type 1} → statement M
+put_labels_spec =
     tie.close
     (tie.spec
     (λ c. search rules) (λ c κs. search rules) (λ c κs. search rules) (λ c κs. search rules) (λ c. search rules)

@@ -9,7 +9,7 @@ returns : tie.Need-returns
 returns c =
     let n = c.before.before in
     let t = n.before.before.before.before in
-    (put_then t.put-bytes.ensures n.put-number.ensures.0, omega (arith, n.put-number.ensures.1, t.put-bytes.ensures.ends))
+    (put_then t.put_bytes-p.ensures n.put_number.ensures.0, omega (arith, n.put_number.ensures.1, t.put_bytes-p.ensures.ends))
 
-pub put-named-spec : {M : Type 1} → statement M
-put-named-spec = tie.close (tie.spec (λ c κs. search rules) (λ c κs. search rules) (λ c. search rules) returns)
+pub put_named_spec : {M : Type 1} → statement M
+put_named_spec = tie.close (tie.spec (λ c κs. search rules) (λ c κs. search rules) (λ c. search rules) returns)

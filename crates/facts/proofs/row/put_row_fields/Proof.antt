@@ -8,7 +8,7 @@ use borrow.Author.Rules.{rules}
 use Rattle.facts.proofs.row.put_row_fields.Statement.{statement}
 use Rattle.facts.proofs.row.put_row_fields.Tie as tie
 
-put-byte-requires : tie.Need-put-byte-requires
+put-byte-requires : tie.Need-put_byte-requires
 put-byte-requires c κs = search rules
 
 returns : tie.Need-returns
@@ -19,16 +19,19 @@ returns c =
     let l = w2.before.before.before in
     let w = l.before.before in
     let head = w.before.before.before in
-    let value = put_then w2.put-bytes2.ensures (put_last v.put-value.ensures.0) in
-    let list = put_then w.put-bytes.ensures (put_then l.put-list.ensures.0 value) in
-    let whole = put_then (put_then head.put-row-head.ensures.0 list) c.put_byte.ensures in
-    (whole, prefix_len_of_le c.put_byte.result c.put_byte.new.0 (room (put-byte-requires c.before c.put_byte.lifetimes) c.put_byte.ensures))
+    let value = put_then w2.put_bytes-word2.ensures (put_last v.put_value-value.ensures.0) in
+    let list = put_then w.put_bytes-word.ensures (put_then l.put_list-list.ensures.0 value) in
+    let whole = put_then (put_then head.put_row_head-head.ensures.0 list) c.put_byte.ensures in
+    (whole, prefix_len_of_le c.put_byte.result c.put_byte.new.out (room (put-byte-requires c.before c.put_byte.lifetimes) c.put_byte.ensures))
 
-pub put-row-fields-spec : {M : Type 1} → statement M
-put-row-fields-spec =
+pub put_row_fields_spec : {M : Type 1} → statement M
+put_row_fields_spec =
     tie.close
     (tie.spec
-    (λ c κs. search rules) (λ c. search rules) (λ c κs. search rules) (λ c κs. search rules) (λ c. search rules) (λ c κs. search rules)
-    (λ c κs. search rules)
+    (λ c. search rules)
+    (λ c. search rules)
+    (λ c. search rules)
+    (λ c. search rules)
+    (λ c. search rules)
     put-byte-requires
     returns)

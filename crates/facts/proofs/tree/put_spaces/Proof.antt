@@ -10,30 +10,30 @@ use borrow.Author.Rules.{rules}
 use Rattle.facts.proofs.tree.put_spaces.Statement.{statement}
 use Rattle.facts.proofs.tree.put_spaces.Tie as tie
 
-abbrev invariant-loop : tie.invariant-loop
+abbrev invariant-loop : tie.invariant-loop-i
 invariant-loop out₀ at n p₀ i₀ out p i = (i ≤ n) × (p ≡ at + i) × (length out ≡ length out₀) × Put out₀ at (replicate i space) out p
 
-abbrev decreases-loop : tie.decreases-loop
+abbrev decreases-loop : tie.decreases-loop-i
 decreases-loop out₀ at n p₀ i₀ out p i = n - i
 
-loop-holds : tie.Need-loop-init invariant-loop decreases-loop
+loop-holds : tie.Need-loop-i-init invariant-loop decreases-loop
 loop-holds c = let a = c.before.args in (omega arith, omega arith, refl, put_none a.out.now a.at)
 
-loop-again : tie.Need-loop-preserved invariant-loop decreases-loop
+loop-again : tie.Need-loop-i-preserved invariant-loop decreases-loop
 loop-again c =
     let b = c.before.before in
     let l = b.before.before.before in
-    let put = put_as (put_then l.loop.invariant.3 b.put_byte.ensures) (replicate-append-replicate l.loop.i 1 space) in
-    (search rules, omega (arith, b.put_byte.ensures.ends), as_long put, put)
+    let put = put_as (put_then l.loop-i.invariant.3 b.put_byte-p.ensures) (replicate-append-replicate l.loop-i.i 1 space) in
+    (search rules, omega (arith, b.put_byte-p.ensures.ends), as_long put, put)
 
 returns : tie.Need-returns invariant-loop decreases-loop
 returns c =
     let l = c.before in
-    let all : l.loop.i ≡ l.before.before.args.n = omega arith in
-    (put_as l.loop.invariant.3 (ap (λ k. replicate k space) all), omega arith)
+    let all : l.loop-i.i ≡ l.before.before.args.n = omega arith in
+    (put_as l.loop-i.invariant.3 (ap (λ k. replicate k space) all), omega arith)
 
-pub put-spaces-spec : {M : Type 1} → statement M
-put-spaces-spec =
+pub put_spaces_spec : {M : Type 1} → statement M
+put_spaces_spec =
     tie.close
     (tie.spec
     invariant-loop

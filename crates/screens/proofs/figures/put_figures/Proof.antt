@@ -16,16 +16,21 @@ returns c =
     let gap = name.before.before in
     let number = gap.before.before in
     let indent = number.before.before in
-    let entry = put_then indent.put-indent.ensures.0 number.put-number.ensures.0 in
-    let label = put_then entry (put_then gap.put_byte.ensures name.put-name.ensures.0) in
-    let parts = put_then (put_then label colon.put-bytes.ensures) figures.put-counts.ensures.0 in
-    let whole = put_then parts c.put-byte2.ensures in
+    let entry = put_then indent.put_indent-indent.ensures.0 number.put_number-number.ensures.0 in
+    let label = put_then entry (put_then gap.put_byte-gap.ensures name.put_name-name.ensures.0) in
+    let parts = put_then (put_then label colon.put_bytes-colon.ensures) figures.put_counts-counts.ensures.0 in
+    let whole = put_then parts c.put_byte.ensures in
     fits whole (omega arith)
 
-pub put-figures-spec : {M : Type 1} → statement M
-put-figures-spec =
+pub put_figures_spec : {M : Type 1} → statement M
+put_figures_spec =
     tie.close
     (tie.spec
-    (λ c κs. search rules) (λ c κs. search rules) (λ c κs. search rules) (λ c κs. search rules) (λ c. search rules) (λ c κs. search rules)
-    (λ c κs. search rules) (λ c κs. search rules)
+    (λ c. search rules)
+    (λ c. search rules)
+    (λ c. search rules)
+    (λ c. search rules)
+    (λ c. search rules)
+    (λ c. search rules)
+    (λ c. search rules)
     returns)

@@ -7,27 +7,30 @@ use borrow.Author.Rules.{rules}
 use Rattle.screens.proofs.words.put_article.Statement.{statement}
 use Rattle.screens.proofs.words.put_article.Tie as tie
 
-returns : tie.Need-returns
+returns : tie.Need-returns-then-vowel_first
 returns c =
     let word = c.before.before in
     let test = word.before.before.before in
     let v = test.before in
-    let an = article_an (name_text v.before.before.args.label) v.vowel-first.result v.vowel-first.ensures test.if1.true in
-    (put_as word.put-bytes.ensures an, omega arith)
+    let an = article_an (name_text v.before.before.args.label) v.vowel_first.result v.vowel_first.ensures test.if-vowel_first.true in
+    (put_as word.put_bytes.ensures an, omega arith)
 
-returns-2 : tie.Need-returns-2
+returns-2 : tie.Need-returns
 returns-2 c =
     let word = c.before.before in
     let test = word.before.before.before in
     let v = test.before in
-    let a = article_a (name_text v.before.before.args.label) v.vowel-first.result v.vowel-first.ensures test.if1.false in
-    (put_as word.put-bytes2.ensures a, omega arith)
+    let a = article_a (name_text v.before.before.args.label) v.vowel_first.result v.vowel_first.ensures test.if-vowel_first.false in
+    (put_as word.put_bytes-2.ensures a, omega arith)
 
-pub put-article-spec : {M : Type 1} → statement M
-put-article-spec =
+pub put_article_spec : {M : Type 1} → statement M
+put_article_spec =
     tie.close
     (tie.spec
-    (λ c κs. search rules) (λ c. search rules) (λ c κs. search rules) (λ c. search rules)
+    (λ c. search rules)
+    (λ c. search rules)
+    (λ c. search rules)
     returns
-    (λ c. search rules) (λ c κs. search rules) (λ c. search rules)
+    (λ c. search rules)
+    (λ c. search rules)
     returns-2)

@@ -12,9 +12,9 @@ returns c =
     let name = c.before.before in
     let gap = name.before.before.before.before in
     let word = gap.before.before.before.before in
-    (put_then word.put-article.ensures.0 (put_then gap.put_byte.ensures name.put-name.ensures.0), omega arith)
+    (put_then word.put_article-article.ensures.0 (put_then gap.put_byte-gap.ensures name.put_name.ensures.0), omega arith)
 
-pub put-with-article-spec : {M : Type 1} → statement M
-put-with-article-spec =
+pub put_with_article_spec : {M : Type 1} → statement M
+put_with_article_spec =
     tie.close
     (tie.spec (λ c κs. search rules) (λ c κs. search rules) (λ c κs. search rules) (λ c. search rules) returns)
