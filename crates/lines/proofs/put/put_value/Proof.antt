@@ -7,27 +7,27 @@ use borrow.Author.Rules.{rules}
 use Rattle.lines.proofs.put.put_value.Statement.{statement}
 use Rattle.lines.proofs.put.put_value.Tie as tie
 
-abbrev invariant-loop : tie.invariant-loop
+abbrev invariant-loop : tie.invariant-loop-k
 invariant-loop new₀ at value k₀ new k = (k ≤ 8) × Writing new₀ at value new (at + k) (drop k value)
 
-abbrev decreases-loop : tie.decreases-loop
+abbrev decreases-loop : tie.decreases-loop-k
 decreases-loop new₀ at value k₀ new k = 8 - k
 
-loop-holds : tie.Need-loop-init invariant-loop decreases-loop
+loop-holds : tie.Need-loop-k-init invariant-loop decreases-loop
 loop-holds c = (omega arith, all_left c.args.new.now c.args.at _ _ (omega arith))
 
-loop-again : tie.Need-loop-preserved invariant-loop decreases-loop
+loop-again : tie.Need-loop-k-preserved invariant-loop decreases-loop
 loop-again c =
     let l = c.before in
-    (omega arith, byte_written l.loop.k l.before.args.t3 l.loop.invariant.1 (omega (arith, l.before.well-formed)))
+    (omega arith, byte_written l.loop-k.k l.before.args.value l.loop-k.invariant.1 (omega (arith, l.before.well_formed)))
 
 returns : tie.Need-returns invariant-loop decreases-loop
 returns c =
     let l = c.before in
-    all_written l.loop.invariant.1 (drop_of_length-le l.before.args.t3 {i = l.loop.k} (omega (arith, l.before.well-formed)))
+    all_written l.loop-k.invariant.1 (drop_of_length-le l.before.args.value {i = l.loop-k.k} (omega (arith, l.before.well_formed)))
 
-pub put-value-spec : {M : Type 1} → statement M
-put-value-spec =
+pub put_value_spec : {M : Type 1} → statement M
+put_value_spec =
     tie.close
     (tie.spec
     invariant-loop

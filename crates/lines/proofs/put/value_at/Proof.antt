@@ -9,8 +9,8 @@ returns c =
     let s : tie.Start = search in let a = s.args in
     eight-read a.table.now a.at
 
-pub value-at-spec : {M : Type 1} → statement M
-value-at-spec =
+pub value_at_spec : {M : Type 1} → statement M
+value_at_spec =
     tie.close
     (tie.spec
     (λ c. search rules) (λ c. search rules) (λ c. search rules) (λ c. search rules) (λ c. search rules) (λ c. search rules) (λ c. search rules)
