@@ -21,7 +21,7 @@ returns-2 c =
     let test = under.before.before in
     let rows = test.before.before in
     let a = rows.before.before.args in
-    let parts = put_then rows.put_rows-rows.ensures.0 under.Put-under.ensures.0 in
+    let parts = put_then rows.put_rows-rows.ensures.0 under.put_under-under.ensures.0 in
     let whole = put_as (put_then parts c.put_byte-2.ensures) (lower_line (told a.s) a.above test.if-s-eq1.false) in
     fits whole (omega arith)
 

@@ -4,10 +4,10 @@ use Rattle.screens.proofs.words.is_vowel.Statement.{statement}
 use Rattle.screens.proofs.words.is_vowel.Tie as tie
 
 returns : tie.Need-returns-in-97
-returns c = a_vowel c.before.args.b c.in_default.keys1
+returns c = a_vowel c.before.args.b c.in-97.is
 
 returns-2 : tie.Need-returns-in_default
-returns-2 c = no_vowel c.before.args.b c.in_default.rest.1
+returns-2 c = no_vowel c.before.args.b c.in_default.in_default-own.rest.1
 
 pub is_vowel_spec : {M : Type 1} → statement M
 is_vowel_spec = tie.close (tie.spec returns returns-2)
