@@ -9,7 +9,7 @@ returns : tie.Need-returns
 returns c =
     let p = c.before in
     let w = p.before in
-    c.smaller2.ensures ∙ ap₂ min (ap (λ n. w.before.args.bytes / n) w.row-bytes.ensures) p.smaller.ensures
+    c.smaller-2.ensures ∙ ap₂ min (ap (λ n. w.before.args.bytes / n) w.row_bytes.ensures) p.smaller.ensures
 
-pub room-in-spec : {M : Type 1} → statement M
-room-in-spec = tie.close (tie.spec (λ c κs. search rules) (λ c. search rules) (λ c κs. search rules) (λ c κs. search rules) returns)
+pub room_in_spec : {M : Type 1} → statement M
+room_in_spec = tie.close (tie.spec (λ c κs. search rules) (λ c. search rules) (λ c κs. search rules) (λ c κs. search rules) returns)

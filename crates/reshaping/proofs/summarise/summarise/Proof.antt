@@ -7,32 +7,32 @@ use borrow.Author.Rules.{rules}
 use Rattle.reshaping.proofs.summarise.summarise.Statement.{statement}
 use Rattle.reshaping.proofs.summarise.summarise.Tie as tie
 
-returns : tie.Need-returns
+returns : tie.Need-returns-then-number-ne0
 returns c =
     let s : tie.Start = search in
-    let x : tie.After-read-rows = search in
+    let x : tie.After-read_rows-read = search in
     let a = s.args in
-    refused_summary a.shape.now ((seam a.f a.table.now (tests1_4 a.f a.table.now) refl).summarises a.shape.now) x.read-rows.ensures
-    c.before.if1.true c.refused.ensures
+    refused_summary a.shape.now ((seam a.f a.table.now (tests1_4 a.f a.table.now) refl).summarises a.shape.now) x.read_rows-read.ensures
+    c.before.if-number-ne0.true c.refused.ensures
 
-summarise-rows-requires : tie.Need-summarise-rows-requires
+summarise-rows-requires : tie.Need-summarise_rows-requires
 summarise-rows-requires c κs =
     let s : tie.Start = search in
-    let x : tie.After-read-rows = search in
-    let u : tie.Else1 = search in
-    (s.pre, (s.args.table.now, x.read-rows.ensures.read u.if1.left))
+    let x : tie.After-read_rows-read = search in
+    let u : tie.Else-number-ne0 = search in
+    (s.requires, (s.args.table.now, x.read_rows-read.ensures.read u.if-number-ne0.false))
 
-returns-2 : tie.Need-returns-2
+returns-2 : tie.Need-returns
 returns-2 c =
     let s : tie.Start = search in
-    let x : tie.After-read-rows = search in
-    let u : tie.Else1 = search in
+    let x : tie.After-read_rows-read = search in
+    let u : tie.Else-number-ne0 = search in
     let a = s.args in
-    summarised-rows a.shape.now ((seam a.f a.table.now (tests1_4 a.f a.table.now) refl).summarises a.shape.now) x.read-rows.ensures
-    u.if1.left c.summarise-rows.ensures
+    summarised-rows a.shape.now ((seam a.f a.table.now (tests1_4 a.f a.table.now) refl).summarises a.shape.now) x.read_rows-read.ensures
+    u.if-number-ne0.false c.summarise_rows.ensures
 
-pub summarise-spec : {M : Type 1} → statement M
-summarise-spec =
+pub summarise_spec : {M : Type 1} → statement M
+summarise_spec =
     tie.close
     (tie.spec
     (λ c. search rules) (λ c. search rules) (λ c κs. search rules) (λ c κs. search rules)
