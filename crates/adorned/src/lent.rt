@@ -5,7 +5,7 @@ use crate::TypeSummary;
 
 // What adorning answers: a refusal, or the count of types.
 #[repr(C)]
-#[derive(Drop)]
+#[derive(Clone, Copy, Drop)]
 pub struct AdornedTypes {
     pub number: usize,
     pub place: usize,

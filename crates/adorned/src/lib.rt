@@ -15,7 +15,7 @@ use closest::rows::{RowsRead, read_rows};
 use paper::Format;
 
 // The least and the greatest of some counts.
-#[derive(Drop)]
+#[derive(Clone, Copy, Drop)]
 pub struct Range {
     pub least: usize,
     pub greatest: usize,
@@ -140,7 +140,7 @@ fn summary_of(
 }
 
 // What adorning finds out of a table: a refusal, or one summary a type; places past the count hold zeros.
-#[derive(Drop)]
+#[derive(Clone, Copy, Drop)]
 pub struct Adorned {
     pub number: usize,
     pub place: usize,

@@ -17,7 +17,7 @@ use tables::table::examine;
 
 // What converting answers: a refusal, or the counts of rows and entries.
 #[repr(C)]
-#[derive(Drop)]
+#[derive(Clone, Copy, Drop)]
 pub struct Converted {
     pub number: usize,
     pub place: usize,

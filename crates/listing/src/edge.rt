@@ -9,7 +9,7 @@ ghost use Rattle.names.specs.Put.{Put};
 use names::put::{put_after, put_byte, put_bytes};
 
 // The numbers of one edge.
-#[derive(Drop)]
+#[derive(Clone, Copy, Drop)]
 pub struct Edge {
     pub least_children: usize, // under a row of the parent entry's type
     pub greatest_children: usize,

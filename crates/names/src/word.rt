@@ -10,7 +10,7 @@ use crate::names::{name_bytes, name_length};
 use paper::Format;
 
 // A name as it was read: whether the word spells one at all, whether a dot leads, the number of its labels, and the first eight of them.
-#[derive(Drop)]
+#[derive(Clone, Copy, Drop)]
 pub struct Word {
     pub spells: bool,
     pub whole: bool,

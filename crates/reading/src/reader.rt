@@ -32,7 +32,7 @@ pub fn place_after(width: Width, table: &[u8], at: usize) -> usize
 }
 
 // The table, the place of the row that is handed out, and the table's width.
-#[derive(Drop)]
+#[derive(Clone, Copy, Drop)]
 pub struct Reader<'a> {
     pub table: &'a [u8],
     pub at: usize,

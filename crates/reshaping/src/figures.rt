@@ -7,7 +7,7 @@ use crate::summarise::Summary;
 use tables::row::smaller;
 
 // An entry's rows: those of its type, and how many different ones its lines show.
-#[derive(Drop)]
+#[derive(Clone, Copy, Drop)]
 struct EntryRows {
     held: usize,
     different: usize,

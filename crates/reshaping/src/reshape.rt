@@ -16,7 +16,7 @@ use shapes::work::prepare;
 
 // What reshaping answers: a refusal, or the number of lines.
 #[repr(C)]
-#[derive(Drop)]
+#[derive(Clone, Copy, Drop)]
 pub struct Reshaped {
     pub number: usize,
     pub place: usize,

@@ -18,7 +18,7 @@ use shapes::work::prepare;
 // For each of 16 entries its lines, the source rows of its type, copies, and the different source rows that appear in its lines. Copies are
 // lines less different rows. Unused entries hold zeros, and so does a refusal.
 #[repr(C)]
-#[derive(Drop)]
+#[derive(Clone, Copy, Drop)]
 pub struct Summary {
     pub number: usize,
     pub place: usize,

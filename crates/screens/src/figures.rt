@@ -10,7 +10,7 @@ use names::names::put_name;
 use names::put::{put_byte, put_bytes, put_number};
 
 // An entry's figures: its lines, the source rows of its type, copies, and the different source rows in its lines.
-#[derive(Drop)]
+#[derive(Clone, Copy, Drop)]
 pub struct Figures {
     pub lines: usize,
     pub rows: usize,

@@ -49,7 +49,7 @@ pub extern "C" fn silmezga_examine(width: u32, table: &[u8]) -> Examined
 
 // What looking up a row answers: a refusal, or where the row's own bytes start in the table, and how many they are.
 #[repr(C)]
-#[derive(Drop)]
+#[derive(Clone, Copy, Drop)]
 pub struct LookedUp {
     pub number: usize,
     pub place: usize,
@@ -111,7 +111,7 @@ pub extern "C" fn silmezga_adorn(
 // yes and 0 for no, and for each entry but the first the least and the greatest number of children under a row of its parent entry's type, and of
 // parents of a row of its own; entry 0 and unused entries hold zeros.
 #[repr(C)]
-#[derive(Drop)]
+#[derive(Clone, Copy, Drop)]
 pub struct JudgedNumbers {
     pub number: usize,
     pub place: usize,

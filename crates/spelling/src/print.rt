@@ -10,7 +10,7 @@ use shapes::tests::examine_shape;
 
 // What printing answers: a refusal, or the count of bytes.
 #[repr(C)]
-#[derive(Drop)]
+#[derive(Clone, Copy, Drop)]
 pub struct TreePrinted {
     pub number: usize,
     pub place: usize,

@@ -23,7 +23,7 @@ use silmezga::{Summary, Width};
 
 // What adding up a tape answers: a refusal, or both sums.
 #[repr(C)]
-#[derive(Drop)]
+#[derive(Clone, Copy, Drop)]
 pub struct TapeSums {
     pub number: usize,
     pub place: usize,
@@ -33,7 +33,7 @@ pub struct TapeSums {
 
 // Both sums over the tapes taken in, and how many these are. Before the first tape all three are 0.
 #[repr(C)]
-#[derive(Drop)]
+#[derive(Clone, Copy, Drop)]
 pub struct Total {
     pub shown: i64,
     pub unshown: i64,
@@ -42,7 +42,7 @@ pub struct Total {
 
 // What taking a tape in answers: a refusal, and the total as it was handed in; or the total with the tape.
 #[repr(C)]
-#[derive(Drop)]
+#[derive(Clone, Copy, Drop)]
 pub struct TakenIn {
     pub number: usize,
     pub place: usize,

@@ -11,7 +11,7 @@ use names::word::read_word;
 use paper::Format;
 
 // Whether the text is one of the grammar; where it is not, the place; else the number of entries, and of the first 16 the level and the type.
-#[derive(Drop)]
+#[derive(Clone, Copy, Drop)]
 pub struct Walked {
     pub right: bool,
     pub place: usize,

@@ -13,7 +13,7 @@ use tables::table::examine;
 
 // What moving answers: a refusal, or the count of rows or entries.
 #[repr(C)]
-#[derive(Drop)]
+#[derive(Clone, Copy, Drop)]
 pub struct Moved {
     pub number: usize,
     pub place: usize,

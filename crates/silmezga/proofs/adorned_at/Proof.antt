@@ -6,13 +6,13 @@ use borrow.Author.Rules.{rules}
 use Rattle.silmezga.proofs.adorned_at.Statement.{statement}
 use Rattle.silmezga.proofs.adorned_at.Tie as tie
 
-adorn-by-value-requires : tie.Need-adorn-by-value-requires
-adorn-by-value-requires c κs = format_served _ c.before.before.args.width c.format-of.ensures
+adorn-by-value-requires : tie.Need-adorn_by_value-requires
+adorn-by-value-requires c κs = format_served _ c.before.before.args.width c.format_of.ensures
 
 returns : tie.Need-returns
 returns c =
     let a = c.before.before.before.args in
-    subst (λ f. Says (adorn_figures f a.table.now a.lent) c.adorn-by-value.result) c.before.format-of.ensures c.adorn-by-value.ensures
+    subst (λ f. Says (adorn_figures f a.table.now a.lent) c.adorn_by_value.result) c.before.format_of.ensures c.adorn_by_value.ensures
 
-pub adorned-at-spec : {M : Type 1} → statement M
-adorned-at-spec = tie.close (tie.spec (λ c κs. search rules) adorn-by-value-requires returns)
+pub adorned_at_spec : {M : Type 1} → statement M
+adorned_at_spec = tie.close (tie.spec (λ c κs. search rules) adorn-by-value-requires returns)

@@ -9,17 +9,17 @@ use Rattle.silmezga.proofs.convert_labels.Statement.{statement}
 use Rattle.silmezga.proofs.convert_labels.Tie as tie
 
 convert-requires : tie.Need-convert-requires
-convert-requires c κs = let s : tie.Start = search in let k : tie.After-format-of = search in format_served _ s.args.width k.format-of.ensures
+convert-requires c κs = let s : tie.Start = search in let k : tie.After-format_of = search in format_served _ s.args.width k.format_of.ensures
 
 returns : tie.Need-returns
 returns c =
     let s : tie.Start = search in let a = s.args in
-    let k : tie.After-format-of = search in
+    let k : tie.After-format_of = search in
     let v : tie.After-convert = search in
-    let left = v.convert.last.1.1.1.1 in
-    subst (λ (f : Format). Converts (convert f a.table.now a.shape.now a.pairs.now a.new-table.now a.new-shape.now) v.convert.result
-    left.0 left.1.0) k.format-of.ensures v.convert.ensures
+    let left = v.convert.new in
+    subst (λ (f : Format). Converts (convert f a.table.now a.shape.now a.pairs.now a.new_table.now a.new_shape.now) v.convert.result
+    left.new_table left.new_shape) k.format_of.ensures v.convert.ensures
 
-pub convert-labels-spec : {M : Type 1} → statement M
-convert-labels-spec =
+pub convert_labels_spec : {M : Type 1} → statement M
+convert_labels_spec =
     tie.close (tie.spec (λ c κs. search rules) convert-requires (λ c. search rules) (λ c. search rules) returns)

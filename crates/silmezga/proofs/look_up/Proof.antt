@@ -6,13 +6,13 @@ use borrow.Author.Rules.{rules}
 use Rattle.silmezga.proofs.look_up.Statement.{statement}
 use Rattle.silmezga.proofs.look_up.Tie as tie
 
-look-up-requires : tie.Need-look-up-requires
-look-up-requires c κs = format_served _ c.before.before.args.width c.format-of.ensures
+look-up-requires : tie.Need-look_up-requires
+look-up-requires c κs = format_served _ c.before.before.args.width c.format_of.ensures
 
 returns : tie.Need-returns
 returns c =
     let a = c.before.before.before.args in
-    subst (λ f. HandsBack f a.table a.row c.look_up.result) c.before.format-of.ensures c.look_up.ensures
+    subst (λ f. HandsBack f a.table a.row c.look_up.result) c.before.format_of.ensures c.look_up.ensures
 
-pub look-up-spec : {M : Type 1} → statement M
-look-up-spec = tie.close (tie.spec (λ c κs. search rules) look-up-requires returns)
+pub look_up_spec : {M : Type 1} → statement M
+look_up_spec = tie.close (tie.spec (λ c κs. search rules) look-up-requires returns)

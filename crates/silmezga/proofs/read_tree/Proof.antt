@@ -8,21 +8,21 @@ use borrow.Author.Rules.{rules}
 use Rattle.silmezga.proofs.read_tree.Statement.{statement}
 use Rattle.silmezga.proofs.read_tree.Tie as tie
 
-abbrev begun : tie.After-format-of → tie.Start
+abbrev begun : tie.After-format_of → tie.Start
 begun k = k.before.before.before.before
 
-read-tree-requires : tie.Need-read-tree-requires
+read-tree-requires : tie.Need-read_tree-requires
 read-tree-requires c κs =
     let k = c.before in
-    (format_served _ (begun k).args.width k.format-of.ensures, format_labelled _ (begun k).args.width k.format-of.ensures)
+    (format_served _ (begun k).args.width k.format_of.ensures, format_labelled _ (begun k).args.width k.format_of.ensures)
 
 returns : tie.Need-returns
 returns c =
     let v = c.before.before in
     let k = v.before.before in
     let a = (begun k).args in
-    subst (λ (f : Format). ReadsTree f a.table.now a.text.now a.shape.now v.read-tree.result v.read-tree.new.1.1.1.0)
-    k.format-of.ensures v.read-tree.ensures
+    subst (λ (f : Format). ReadsTree f a.table.now a.text.now a.shape.now v.read_tree.result v.read_tree.new.shape)
+    k.format_of.ensures v.read_tree.ensures
 
-pub read-tree-spec : {M : Type 1} → statement M
-read-tree-spec = tie.close (tie.spec (λ c κs. search rules) read-tree-requires (λ c. search rules) returns)
+pub read_tree_spec : {M : Type 1} → statement M
+read_tree_spec = tie.close (tie.spec (λ c κs. search rules) read-tree-requires (λ c. search rules) returns)

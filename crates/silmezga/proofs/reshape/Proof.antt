@@ -9,17 +9,17 @@ use Rattle.silmezga.proofs.reshape.Tie as tie
 reshape-requires : tie.Need-reshape-requires
 reshape-requires c κs =
     let s : tie.Start = search in
-    let k : tie.After-format-of = search in
-    format_served _ s.args.width k.format-of.ensures
+    let k : tie.After-format_of = search in
+    format_served _ s.args.width k.format_of.ensures
 
 returns : tie.Need-returns
 returns c =
     let s : tie.Start = search in let a = s.args in
-    let k : tie.After-format-of = search in
+    let k : tie.After-format_of = search in
     let r : tie.After-reshape = search in
-    let left = r.reshape.last.1.1.1 in
-    subst (λ f. Reshapes f a.table.now a.shape.now a.new.now a.sources.now r.reshape.result left.0 left.1.0)
-    k.format-of.ensures r.reshape.ensures
+    let left = r.reshape.new in
+    subst (λ f. Reshapes f a.table.now a.shape.now a.new.now a.sources.now r.reshape.result left.new left.sources)
+    k.format_of.ensures r.reshape.ensures
 
-pub reshape-spec : {M : Type 1} → statement M
-reshape-spec = tie.close (tie.spec (λ c κs. search rules) reshape-requires (λ c. search rules) (λ c. search rules) returns)
+pub reshape_spec : {M : Type 1} → statement M
+reshape_spec = tie.close (tie.spec (λ c κs. search rules) reshape-requires (λ c. search rules) (λ c. search rules) returns)
