@@ -8,13 +8,13 @@ use Rattle.silmezga_c.proofs.silmezga_build_index.Tie as tie
 
 returns : tie.Need-returns
 returns c =
-    let r : tie.After-build-index = search in
-    let k : tie.After-width-of = search in
+    let r : tie.After-build_index = search in
+    let k : tie.After-width_of = search in
     let start : tie.Start = search in
     let a = start.args in
-    let left = r.build-index.last.1.1 in
-    subst (λ w. Builds (format_of w) a.table.now a.last.now a.next.now r.build-index.result left.0 left.1.0) k.width_of_lem.ensures
-    r.build-index.ensures
+    let left = r.build_index.last.1.1 in
+    subst (λ w. Builds (format_of w) a.table.now a.last.now a.next.now r.build_index.result left.0 left.1.0) k.width_of.ensures
+    r.build_index.ensures
 
-pub silmezga-build-index-spec : {M : Type 1} → statement M
-silmezga-build-index-spec = tie.close (tie.spec (λ c κs. search rules) (λ c κs. search rules) (λ c. search rules) (λ c. search rules) returns)
+pub silmezga_build_index_spec : {M : Type 1} → statement M
+silmezga_build_index_spec = tie.close (tie.spec (λ c κs. search rules) (λ c κs. search rules) (λ c. search rules) (λ c. search rules) returns)

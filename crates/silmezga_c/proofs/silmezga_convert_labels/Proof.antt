@@ -10,13 +10,13 @@ use Rattle.silmezga_c.proofs.silmezga_convert_labels.Tie as tie
 
 returns : tie.Need-returns
 returns c =
-    let v : tie.After-convert-labels = search in
-    let k : tie.After-width-of = search in
+    let v : tie.After-convert_labels = search in
+    let k : tie.After-width_of = search in
     let start : tie.Start = search in
     let a = start.args in
-    let left = v.convert-labels.last.1.1.1.1 in
+    let left = v.convert_labels.last.1.1.1.1 in
     subst (λ (w : Width). Converts (convert (format_of w) a.table.now a.shape.now a.pairs.now a.new-table.now a.new-shape.now)
-    v.convert-labels.result left.0 left.1.0) k.width_of_lem.ensures v.convert-labels.ensures
+    v.convert_labels.result left.0 left.1.0) k.width_of.ensures v.convert_labels.ensures
 
-pub silmezga-convert-labels-spec : {M : Type 1} → statement M
-silmezga-convert-labels-spec = tie.close (tie.spec (λ c κs. search rules) (λ c κs. search rules) (λ c. search rules) (λ c. search rules) returns)
+pub silmezga_convert_labels_spec : {M : Type 1} → statement M
+silmezga_convert_labels_spec = tie.close (tie.spec (λ c κs. search rules) (λ c κs. search rules) (λ c. search rules) (λ c. search rules) returns)

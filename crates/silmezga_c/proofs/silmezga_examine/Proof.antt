@@ -9,9 +9,9 @@ use Rattle.silmezga_c.proofs.silmezga_examine.Tie as tie
 
 returns : tie.Need-returns
 returns c =
-    let k : tie.After-width-of = search in
+    let k : tie.After-width_of = search in
     let start : tie.Start = search in
-    subst (λ w. examined c.examine.result ≡ Calls.examine (format_of w) start.args.table.now) k.width_of_lem.ensures c.examine.ensures
+    subst (λ w. examined c.examine.result ≡ Calls.examine (format_of w) start.args.table.now) k.width_of.ensures c.examine.ensures
 
-pub silmezga-examine-spec : {M : Type 1} → statement M
-silmezga-examine-spec = tie.close (tie.spec (λ c κs. search rules) (λ c κs. search rules) returns)
+pub silmezga_examine_spec : {M : Type 1} → statement M
+silmezga_examine_spec = tie.close (tie.spec (λ c κs. search rules) (λ c κs. search rules) returns)

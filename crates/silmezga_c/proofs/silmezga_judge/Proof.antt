@@ -12,12 +12,12 @@ use Rattle.silmezga_c.proofs.silmezga_judge.Tie as tie
 returns : tie.Need-returns
 returns c =
     let j : tie.After-judge = search in
-    let k : tie.After-width-of = search in
+    let k : tie.After-width_of = search in
     let start : tie.Start = search in
     let a = start.args in
     let r = j.judge.result in
-    let e = subst (λ w. judged r ≡ in_numbers (judge (format_of w) a.table.now a.shape.now)) k.width_of_lem.ensures j.judge.ensures in
-    c.judged-numbers.ensures ∙ in_four_lem r (judge (format_numbered a.width) a.table.now a.shape.now) e
+    let e = subst (λ w. judged r ≡ in_numbers (judge (format_of w) a.table.now a.shape.now)) k.width_of.ensures j.judge.ensures in
+    c.judged_numbers.ensures ∙ in_four_lem r (judge (format_numbered a.width) a.table.now a.shape.now) e
 
-pub silmezga-judge-spec : {M : Type 1} → statement M
-silmezga-judge-spec = tie.close (tie.spec (λ c κs. search rules) (λ c κs. search rules) (λ c κs. search rules) returns)
+pub silmezga_judge_spec : {M : Type 1} → statement M
+silmezga_judge_spec = tie.close (tie.spec (λ c κs. search rules) (λ c κs. search rules) (λ c κs. search rules) returns)

@@ -11,14 +11,14 @@ use Rattle.silmezga_c.proofs.silmezga_judge_with_index.Tie as tie
 
 returns : tie.Need-returns
 returns c =
-    let j : tie.After-judge-with-index = search in
-    let k : tie.After-width-of = search in
+    let j : tie.After-judge_with_index = search in
+    let k : tie.After-width_of = search in
     let start : tie.Start = search in
     let a = start.args in
-    let r = j.judge-with-index.result in
+    let r = j.judge_with_index.result in
     let e = subst (λ w. judged r ≡ in_numbers (judge_with (format_of w) a.table.now a.shape.now a.last.now a.next.now))
-    k.width_of_lem.ensures j.judge-with-index.ensures in
-    c.judged-numbers.ensures ∙ in_four_lem r (judge_with (format_numbered a.width) a.table.now a.shape.now a.last.now a.next.now) e
+    k.width_of.ensures j.judge_with_index.ensures in
+    c.judged_numbers.ensures ∙ in_four_lem r (judge_with (format_numbered a.width) a.table.now a.shape.now a.last.now a.next.now) e
 
-pub silmezga-judge-with-index-spec : {M : Type 1} → statement M
-silmezga-judge-with-index-spec = tie.close (tie.spec (λ c κs. search rules) (λ c κs. search rules) (λ c κs. search rules) returns)
+pub silmezga_judge_with_index_spec : {M : Type 1} → statement M
+silmezga_judge_with_index_spec = tie.close (tie.spec (λ c κs. search rules) (λ c κs. search rules) (λ c κs. search rules) returns)

@@ -17,77 +17,77 @@ use Rattle.silmezga_c.proofs.silmezga_look_up.Statement.{statement}
 use Rattle.silmezga_c.proofs.silmezga_look_up.Tie as tie
 
 -- the table that is lent, its format, and the row that is looked for
-abbrev lent : tie.After-examine → List ℕ
+abbrev lent : tie.After-examine-e → List ℕ
 lent x = x.before.before.before.args.table.now
 
-abbrev format : tie.After-examine → Format
+abbrev format : tie.After-examine-e → Format
 format x = format_numbered x.before.before.before.args.width
 
-abbrev wanted : tie.After-examine → ℕ
+abbrev wanted : tie.After-examine-e → ℕ
 wanted x = x.before.before.before.args.row
 
-examined-is : (x : tie.After-examine) → examined x.examine.result ≡ examine (format x) (lent x)
-examined-is x = subst (λ w. examined x.examine.result ≡ examine (format_of w) (lent x)) x.before.width_of_lem.ensures x.examine.ensures
+examined-is : (x : tie.After-examine-e) → examined x.examine-e.result ≡ examine (format x) (lent x)
+examined-is x = subst (λ w. examined x.examine-e.result ≡ examine (format_of w) (lent x)) x.before.width_of-w.ensures x.examine-e.ensures
 
 -- the table is accepted, and its rows are counted
-accepted : (c : tie.Else1) →
+accepted : (c : tie.Else-number-ne0) →
     let x = c.before in
-    (tests1_3 (format x) (lent x) ≡ given (rows (format x) (lent x))) × (x.examine.result.rows ≡ whole (row_bytes (format x)) (lent x))
+    (tests1_3 (format x) (lent x) ≡ given (rows (format x) (lent x))) × (x.examine-e.result.rows ≡ whole (row_bytes (format x)) (lent x))
 accepted c =
     let x = c.before in
-    let r = x.examine.result in
-    examined-given (format x) (lent x) r.number r.place r.rows (examined-is x) c.if1.false
+    let r = x.examine-e.result in
+    examined-given (format x) (lent x) r.number r.place r.rows (examined-is x) c.if-number-ne0.false
 
 -- the bytes of a row
-width : (c : tie.After-row-bytes) → c.row-bytes.result ≡ row_bytes (format c.before.before.before.before)
+width : (c : tie.After-row_bytes-length) → c.row_bytes-length.result ≡ row_bytes (format c.before.before.before.before)
 width c =
     let k = c.before in
     let x = k.before.before.before in
-    c.row-bytes.ensures ∙ ap (λ (f : Format). row_bytes f) (k.format-of.ensures ∙ ap format_of x.before.width_of_lem.ensures)
+    c.row_bytes-length.ensures ∙ ap (λ (f : Format). row_bytes f) (k.format_of.ensures ∙ ap format_of x.before.width_of-w.ensures)
 
-returns : tie.Need-returns
+returns : tie.Need-returns-then-number-ne0
 returns c =
     let x = c.before.before in
-    let r = x.examine.result in
-    let refusal = examined-refused (format x) (lent x) r.number r.place r.rows (examined-is x) c.before.if1.true in
-    told-refused (format x) (lent x) (wanted x) r.number r.place c.no_row_lem.result c.before.if1.true
-    (look_up-refused (format x) (lent x) (wanted x) r.number r.place refusal) c.no_row_lem.ensures
+    let r = x.examine-e.result in
+    let refusal = examined-refused (format x) (lent x) r.number r.place r.rows (examined-is x) c.before.if-number-ne0.true in
+    told-refused (format x) (lent x) (wanted x) r.number r.place c.no_row.result c.before.if-number-ne0.true
+    (look_up-refused (format x) (lent x) (wanted x) r.number r.place refusal) c.no_row.ensures
 
-returns-2 : tie.Need-returns-2
+returns-2 : tie.Need-returns-then-rows-row
 returns-2 c =
     let e = c.before.before in
     let x = e.before in
     let (g, n) = accepted e in
-    told-refused (format x) (lent x) (wanted x) 11 (wanted x) c.no-row2.result (λ e. omega (arith, e))
-    (look_up_past (format x) (lent x) (wanted x) g (omega (arith, n, c.before.if2.true))) c.no-row2.ensures
+    told-refused (format x) (lent x) (wanted x) 11 (wanted x) c.no_row-then-rows-row.result (λ e. omega (arith, e))
+    (look_up_past (format x) (lent x) (wanted x) g (omega (arith, n, c.before.if-rows-row.true))) c.no_row-then-rows-row.ensures
 
-row-bytes-requires : tie.Need-row-bytes-requires
+row-bytes-requires : tie.Need-row_bytes-length-requires
 row-bytes-requires c κs =
     let x = c.before.before.before in
-    omega (arith, (format_served _ x.before.width_of_lem.result c.format-of.ensures).shallow)
+    omega (arith, (format_served _ x.before.width_of-w.result c.format_of.ensures).shallow)
 
-mul-t12 : tie.Need-overflow-mul-t12
+mul-t12 : tie.Need-overflow_mul-result
 mul-t12 c =
     let k = c.before in
     let e = k.before.before in
     let x = e.before in
     let (g, n) = accepted e in
-    let small = start_small (format x) (lent x) (wanted x) g (omega (arith, n, k.before.if2.false)) in
-    let served = format_served _ x.before.width_of_lem.result k.format-of.ensures in
-    let fits : row_bytes (format x) * wanted x < 2 ^ 64 = omega (arith, small, served.shallow, width c, c.row-bytes.ensures) in
+    let small = start_small (format x) (lent x) (wanted x) g (omega (arith, n, k.before.if-rows-row.false)) in
+    let served = format_served _ x.before.width_of-w.result k.format_of.ensures in
+    let fits : row_bytes (format x) * wanted x < 2 ^ 64 = omega (arith, small, served.shallow, width c, c.row_bytes-length.ensures) in
     omega (arith, subst (λ w. w * wanted x < 2 ^ 64) (sym (width c)) fits)
 
-returns-3 : tie.Need-returns-3
+returns-3 : tie.Need-returns
 returns-3 c =
     let k = c.before in
     let e = k.before.before in
     let x = e.before in
     let (g, n) = accepted e in
     subst (λ w. LooksUp (format x) (lent x) (wanted x) (record { number = 0; place = 0; start = w * wanted x; length = w })) (sym (width c))
-    (told-row (format x) (lent x) (wanted x) g (omega (arith, n, k.before.if2.false)))
+    (told-row (format x) (lent x) (wanted x) g (omega (arith, n, k.before.if-rows-row.false)))
 
-pub silmezga-look-up-spec : {M : Type 1} → statement M
-silmezga-look-up-spec =
+pub silmezga_look_up_spec : {M : Type 1} → statement M
+silmezga_look_up_spec =
     tie.close
     (tie.spec
     (λ c κs. search rules) (λ c κs. search rules) (λ c κs. search rules)

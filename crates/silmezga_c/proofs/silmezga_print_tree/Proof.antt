@@ -10,12 +10,12 @@ use Rattle.silmezga_c.proofs.silmezga_print_tree.Tie as tie
 
 returns : tie.Need-returns
 returns c =
-    let v : tie.After-print-tree = search in
-    let k : tie.After-width-of = search in
+    let v : tie.After-print_tree = search in
+    let k : tie.After-width_of = search in
     let start : tie.Start = search in
     let a = start.args in
-    subst (λ (w : Width). Prints (print_tree (format_of w) a.shape.now a.text.now) v.print-tree.result v.print-tree.last.1.1.0)
-    k.width_of_lem.ensures v.print-tree.ensures
+    subst (λ (w : Width). Prints (print_tree (format_of w) a.shape.now a.text.now) v.print_tree.result v.print_tree.last.1.1.0)
+    k.width_of.ensures v.print_tree.ensures
 
-pub silmezga-print-tree-spec : {M : Type 1} → statement M
-silmezga-print-tree-spec = tie.close (tie.spec (λ c κs. search rules) (λ c κs. search rules) (λ c. search rules) returns)
+pub silmezga_print_tree_spec : {M : Type 1} → statement M
+silmezga_print_tree_spec = tie.close (tie.spec (λ c κs. search rules) (λ c κs. search rules) (λ c. search rules) returns)

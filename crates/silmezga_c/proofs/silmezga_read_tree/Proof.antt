@@ -9,12 +9,12 @@ use Rattle.silmezga_c.proofs.silmezga_read_tree.Tie as tie
 
 returns : tie.Need-returns
 returns c =
-    let v : tie.After-read-tree = search in
-    let k : tie.After-width-of = search in
+    let v : tie.After-read_tree = search in
+    let k : tie.After-width_of = search in
     let start : tie.Start = search in
     let a = start.args in
-    subst (λ (w : Width). ReadsTree (format_of w) a.table.now a.text.now a.shape.now v.read-tree.result v.read-tree.last.1.1.1.0)
-    k.width_of_lem.ensures v.read-tree.ensures
+    subst (λ (w : Width). ReadsTree (format_of w) a.table.now a.text.now a.shape.now v.read_tree.result v.read_tree.last.1.1.1.0)
+    k.width_of.ensures v.read_tree.ensures
 
-pub silmezga-read-tree-spec : {M : Type 1} → statement M
-silmezga-read-tree-spec = tie.close (tie.spec (λ c κs. search rules) (λ c κs. search rules) (λ c. search rules) returns)
+pub silmezga_read_tree_spec : {M : Type 1} → statement M
+silmezga_read_tree_spec = tie.close (tie.spec (λ c κs. search rules) (λ c κs. search rules) (λ c. search rules) returns)

@@ -9,12 +9,12 @@ use Rattle.silmezga_c.proofs.silmezga_reshape.Tie as tie
 returns : tie.Need-returns
 returns c =
     let r : tie.After-reshape = search in
-    let k : tie.After-width-of = search in
+    let k : tie.After-width_of = search in
     let start : tie.Start = search in
     let a = start.args in
     let left = r.reshape.last.1.1.1 in
     subst (λ w. Reshapes (format_of w) a.table.now a.shape.now a.new.now a.sources.now r.reshape.result left.0 left.1.0)
-    k.width_of_lem.ensures r.reshape.ensures
+    k.width_of.ensures r.reshape.ensures
 
-pub silmezga-reshape-spec : {M : Type 1} → statement M
-silmezga-reshape-spec = tie.close (tie.spec (λ c κs. search rules) (λ c κs. search rules) (λ c. search rules) (λ c. search rules) returns)
+pub silmezga_reshape_spec : {M : Type 1} → statement M
+silmezga_reshape_spec = tie.close (tie.spec (λ c κs. search rules) (λ c κs. search rules) (λ c. search rules) (λ c. search rules) returns)

@@ -9,11 +9,11 @@ use Rattle.silmezga_c.proofs.silmezga_summarise.Tie as tie
 
 returns : tie.Need-returns
 returns c =
-    let k : tie.After-width-of = search in
+    let k : tie.After-width_of = search in
     let start : tie.Start = search in
     let a = start.args in
     subst (λ w. summarised c.summarise.result ≡ Calls.summarise (format_of w) a.table.now a.shape.now)
-    k.width_of_lem.ensures c.summarise.ensures
+    k.width_of.ensures c.summarise.ensures
 
-pub silmezga-summarise-spec : {M : Type 1} → statement M
-silmezga-summarise-spec = tie.close (tie.spec (λ c κs. search rules) (λ c κs. search rules) returns)
+pub silmezga_summarise_spec : {M : Type 1} → statement M
+silmezga_summarise_spec = tie.close (tie.spec (λ c κs. search rules) (λ c κs. search rules) returns)

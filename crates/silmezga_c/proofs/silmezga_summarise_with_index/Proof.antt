@@ -9,11 +9,11 @@ use Rattle.silmezga_c.proofs.silmezga_summarise_with_index.Tie as tie
 
 returns : tie.Need-returns
 returns c =
-    let k : tie.After-width-of = search in
+    let k : tie.After-width_of = search in
     let start : tie.Start = search in
     let a = start.args in
-    subst (λ w. summarised c.summarise-with-index.result ≡ summarise_with (format_of w) a.table.now a.shape.now a.last.now a.next.now)
-    k.width_of_lem.ensures c.summarise-with-index.ensures
+    subst (λ w. summarised c.summarise_with_index.result ≡ summarise_with (format_of w) a.table.now a.shape.now a.last.now a.next.now)
+    k.width_of.ensures c.summarise_with_index.ensures
 
-pub silmezga-summarise-with-index-spec : {M : Type 1} → statement M
-silmezga-summarise-with-index-spec = tie.close (tie.spec (λ c κs. search rules) (λ c κs. search rules) returns)
+pub silmezga_summarise_with_index_spec : {M : Type 1} → statement M
+silmezga_summarise_with_index_spec = tie.close (tie.spec (λ c κs. search rules) (λ c κs. search rules) returns)

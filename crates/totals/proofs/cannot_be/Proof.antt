@@ -12,37 +12,37 @@ use borrow.Author.Rules.{rules}
 use Rattle.totals.proofs.cannot_be.Statement.{statement}
 use Rattle.totals.proofs.cannot_be.Tie as tie
 
-returns : tie.Need-returns
+returns : tie.Need-returns-then-tapes-ge1000
 returns c =
     let s : tie.Start = search in
     let x = s.args.total in
-    cannot_is x true (within (x.tapes * most_sum) x.shown) (within (x.tapes * most_sum) x.unshown) (le-leb most_tapes x.tapes c.if1.true) refl refl
+    cannot_is x true (within (x.tapes * most_sum) x.shown) (within (x.tapes * most_sum) x.unshown) (le-leb most_tapes x.tapes c.if-tapes-ge1000.true) refl refl
 
-returns-2 : tie.Need-returns-2
+returns-2 : tie.Need-returns-then-not-lies_within
 returns-2 c =
     let s : tie.Start = search in
-    let a : tie.After-struct-told = search in
-    let l : tie.After-lies-within = search in
-    let e : tie.Else1 = search in
+    let a : tie.After-struct_told-1 = search in
+    let l : tie.After-lies_within = search in
+    let e : tie.Else-tapes-ge1000 = search in
     let x = s.args.total in
     let shown : to_z w64 (of_z w64 x.shown) ≡ x.shown = search rules in
-    cannot_is x false false (within (x.tapes * most_sum) x.unshown) (lt-leb most_tapes x.tapes e.if1.left)
-    (ap (within (x.tapes * most_sum)) (sym shown) ∙ sym l.lies_within.ensures ∙ not-true l.lies_within.result c.if2.true) refl
+    cannot_is x false false (within (x.tapes * most_sum) x.unshown) (lt-leb most_tapes x.tapes e.if-tapes-ge1000.false)
+    (ap (within (x.tapes * most_sum)) (sym shown) ∙ sym l.lies_within.ensures ∙ not-true l.lies_within.result c.if-not-lies_within.true) refl
 
-returns-3 : tie.Need-returns-3
+returns-3 : tie.Need-returns
 returns-3 c =
     let s : tie.Start = search in
-    let a : tie.After-struct-told = search in
-    let b : tie.After-struct-told2 = search in
-    let l : tie.After-lies-within = search in
-    let e : tie.Else1 = search in
-    let f : tie.Else2 = search in
+    let a : tie.After-struct_told-1 = search in
+    let b : tie.After-struct_told-2-1 = search in
+    let l : tie.After-lies_within = search in
+    let e : tie.Else-tapes-ge1000 = search in
+    let f : tie.Else-not-lies_within = search in
     let x = s.args.total in
     let shown : to_z w64 (of_z w64 x.shown) ≡ x.shown = search rules in
     let unshown : to_z w64 (of_z w64 x.unshown) ≡ x.unshown = search rules in
-    cannot_is x false true c.lies-within2.result (lt-leb most_tapes x.tapes e.if1.left)
-    (ap (within (x.tapes * most_sum)) (sym shown) ∙ sym l.lies_within.ensures ∙ not-false l.lies_within.result f.if2.left)
-    (ap (within (x.tapes * most_sum)) (sym unshown) ∙ sym c.lies-within2.ensures)
+    cannot_is x false true c.lies_within-2.result (lt-leb most_tapes x.tapes e.if-tapes-ge1000.false)
+    (ap (within (x.tapes * most_sum)) (sym shown) ∙ sym l.lies_within.ensures ∙ not-false l.lies_within.result f.if-not-lies_within.false)
+    (ap (within (x.tapes * most_sum)) (sym unshown) ∙ sym c.lies_within-2.ensures)
 
-pub cannot-be-spec : {M : Type 1} → statement M
-cannot-be-spec = tie.close (tie.spec returns (λ c. search rules) (λ c κs. search rules) returns-2 (λ c κs. search rules) returns-3)
+pub cannot_be_spec : {M : Type 1} → statement M
+cannot_be_spec = tie.close (tie.spec returns (λ c. search rules) (λ c κs. search rules) returns-2 (λ c κs. search rules) returns-3)

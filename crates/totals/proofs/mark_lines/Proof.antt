@@ -10,28 +10,28 @@ use borrow.Author.Rules.{rules}
 use Rattle.totals.proofs.mark_lines.Statement.{statement}
 use Rattle.totals.proofs.mark_lines.Tie as tie
 
-mark-shown-requires : tie.Need-mark-shown-requires
+mark-shown-requires : tie.Need-mark_shown-requires
 mark-shown-requires c κs =
-    let x : tie.After-reshape = search in
+    let x : tie.After-reshape-written = search in
     let s : tie.Start = search in
     let f = format_of s.args.width in (
-      lines_fit f s.args.table.now s.args.shape.now s.args.entry s.pre.0
-          (replicate 114688 0) (replicate 4096 0) (room_for_lines s.args.width) x.reshape.ensures,
-      omega (arith, entry_few f s.args.table.now s.args.shape.now s.args.entry s.pre.0),
-      ap length s.pre.1 ∙ length-replicate {A = ℕ} 1024 0,
+      lines_fit f s.args.table.now s.args.shape.now s.args.entry s.requires.0
+          (replicate 114688 0) (replicate 4096 0) (room_for_lines s.args.width) x.reshape-written.ensures,
+      omega (arith, entry_few f s.args.table.now s.args.shape.now s.args.entry s.requires.0),
+      ap length s.requires.1 ∙ length-replicate {A = ℕ} 1024 0,
     )
 
 returns : tie.Need-returns
 returns c =
-    let m : tie.After-mark-shown = search in
-    let x : tie.After-reshape = search in
+    let m : tie.After-mark_shown = search in
+    let x : tie.After-reshape-written = search in
     let s : tie.Start = search in
-    marks_lines (format_of s.args.width) s.args.table.now s.args.shape.now s.args.entry s.pre.0
-    (replicate 114688 0) (replicate 4096 0) (room_for_lines s.args.width) x.reshape.ensures
-    s.args.marks.now m.mark-shown.last.1.1.1.0 s.pre.1 m.mark-shown.ensures
+    marks_lines (format_of s.args.width) s.args.table.now s.args.shape.now s.args.entry s.requires.0
+    (replicate 114688 0) (replicate 4096 0) (room_for_lines s.args.width) x.reshape-written.ensures
+    s.args.marks.now m.mark_shown.last.1.1.1.0 s.requires.1 m.mark_shown.ensures
 
-pub mark-lines-spec : {M : Type 1} → statement M
-mark-lines-spec =
+pub mark_lines_spec : {M : Type 1} → statement M
+mark_lines_spec =
     tie.close
     (tie.spec
     (λ c. search rules) (λ c. search rules) (λ c κs. search rules) (λ c. search rules)

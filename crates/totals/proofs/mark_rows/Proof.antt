@@ -7,32 +7,32 @@ use borrow.Author.Rules.{rules}
 use Rattle.totals.proofs.mark_rows.Statement.{statement}
 use Rattle.totals.proofs.mark_rows.Tie as tie
 
-mul-rows : tie.Need-overflow-mul-rows
+mul-rows : tie.Need-offset_bounds-all-entry
 mul-rows c =
     let s : tie.Start = search in
-    record { fits = omega (arith, entry_few (format_of s.args.width) s.args.table.now s.args.shape.now s.args.entry s.pre.0.0) }
+    record { fits = omega (arith, entry_few (format_of s.args.width) s.args.table.now s.args.shape.now s.args.entry s.requires.0.0) }
 
-array-read-rows : tie.Need-array-read-rows
+array-read-rows : tie.Need-bounds-all-entry
 array-read-rows c =
     let s : tie.Start = search in
-    entry_few (format_of s.args.width) s.args.table.now s.args.shape.now s.args.entry s.pre.0.0
+    entry_few (format_of s.args.width) s.args.table.now s.args.shape.now s.args.entry s.requires.0.0
 
-returns : tie.Need-returns
+returns : tie.Need-returns-then-different-rows
 returns c =
-    let m : tie.After-mark-all = search in
-    let a : tie.Then1 = search in
+    let m : tie.After-mark_all = search in
+    let a : tie.Then-different-rows = search in
     let s : tie.Start = search in
-    marks_all (format_of s.args.width) s.args.table.now s.args.shape.now s.args.entry s.pre.0.0
-    (summarised s.args.summary) s.pre.1 a.if1.taken s.args.marks.now m.mark-all.last.0 s.pre.0.1 m.mark-all.ensures
+    marks_all (format_of s.args.width) s.args.table.now s.args.shape.now s.args.entry s.requires.0.0
+    (summarised s.args.summary) s.requires.1 a.if-different-rows.true s.args.marks.now m.mark_all.last.0 s.requires.0.1 m.mark_all.ensures
 
-returns-3 : tie.Need-returns-3
+returns-3 : tie.Need-returns-else-different-ne0
 returns-3 c =
     let s : tie.Start = search in
-    marks_none_shown (format_of s.args.width) s.args.table.now s.args.shape.now s.args.entry s.pre.0.0
-    (summarised s.args.summary) s.pre.1 c.if2.false s.args.marks.now s.pre.0.1
+    marks_none_shown (format_of s.args.width) s.args.table.now s.args.shape.now s.args.entry s.requires.0.0
+    (summarised s.args.summary) s.requires.1 c.if-different-ne0.false s.args.marks.now s.requires.0.1
 
-pub mark-rows-spec : {M : Type 1} → statement M
-mark-rows-spec =
+pub mark_rows_spec : {M : Type 1} → statement M
+mark_rows_spec =
     tie.close
     (tie.spec
     mul-rows

@@ -7,30 +7,30 @@ use borrow.Author.Rules.{rules}
 use Rattle.totals.proofs.rows.mark_all.Statement.{statement}
 use Rattle.totals.proofs.rows.mark_all.Tie as tie
 
-abbrev invariant-loop : tie.invariant-loop
+abbrev invariant-loop : tie.invariant-loop-k
 invariant-loop marks₀ k₀ marks k = (k ≤ length marks₀) × MarkedTo (length marks₀) marks k
 
-abbrev decreases-loop : tie.decreases-loop
+abbrev decreases-loop : tie.decreases-loop-k
 decreases-loop marks₀ k₀ marks k = length marks₀ - k
 
-loop-holds : tie.Need-loop-init invariant-loop decreases-loop
+loop-holds : tie.Need-loop-k-init invariant-loop decreases-loop
 loop-holds c = let s : tie.Start invariant-loop decreases-loop = search in (omega arith, marked_none s.args.marks.now)
 
-loop-again : tie.Need-loop-preserved invariant-loop decreases-loop
+loop-again : tie.Need-loop-k-preserved invariant-loop decreases-loop
 loop-again c =
-    let l : tie.At-loop invariant-loop decreases-loop = search in
-    let i : tie.In-loop invariant-loop decreases-loop = search in
-    let m = l.loop.inv.1 in
-    (omega (arith, m.long), marked_more l.loop.marks l.loop.k (omega (arith, m.long, i.loop-test.taken)) m)
+    let l : tie.At-loop-k invariant-loop decreases-loop = search in
+    let i : tie.In-loop-k invariant-loop decreases-loop = search in
+    let m = l.loop-k.invariant.1 in
+    (omega (arith, m.long), marked_more l.loop-k.marks l.loop-k.k (omega (arith, m.long, i.loop-k-test.true)) m)
 
 returns : tie.Need-returns invariant-loop decreases-loop
 returns c =
     let s : tie.Start invariant-loop decreases-loop = search in
-    let l : tie.At-loop invariant-loop decreases-loop = search in
-    marked_all s.args.marks.now l.loop.marks l.loop.k (omega (arith, l.loop.inv.1.long)) l.loop.inv.1
+    let l : tie.At-loop-k invariant-loop decreases-loop = search in
+    marked_all s.args.marks.now l.loop-k.marks l.loop-k.k (omega (arith, l.loop-k.invariant.1.long)) l.loop-k.invariant.1
 
-pub mark-all-spec : {M : Type 1} → statement M
-mark-all-spec =
+pub mark_all_spec : {M : Type 1} → statement M
+mark_all_spec =
     tie.close
     (tie.spec
     invariant-loop

@@ -12,14 +12,14 @@ returns c =
     omega (
       arith,
       four_words s.args.b.now s.args.i,
-      c.word4.ensures.0,
-      c.before.word3.ensures.0,
-      c.before.before.word2.ensures.0,
+      c.word-4.ensures.0,
+      c.before.word-3.ensures.0,
+      c.before.before.word-2.ensures.0,
       w.word.ensures.0,
     )
 
-pub long-spec : {M : Type 1} → statement M
-long-spec =
+pub long_spec : {M : Type 1} → statement M
+long_spec =
     tie.close
     (tie.spec
     (λ c κs. search rules) (λ c. search rules) (λ c κs. search rules) (λ c. search rules) (λ c. search rules) (λ c. search rules)
