@@ -25,25 +25,26 @@ told c e = ap₂ (λ v n. told_of (begun c).args.j (padded 3 (numbers_of v) ++ (
 returns : tie.Need-returns-in-Kept
 returns c =
     let n : tie.After-as_number-none = search in
-    c.in_numbers.ensures ∙ told n c.before.enum_told-1.given.1
+    let k : tie.In-Kept = search in
+    c.in_numbers.ensures ∙ told n k.in-Kept.is
 
 returns-2 : tie.Need-returns-in-Missing
 returns-2 c =
     let n : tie.After-as_number-none = search in
-    let v : tie.In-Missing-2 = search in
-    c.in_numbers-in-Missing.ensures ∙ told n v.verdict.given.1
+    let v : tie.In-Missing = search in
+    c.in_numbers-in-Missing.ensures ∙ told n v.in-Missing.is
 
 returns-3 : tie.Need-returns-in-Apart
 returns-3 c =
     let n : tie.After-as_number-none = search in
-    let v : tie.In-Apart-2 = search in
-    c.in_numbers-in-Apart.ensures ∙ told n v.verdict-in-Apart-1.given.1
+    let v : tie.In-Apart = search in
+    c.in_numbers-in-Apart.ensures ∙ told n v.in-Apart.is
 
 returns-4 : tie.Need-returns-in-Unsure
 returns-4 c =
     let n : tie.After-as_number-none = search in
-    let v : tie.In-Unsure-2 = search in
-    c.in_numbers-in-Unsure.ensures ∙ told n v.verdict-in-Unsure-1.given.1
+    let v : tie.In-Unsure = search in
+    c.in_numbers-in-Unsure.ensures ∙ told n v.in-Unsure.is
 
 pub judged_numbers_spec : {M : Type 1} → statement M
 judged_numbers_spec =

@@ -12,8 +12,8 @@ returns c =
     let k : tie.After-width_of = search in
     let start : tie.Start = search in
     let a = start.args in
-    let left = r.build_index.last.1.1 in
-    subst (λ w. Builds (format_of w) a.table.now a.last.now a.next.now r.build_index.result left.0 left.1.0) k.width_of.ensures
+    let left = r.build_index.new in
+    subst (λ w. Builds (format_of w) a.table.now a.last.now a.next.now r.build_index.result left.last left.next) k.width_of.ensures
     r.build_index.ensures
 
 pub silmezga_build_index_spec : {M : Type 1} → statement M

@@ -14,9 +14,9 @@ returns c =
     let k : tie.After-width_of = search in
     let start : tie.Start = search in
     let a = start.args in
-    let left = v.convert_labels.last.1.1.1.1 in
-    subst (λ (w : Width). Converts (convert (format_of w) a.table.now a.shape.now a.pairs.now a.new-table.now a.new-shape.now)
-    v.convert_labels.result left.0 left.1.0) k.width_of.ensures v.convert_labels.ensures
+    let left = v.convert_labels.new in
+    subst (λ (w : Width). Converts (convert (format_of w) a.table.now a.shape.now a.pairs.now a.new_table.now a.new_shape.now)
+    v.convert_labels.result left.new_table left.new_shape) k.width_of.ensures v.convert_labels.ensures
 
 pub silmezga_convert_labels_spec : {M : Type 1} → statement M
 silmezga_convert_labels_spec = tie.close (tie.spec (λ c κs. search rules) (λ c κs. search rules) (λ c. search rules) (λ c. search rules) returns)

@@ -14,7 +14,7 @@ returns c =
     let k : tie.After-width_of = search in
     let start : tie.Start = search in
     let a = start.args in
-    subst (λ (w : Width). Prints (print_tree (format_of w) a.shape.now a.text.now) v.print_tree.result v.print_tree.last.1.1.0)
+    subst (λ (w : Width). Prints (print_tree (format_of w) a.shape.now a.text.now) v.print_tree.result v.print_tree.new.text)
     k.width_of.ensures v.print_tree.ensures
 
 pub silmezga_print_tree_spec : {M : Type 1} → statement M

@@ -13,7 +13,7 @@ returns c =
     let k : tie.After-width_of = search in
     let start : tie.Start = search in
     let a = start.args in
-    subst (λ (w : Width). ReadsTree (format_of w) a.table.now a.text.now a.shape.now v.read_tree.result v.read_tree.last.1.1.1.0)
+    subst (λ (w : Width). ReadsTree (format_of w) a.table.now a.text.now a.shape.now v.read_tree.result v.read_tree.new.shape)
     k.width_of.ensures v.read_tree.ensures
 
 pub silmezga_read_tree_spec : {M : Type 1} → statement M

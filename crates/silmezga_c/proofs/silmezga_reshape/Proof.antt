@@ -12,8 +12,8 @@ returns c =
     let k : tie.After-width_of = search in
     let start : tie.Start = search in
     let a = start.args in
-    let left = r.reshape.last.1.1.1 in
-    subst (λ w. Reshapes (format_of w) a.table.now a.shape.now a.new.now a.sources.now r.reshape.result left.0 left.1.0)
+    let left = r.reshape.new in
+    subst (λ w. Reshapes (format_of w) a.table.now a.shape.now a.new.now a.sources.now r.reshape.result left.new left.sources)
     k.width_of.ensures r.reshape.ensures
 
 pub silmezga_reshape_spec : {M : Type 1} → statement M

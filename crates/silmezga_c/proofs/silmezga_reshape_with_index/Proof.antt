@@ -12,10 +12,10 @@ returns c =
     let k : tie.After-width_of = search in
     let start : tie.Start = search in
     let a = start.args in
-    let left = r.reshape_with_index.last.1.1.1.1.1 in
+    let left = r.reshape_with_index.new in
     subst
     (λ w. ReshapesWith (format_of w) a.table.now a.shape.now a.last.now a.next.now a.new.now a.sources.now
-    r.reshape_with_index.result left.0 left.1.0) k.width_of.ensures r.reshape_with_index.ensures
+    r.reshape_with_index.result left.new left.sources) k.width_of.ensures r.reshape_with_index.ensures
 
 pub silmezga_reshape_with_index_spec : {M : Type 1} → statement M
 silmezga_reshape_with_index_spec = tie.close (tie.spec (λ c κs. search rules) (λ c κs. search rules) (λ c. search rules) (λ c. search rules) returns)
