@@ -9,14 +9,14 @@ use std::rt::Files;
 use std::{fs, io};
 
 // How many bytes of a file were read, and whether reading went well.
-#[derive(Drop)]
+#[derive(Clone, Copy, Drop)]
 pub struct Read {
     pub bytes: usize,
     pub good: bool,
 }
 
 // The same, and whether the file opened.
-#[derive(Drop)]
+#[derive(Clone, Copy, Drop)]
 pub struct FileRead {
     pub opened: bool,
     pub bytes: usize,

@@ -37,6 +37,7 @@ fn print_line(rt: &impl Print, row: &[u8], f: Format, source: u32) -> bool
 }
 
 // A whole row's line, with its source; false where the row is not whole or has no source.
+#[tactic(auto, using(octets::proofs::Laws::format_served))]
 fn print_row(rt: &impl Print, row: &[u8], width: Width, sources: &[u32], at: usize) -> bool
     ensures { result ≡ true → length row.now ≡ row_bytes (format_of width) }
 {
@@ -51,6 +52,7 @@ fn print_row(rt: &impl Print, row: &[u8], width: Width, sources: &[u32], at: usi
 }
 
 // The lines of a new table, in order, each written as soon as its text is made: a reader steps from row to row.
+#[tactic(auto, using(crate::proofs::Parts::goes_on))]
 fn print_lines(rt: &impl Print, width: Width, table: &[u8], sources: &[u32], lines: usize) -> bool {
     let mut r = make(width, table, 0);
     while r.at < lines {

@@ -8,7 +8,7 @@ use paper::Width;
 use std::rt::Files;
 
 // A table that was read: its width, its bytes, and whether reading went well.
-#[derive(Drop)]
+#[derive(Clone, Copy, Drop)]
 pub struct Source {
     pub width: Width,
     pub bytes: usize,
@@ -16,7 +16,7 @@ pub struct Source {
 }
 
 // A wanted tree that was read: whether it is a text or a shape, its bytes, and whether reading went well.
-#[derive(Drop)]
+#[derive(Clone, Copy, Drop)]
 pub struct Wanted {
     pub typed: bool,
     pub bytes: usize,

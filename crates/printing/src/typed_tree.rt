@@ -41,7 +41,7 @@ pub fn without_end(text: &[u8]) -> usize
 }
 
 // What reading a text over a table answers: a refusal, or the bytes of its shape.
-#[derive(Drop)]
+#[derive(Clone, Copy, Drop)]
 pub struct TypedRead {
     pub number: usize,
     pub place: usize,

@@ -1,5 +1,5 @@
 -- What is read lies within the buffer, and each turn reads on.
-use Rattle.std.proofs.Common.{length, ◌-◌, ◌≤◌, ◌≡◌, ℕ, ◌+◌, ◌*◌, ◌<◌}
+use Rattle.std.proofs.Common.{length, ◌-◌}
 use Rattle.io.specs.Counts.{IsPrefixLen}
 use Rattle.printing.proofs.files.read_open.Given as goal
 
