@@ -11,6 +11,7 @@ use paper::Width;
 use printing::out::print;
 use printing::tape::{read_source, read_wanted};
 use printing::typed_tree::read_typed;
+use std::rt::Files;
 use totals::Total;
 
 // What became of a folder: whether its line was written, whether it is refused, and the total afterwards.
@@ -33,14 +34,14 @@ pub fn unread(total: Total) -> Step
 }
 
 // A folder that is refused for its typed tree adds nothing.
-fn leave_out(name: &[u8], total: Total, number: usize, place: usize) -> Step
+fn leave_out(rt: &impl Print, name: &[u8], total: Total, number: usize, place: usize) -> Step
     requires { length name.now ≤ most_name }
     ensures { (result.refused ≡ true) × (result.total ≡ total) }
 {
     let mut text = [0u8; 4096];
     let n = put_not_counted(&mut text, name, number, place);
     Step {
-        written: print(&text[..n]),
+        written: print(rt, &text[..n]),
         refused: true,
         total: total,
     }
@@ -48,6 +49,7 @@ fn leave_out(name: &[u8], total: Total, number: usize, place: usize) -> Step
 
 // Takes in the tape of a table and a shape.
 fn take_tape(
+    rt: &impl Print,
     name: &[u8],
     total: Total,
     width: Width,
@@ -65,7 +67,7 @@ fn take_tape(
     let number = b.number;
     let after = b.total;
     Step {
-        written: print(&text[..n]),
+        written: print(rt, &text[..n]),
         refused: number != 0,
         total: after,
     }
@@ -73,6 +75,7 @@ fn take_tape(
 
 // Takes in the tape of a table and a typed tree.
 fn take_typed(
+    rt: &impl Print,
     name: &[u8],
     total: Total,
     width: Width,
@@ -87,38 +90,45 @@ fn take_typed(
     let number = r.number;
     let place = r.place;
     if number != 0 {
-        return leave_out(name, total, number, place);
+        return leave_out(rt, name, total, number, place);
     }
     let n = r.bytes;
-    take_tape(name, total, width, table, &shape[..n], entry)
+    take_tape(rt, name, total, width, table, &shape[..n], entry)
 }
 
 // Takes in the tape of a table and the wanted tree of the folder.
-fn take_wanted(name: &[u8], total: Total, width: Width, table: &[u8], entry: usize) -> Step
+fn take_wanted(
+    rt: &(impl Files + Print),
+    name: &[u8],
+    total: Total,
+    width: Width,
+    table: &[u8],
+    entry: usize,
+) -> Step
     requires { length name.now ≤ most_name }
 {
     let mut wanted = [0u8; 1539];
-    let w = read_wanted(name, width, true, &mut wanted);
+    let w = read_wanted(rt, name, width, true, &mut wanted);
     let n = w.bytes;
     if !w.good {
         return unread(total);
     }
     if w.typed {
-        return take_typed(name, total, width, table, &wanted[..n], entry);
+        return take_typed(rt, name, total, width, table, &wanted[..n], entry);
     }
-    take_tape(name, total, width, table, &wanted[..n], entry)
+    take_tape(rt, name, total, width, table, &wanted[..n], entry)
 }
 
 // Takes in the tape of a folder, and prints the folder's line. The folder's name is printed as it is given.
-pub fn take_folder(name: &[u8], total: Total, entry: usize) -> Step
+pub fn take_folder(rt: &(impl Files + Print), name: &[u8], total: Total, entry: usize) -> Step
     requires { length name.now ≤ most_name }
 {
     let mut table = [0u8; 28673];
-    let t = read_source(name, &mut table);
+    let t = read_source(rt, name, &mut table);
     let n = t.bytes;
     let width = t.width;
     if !t.good {
         return unread(total);
     }
-    take_wanted(name, total, width, &table[..n], entry)
+    take_wanted(rt, name, total, width, &table[..n], entry)
 }

@@ -3,22 +3,25 @@ use crate::entry::entry_of;
 use crate::folder::{Step, take_folder, unread};
 use crate::text::{put_left_out, put_total};
 use printing::out::{print, report};
+use printing::words;
+use std::env::Env;
+use std::rt::Files;
 use totals::Total;
 
 // Takes in the folder that word i names. A word that is missing, empty or too long names none.
-fn take_named(i: usize, total: Total, entry: usize) -> Step {
+fn take_named(rt: &(impl Env + Files + Print), i: usize, total: Total, entry: usize) -> Step {
     let mut name = [0u8; 4000];
-    let n = os::arg(i, &mut name);
+    let n = words::word(rt, i, &mut name);
     if n == 0 {
         return unread(total);
     }
-    take_folder(&name[..n], total, entry)
+    take_folder(rt, &name[..n], total, entry)
 }
 
-fn print_total(total: Total) -> bool {
+fn print_total(rt: &impl Print, total: Total) -> bool {
     let mut text = [0u8; 4096];
     let n = put_total(&mut text, total);
-    print(&text[..n])
+    print(rt, &text[..n])
 }
 
 // Reports how many folders are not in the total; nothing where none is left out.
@@ -33,7 +36,13 @@ fn report_left_out(channel: i32, folders: usize) -> bool {
 
 // Takes in the folders that the words from `first` on name, up to the word before `last`, each with the total that those before it left, and prints a
 // line for each, and the total last. Where a folder cannot be read or a line not written, nothing more is. How many were refused goes to the channel.
-pub fn print_history(first: usize, last: usize, entry: usize, channel: i32) -> bool {
+pub fn print_history(
+    rt: &(impl Env + Files + Print),
+    first: usize,
+    last: usize,
+    entry: usize,
+    channel: i32,
+) -> bool {
     let mut total = Total {
         shown: 0,
         unshown: 0,
@@ -42,7 +51,7 @@ pub fn print_history(first: usize, last: usize, entry: usize, channel: i32) -> b
     let mut refused = 0;
     let mut i = first;
     while i < last {
-        let s = take_named(i, total, entry);
+        let s = take_named(rt, i, total, entry);
         let after = s.total;
         if !s.written {
             return false;
@@ -55,18 +64,18 @@ pub fn print_history(first: usize, last: usize, entry: usize, channel: i32) -> b
             i += 1;
         }
     }
-    if !print_total(total) {
+    if !print_total(rt, total) {
         return false;
     }
     report_left_out(channel, refused)
 }
 
 // The history whose entry word `at` names, and whose folders the words behind it name, up to the word before `last`.
-pub fn print_worded(at: usize, last: usize, channel: i32) -> bool {
+pub fn print_worded(rt: &(impl Env + Files + Print), at: usize, last: usize, channel: i32) -> bool {
     if last <= at {
         return false;
     }
     let mut word = [0u8; 64];
-    let n = os::arg(at, &mut word);
-    print_history(at + 1, last, entry_of(&word[..n]), channel)
+    let n = words::word(rt, at, &mut word);
+    print_history(rt, at + 1, last, entry_of(&word[..n]), channel)
 }

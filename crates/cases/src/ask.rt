@@ -7,7 +7,7 @@ use silmezga::Width;
 // What a case asks for beside its table, its shapes and its text: the width and the number that says it to C, the row to look up, the summaries
 // lent, the bytes and the places lent for a reshape, the bytes lent for the table and for the shape in the other width or with their labels
 // converted, the bytes lent for the shape of a text and for the line of the shape, and whether there is an index.
-#[derive(Drop)]
+#[derive(Clone, Copy, Drop)]
 pub struct Ask {
     pub width: Width,
     pub said: u32,

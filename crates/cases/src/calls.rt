@@ -5,8 +5,7 @@ ghost use Rattle.std.specs.Prelude.{◌+◌, ◌*◌, ◌≤◌, length};
 
 use crate::lent::record_bytes;
 use crate::marked::adorn_marked;
-use crate::print::{folded, folded_bytes, hexadecimal, number};
-use libc::STDOUT_FILENO;
+use crate::print::{OUTPUT, folded, folded_bytes, hexadecimal, number};
 use silmezga::reader::{handed, handed_next};
 use silmezga::{Summary, TypeSummary, Width};
 use silmezga_c::JudgedNumbers;
@@ -61,7 +60,7 @@ pub fn print_looked_up(width: Width, said: u32, t: &[u8], row: usize) {
     let r = silmezga::look_up_refusal(width, t, row);
     number(b": ", r.number);
     number(b" ", r.place);
-    io::write_all(STDOUT_FILENO, b" ");
+    io::write_all(OUTPUT, b" ");
     hexadecimal(silmezga::look_up(width, t, row));
     print_found(said, t, row);
 }
@@ -98,7 +97,7 @@ fn print_summaries(all: [TypeSummary; 65], count: usize, mark: usize) {
     while k < 65 {
         let s = all[k];
         if k < count {
-            io::write_all(STDOUT_FILENO, b";");
+            io::write_all(OUTPUT, b";");
             print_figures(s);
             k += 1;
         } else {

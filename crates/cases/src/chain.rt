@@ -4,7 +4,7 @@ ghost use Rattle.paper.specs.Widths.{format_of};
 ghost use Rattle.cases.specs.Chain.{Source};
 
 use crate::lent::{fill_bytes, fill_places, places_room, print_told, record_bytes, records_room};
-use libc::STDOUT_FILENO;
+use crate::print::OUTPUT;
 use silmezga::{Reshaped, Width, reshape};
 use tables::row::smaller;
 
@@ -57,7 +57,7 @@ fn print_both(width: Width, t: &[u8], s: &[u8], again: &[u8], new: &mut [u8], so
     if first.number == 0 && lines <= 1024 {
         print_again(width, new, lines, again);
     } else {
-        io::write_all(STDOUT_FILENO, b": none");
+        io::write_all(OUTPUT, b": none");
     }
 }
 

@@ -56,8 +56,11 @@ pub mod trees;
 ghost use Rattle.std.specs.Prelude.{◌≡◌, ◌+◌, ◌<◌, length};
 
 use ask::{Ask, asked};
-use libc::{STDIN_FILENO, STDOUT_FILENO};
 use moved::File;
+use print::OUTPUT;
+
+// The channel of standard input.
+const INPUT: i32 = 0;
 
 // The parts of the calls that answer by value, and of the reader.
 fn print_answers(t: &[u8], s: &[u8], ask: Ask) {
@@ -92,7 +95,7 @@ fn print_case(
     trees::print_line(t, s, ask);
     index::print_indexed(t, s, lasts, nexts, ask);
     chain::print_chain(width, t, s, again, ask.bytes, ask.places);
-    io::write_all(STDOUT_FILENO, b"\n");
+    io::write_all(OUTPUT, b"\n");
 }
 
 // Puts bytes into what is held, from a place on, as far as it reaches.
@@ -109,13 +112,13 @@ fn put(held: &mut [u8], at: usize, part: &[u8])
 // Reads a change and makes it, or answers false where the input has none left.
 fn read_change(held: &mut [u8]) -> bool {
     let mut head = [0u8; 3];
-    if io::read_full(STDIN_FILENO, &mut head) < 3 {
+    if io::read_full(INPUT, &mut head) < 3 {
         return false;
     }
     let at = octets::word(&head, 0);
     let n = octets::wide(head[2]);
     let mut part = [0u8; 255];
-    if io::read_full(STDIN_FILENO, &mut part[..n]) < n {
+    if io::read_full(INPUT, &mut part[..n]) < n {
         return false;
     }
     put(held, at, &part[..n]);
@@ -167,7 +170,7 @@ fn print_held(held: &[u8], head: &[u8]) -> bool
 // Reads a case and prints its line, or answers false where there is no whole one that fits what is held.
 fn run_case(held: &mut [u8]) -> bool {
     let mut head = [0u8; 40];
-    if io::read_full(STDIN_FILENO, &mut head) < 40 {
+    if io::read_full(INPUT, &mut head) < 40 {
         return false;
     }
     if !read_changes(held, octets::word(&head, 0)) {

@@ -1,17 +1,19 @@
 // What every part of a line is printed with: numbers, bytes, and a sum in place of what is long.
-use libc::STDOUT_FILENO;
+
+// The channel of standard output.
+pub const OUTPUT: i32 = 1;
 
 // Prints what stands before a number, and the number.
 pub fn number(before: &[u8], n: usize) {
-    io::write_all(STDOUT_FILENO, before);
-    io::print_decimal(STDOUT_FILENO, n as u64);
+    io::write_all(OUTPUT, before);
+    io::print_decimal(OUTPUT, n as u64);
 }
 
 // Prints bytes in hexadecimal digits, two a byte.
 pub fn hexadecimal(b: &[u8]) {
     let mut i = 0;
     while i < b.len() {
-        io::print_hex(STDOUT_FILENO, octets::wide(b[i]) as u64, 2);
+        io::print_hex(OUTPUT, octets::wide(b[i]) as u64, 2);
         i += 1;
     }
 }

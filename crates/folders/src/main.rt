@@ -6,76 +6,91 @@
 mod months;
 
 use crate::months::{mark_from, print_months};
-use libc::STDOUT_FILENO;
-use printing::folder::print_screen;
-use printing::out::print;
+use printing::folder::print_screen_in;
+use printing::out::{OUTPUT, print};
 use printing::screen::screen_named;
 use printing::typed_tree::typed_word;
+use printing::words;
+use std::env::Env;
+use std::rt::Files;
 
 // A screen of a folder, with a typed tree where one is given.
-fn print_in(folder: &[u8], text: &[u8], given: bool, word: &[u8]) -> bool {
-    if print_screen(folder, text, given, screen_named(word), STDOUT_FILENO) {
+fn print_in(
+    rt: &(impl Files + Print),
+    folder: &[u8],
+    text: &[u8],
+    given: bool,
+    word: &[u8],
+) -> bool {
+    if print_screen_in(rt, folder, text, given, screen_named(word), OUTPUT) {
         return true;
     }
-    print(b"not whole\n")
+    print(rt, b"not whole\n")
 }
 
-fn print_heading(folder: &[u8], end: &[u8]) -> bool {
-    if !print(b"== ") {
+fn print_heading(rt: &impl Print, folder: &[u8], end: &[u8]) -> bool {
+    if !print(rt, b"== ") {
         return false;
     }
-    if !print(folder) {
+    if !print(rt, folder) {
         return false;
     }
-    print(end)
+    print(rt, end)
 }
 
-fn print_headed(heading: &[u8], folder: &[u8], text: &[u8], given: bool, word: &[u8]) -> bool {
-    if !print(heading) {
+fn print_headed(
+    rt: &(impl Files + Print),
+    heading: &[u8],
+    folder: &[u8],
+    text: &[u8],
+    given: bool,
+    word: &[u8],
+) -> bool {
+    if !print(rt, heading) {
         return false;
     }
-    print_in(folder, text, given, word)
+    print_in(rt, folder, text, given, word)
 }
 
 // The screens that show the wanted tree, but the printed one.
-fn print_answers(folder: &[u8], text: &[u8], given: bool) -> bool {
-    if !print_in(folder, text, given, b"") {
+fn print_answers(rt: &(impl Files + Print), folder: &[u8], text: &[u8], given: bool) -> bool {
+    if !print_in(rt, folder, text, given, b"") {
         return false;
     }
-    if !print_headed(b"-- report\n", folder, text, given, b"listing") {
+    if !print_headed(rt, b"-- report\n", folder, text, given, b"listing") {
         return false;
     }
-    print_headed(b"-- summary\n", folder, text, given, b"summary")
+    print_headed(rt, b"-- summary\n", folder, text, given, b"summary")
 }
 
-fn print_folder(folder: &[u8]) -> bool {
-    if !print_heading(folder, b"\n") {
+fn print_folder(rt: &(impl Files + Print), folder: &[u8]) -> bool {
+    if !print_heading(rt, folder, b"\n") {
         return false;
     }
-    if !print_answers(folder, b"", false) {
+    if !print_answers(rt, folder, b"", false) {
         return false;
     }
-    if !print_headed(b"-- types\n", folder, b"", false, b"types") {
+    if !print_headed(rt, b"-- types\n", folder, b"", false, b"types") {
         return false;
     }
-    print_headed(b"-- print\n", folder, b"", false, b"print")
+    print_headed(rt, b"-- print\n", folder, b"", false, b"print")
 }
 
 // The types are those of the table alone, and take no tree.
-fn print_typed(folder: &[u8], text: &[u8]) -> bool {
-    if !print_heading(folder, b", typed\n") {
+fn print_typed(rt: &(impl Files + Print), folder: &[u8], text: &[u8]) -> bool {
+    if !print_heading(rt, folder, b", typed\n") {
         return false;
     }
-    if !print_answers(folder, text, true) {
+    if !print_answers(rt, folder, text, true) {
         return false;
     }
-    print_headed(b"-- print\n", folder, text, true, b"print")
+    print_headed(rt, b"-- print\n", folder, text, true, b"print")
 }
 
-fn print_typed_in(i: usize, text: &[u8]) -> bool {
+fn print_typed_in(rt: &(impl Env + Files + Print), i: usize, text: &[u8]) -> bool {
     let mut name = [0u8; 64];
-    let n = os::arg(i, &mut name);
-    print_typed(&name[..n], text)
+    let n = words::word(rt, i, &mut name);
+    print_typed(rt, &name[..n], text)
 }
 
 // Has the text a space before all else?
@@ -87,19 +102,19 @@ fn is_tree(text: &[u8]) -> bool {
 }
 
 // The folder that word i names, or where it is a tree the folder that the word before it names.
-fn print_named(before: usize, i: usize) -> bool {
+fn print_named(rt: &(impl Env + Files + Print), before: usize, i: usize) -> bool {
     let mut text = [0u8; 1537];
-    let n = typed_word(i, &mut text);
+    let n = typed_word(rt, i, &mut text);
     if is_tree(&text[..n]) {
-        return print_typed_in(before, &text[..n]);
+        return print_typed_in(rt, before, &text[..n]);
     }
-    print_folder(&text[..n])
+    print_folder(rt, &text[..n])
 }
 
-fn print_folders(last: usize) -> bool {
+fn print_folders(rt: &(impl Env + Files + Print), last: usize) -> bool {
     let mut i = 1;
     while i < last {
-        if !print_named(i - 1, i) {
+        if !print_named(rt, i - 1, i) {
             return false;
         }
         i += 1;
@@ -107,13 +122,13 @@ fn print_folders(last: usize) -> bool {
     true
 }
 
-fn main() {
-    let words = os::arg_count();
-    if words < 1 {
+fn main(rt: HostRuntime) {
+    let last = words::count(&rt);
+    if last < 1 {
         return;
     }
-    let mark = mark_from(1, words);
-    if print_folders(mark) {
-        print_months(mark, words);
+    let mark = mark_from(&rt, 1, last);
+    if print_folders(&rt, mark) {
+        print_months(&rt, mark, last);
     }
 }

@@ -3,23 +3,25 @@ ghost use Rattle.std.specs.Prelude.{◌≤◌};
 
 use billing::history::print_worded;
 use check::same;
-use libc::STDOUT_FILENO;
-use printing::out::print;
+use printing::out::{OUTPUT, print};
+use printing::words;
+use std::env::Env;
+use std::rt::Files;
 
-fn is_mark(i: usize) -> bool {
+fn is_mark(rt: &impl Env, i: usize) -> bool {
     let mut word = [0u8; 8];
-    let n = os::arg(i, &mut word);
+    let n = words::word(rt, i, &mut word);
     same(&word[..n], b"--")
 }
 
 // The first mark from word `from` on, `last` for none.
-pub fn mark_from(from: usize, last: usize) -> usize
+pub fn mark_from(rt: &impl Env, from: usize, last: usize) -> usize
     requires { from ≤ last }
     ensures { (from ≤ result) × (result ≤ last) }
 {
     let mut i = from;
     while i < last {
-        if is_mark(i) {
+        if is_mark(rt, i) {
             return i;
         }
         i += 1;
@@ -27,35 +29,35 @@ pub fn mark_from(from: usize, last: usize) -> usize
     last
 }
 
-fn print_heading(at: usize) -> bool {
+fn print_heading(rt: &(impl Env + Print), at: usize) -> bool {
     let mut word = [0u8; 64];
-    let n = os::arg(at, &mut word);
-    if !print(b"== total ") {
+    let n = words::word(rt, at, &mut word);
+    if !print(rt, b"== total ") {
         return false;
     }
-    if !print(&word[..n]) {
+    if !print(rt, &word[..n]) {
         return false;
     }
-    print(b"\n")
+    print(rt, b"\n")
 }
 
 // The history of the entry that word `at` names.
-fn print_month(at: usize, last: usize) -> bool {
-    if !print_heading(at) {
+fn print_month(rt: &(impl Env + Files + Print), at: usize, last: usize) -> bool {
+    if !print_heading(rt, at) {
         return false;
     }
-    if print_worded(at, last, STDOUT_FILENO) {
+    if print_worded(rt, at, last, OUTPUT) {
         return true;
     }
-    print(b"not whole\n")
+    print(rt, b"not whole\n")
 }
 
 // A history behind each mark, of which word `first` is one.
-pub fn print_months(first: usize, last: usize) {
+pub fn print_months(rt: &(impl Env + Files + Print), first: usize, last: usize) {
     let mut i = first;
     while i < last {
-        let next = mark_from(i + 1, last);
-        if !print_month(i + 1, next) {
+        let next = mark_from(rt, i + 1, last);
+        if !print_month(rt, i + 1, next) {
             return;
         }
         i = next;

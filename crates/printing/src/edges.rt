@@ -21,10 +21,10 @@ fn edge_of(j: Judged, e: usize) -> Edge
     }
 }
 
-fn print_edge(e: usize, edge: Edge) -> bool {
+fn print_edge(rt: &impl Print, e: usize, edge: Edge) -> bool {
     let mut text = [0u8; 256];
     let n = put_edge(&mut text, e, edge);
-    print(&text[..n])
+    print(rt, &text[..n])
 }
 
 // The level of an entry, 0 past the last.
@@ -68,7 +68,7 @@ fn report_edge(channel: i32, shape: &[u8], f: Format, e: usize, edge: Edge) -> b
 }
 
 // Prints the line of each edge of a shape that was judged, and reports it with names.
-pub fn print_edges(width: Width, shape: &[u8], j: Judged, channel: i32) -> bool {
+pub fn print_edges(rt: &impl Print, width: Width, shape: &[u8], j: Judged, channel: i32) -> bool {
     let f = served(width);
     let mut e = 1;
     while e < 16 {
@@ -76,7 +76,7 @@ pub fn print_edges(width: Width, shape: &[u8], j: Judged, channel: i32) -> bool 
             return true;
         }
         let edge = edge_of(j, e);
-        if !print_edge(e, edge) {
+        if !print_edge(rt, e, edge) {
             return false;
         }
         if !report_edge(channel, shape, f, e, edge) {

@@ -10,17 +10,18 @@ use paper::{Format, Width};
 use screens::figures::{Figures, put_figures};
 use tables::row::smaller;
 
-fn print_entry(entry: &[u8], f: Format, e: usize, figures: Figures) -> bool
+fn print_entry(rt: &impl Print, entry: &[u8], f: Format, e: usize, figures: Figures) -> bool
     requires served { Served f }
     requires len { length entry.now ≡ entry_bytes f }
 {
     let level = smaller(octets::wide(entry[0]), f.levels);
     let mut text = [0u8; 256];
     let n = put_figures(&mut text, level, e, last_label(entry, f), figures);
-    print(&text[..n])
+    print(rt, &text[..n])
 }
 
 fn print_entries(
+    rt: &impl Print,
     shape: &[u8],
     f: Format,
     lines: [usize; 16],
@@ -43,7 +44,7 @@ fn print_entries(
             copies: copies[e],
             different: different[e],
         };
-        if !print_entry(entry, f, e, figures) {
+        if !print_entry(rt, entry, f, e, figures) {
             return false;
         }
         e += 1;
@@ -52,16 +53,16 @@ fn print_entries(
 }
 
 // Prints the refusal of a summary, or its figures.
-pub fn print_summary(width: Width, table: &[u8], shape: &[u8]) -> bool {
+pub fn print_summary(rt: &impl Print, width: Width, table: &[u8], shape: &[u8]) -> bool {
     let s = silmezga::summarise(width, table, shape);
     let number = s.number;
     let place = s.place;
     if number != 0 {
-        return print_refused(number, place);
+        return print_refused(rt, number, place);
     }
     let lines = s.lines;
     let rows = s.rows;
     let copies = s.copies;
     let different = s.different;
-    print_entries(shape, served(width), lines, rows, copies, different)
+    print_entries(rt, shape, served(width), lines, rows, copies, different)
 }

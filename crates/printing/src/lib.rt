@@ -1,4 +1,4 @@
-// What the program does, as functions that take the name of its folder: they read, call the library and write. Each answers whether
+// What the program does, as functions that take the names of its files or of its folder: they read, call the library and write. Each answers whether
 // all that it had to write was taken; where a write fails, nothing more is written, and standard error says so. Which texts are written is
 // proved below this crate; what is read and written is the system's, and no theorem speaks of it.
 #![tactic(auto)]
@@ -17,3 +17,4 @@ pub mod typed_tree;
 pub mod types_tree;
 pub mod wanted;
 pub mod width;
+pub mod words;

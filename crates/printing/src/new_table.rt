@@ -15,29 +15,30 @@ use silmezga::reader::{make, next, row};
 use silmezga::{Reshaped, Verdict};
 
 // Prints a refusal, as every screen does.
-pub fn print_refused(number: usize, place: usize) -> bool {
+pub fn print_refused(rt: &impl Print, number: usize, place: usize) -> bool {
     let mut text = [0u8; 256];
     let n = put_refused(&mut text, number, place);
-    print(&text[..n])
+    print(rt, &text[..n])
 }
 
-fn print_verdict(v: Verdict) -> bool {
+fn print_verdict(rt: &impl Print, v: Verdict) -> bool {
     let mut text = [0u8; 256];
     let n = put_verdict(&mut text, v);
-    print(&text[..n])
+    print(rt, &text[..n])
 }
 
-fn print_line(row: &[u8], f: Format, source: u32) -> bool
+fn print_line(rt: &impl Print, row: &[u8], f: Format, source: u32) -> bool
     requires served { Served f }
     requires row_len { length row.now ≡ row_bytes f }
 {
     let mut text = [0u8; 256];
     let n = put_line(&mut text, row, f, source);
-    print(&text[..n])
+    print(rt, &text[..n])
 }
 
 // A whole row's line, with its source; false where the row is not whole or has no source.
-fn print_row(row: &[u8], width: Width, sources: &[u32], at: usize) -> bool
+#[tactic(auto, using(octets::proofs::Laws::format_served))]
+fn print_row(rt: &impl Print, row: &[u8], width: Width, sources: &[u32], at: usize) -> bool
     ensures { result ≡ true → length row.now ≡ row_bytes (format_of width) }
 {
     let f = paper::format_of(width);
@@ -47,14 +48,15 @@ fn print_row(row: &[u8], width: Width, sources: &[u32], at: usize) -> bool
     if sources.len() <= at {
         return false;
     }
-    print_line(row, f, sources[at])
+    print_line(rt, row, f, sources[at])
 }
 
 // The lines of a new table, in order, each written as soon as its text is made: a reader steps from row to row.
-fn print_lines(width: Width, table: &[u8], sources: &[u32], lines: usize) -> bool {
+#[tactic(auto, using(crate::proofs::Parts::goes_on))]
+fn print_lines(rt: &impl Print, width: Width, table: &[u8], sources: &[u32], lines: usize) -> bool {
     let mut r = make(width, table, 0);
     while r.at < lines {
-        if !print_row(row(r), width, sources, r.at) {
+        if !print_row(rt, row(r), width, sources, r.at) {
             return false;
         }
         r = next(r);
@@ -78,6 +80,7 @@ fn reshape_into(
 
 // Reshapes a table into what is lent, prints the listing, and reports the answer.
 fn print_reshaped(
+    rt: &impl Print,
     width: Width,
     source: &[u8],
     shape: &[u8],
@@ -91,7 +94,7 @@ fn print_reshaped(
     let number = r.number;
     let place = r.place;
     if number != 0 {
-        if !print_refused(number, place) {
+        if !print_refused(rt, number, place) {
             return false;
         }
         return report_refused(channel, width, source, shape, number, place);
@@ -99,21 +102,27 @@ fn print_reshaped(
     let j = silmezga::judge(width, source, shape);
     let v = j.verdict;
     let none = j.none_apart;
-    if !print_verdict(v) {
+    if !print_verdict(rt, v) {
         return false;
     }
     if !report_verdict(channel, width, source, shape, v, none) {
         return false;
     }
-    if !print_lines(width, table, sources, r.lines) {
+    if !print_lines(rt, width, table, sources, r.lines) {
         return false;
     }
-    print_edges(width, shape, j, channel)
+    print_edges(rt, width, shape, j, channel)
 }
 
 // Prints the listing of a table and a shape, with room for 1,024 lines. The answer and what it names are reported on the channel.
-pub fn print_listing(width: Width, source: &[u8], shape: &[u8], channel: i32) -> bool {
+pub fn print_listing(
+    rt: &impl Print,
+    width: Width,
+    source: &[u8],
+    shape: &[u8],
+    channel: i32,
+) -> bool {
     let mut new = [0u8; 28672];
     let mut sources = [0u32; 1024];
-    print_reshaped(width, source, shape, &mut new, &mut sources, channel)
+    print_reshaped(rt, width, source, shape, &mut new, &mut sources, channel)
 }

@@ -5,7 +5,7 @@ use check::same;
 use paper::Width;
 
 // Which screen is asked for.
-#[derive(Drop)]
+#[derive(Clone, Copy, Drop)]
 pub enum Screen {
     Listing,
     Reported, // the listing, with what its first line names reported
@@ -54,12 +54,19 @@ pub fn channel_of(screen: Screen, channel: i32) -> i32 {
 }
 
 // Prints a screen; a report goes to the channel.
-pub fn print_of(width: Width, table: &[u8], shape: &[u8], screen: Screen, channel: i32) -> bool {
+pub fn print_of(
+    rt: &impl Print,
+    width: Width,
+    table: &[u8],
+    shape: &[u8],
+    screen: Screen,
+    channel: i32,
+) -> bool {
     match screen {
-        Screen::Listing => print_listing(width, table, shape, NOWHERE),
-        Screen::Reported => print_listing(width, table, shape, channel),
-        Screen::Summary => crate::figures::print_summary(width, table, shape),
-        Screen::Types => crate::types_tree::print_types(width, table),
-        Screen::Printed => crate::typed_tree::print_shape(width, shape),
+        Screen::Listing => print_listing(rt, width, table, shape, NOWHERE),
+        Screen::Reported => print_listing(rt, width, table, shape, channel),
+        Screen::Summary => crate::figures::print_summary(rt, width, table, shape),
+        Screen::Types => crate::types_tree::print_types(rt, width, table),
+        Screen::Printed => crate::typed_tree::print_shape(rt, width, shape),
     }
 }

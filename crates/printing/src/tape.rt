@@ -1,13 +1,14 @@
-// The tape of a folder, its table and its wanted tree: which files they are read from, and how far.
+// The table and the wanted tree of a screen or of a tape: which files they are read from, and how far.
 ghost use Rattle.std.specs.Prelude.{◌≤◌, length};
 ghost use Rattle.io.specs.Counts.{IsPrefixLen};
 
-use crate::files::{Read, read_file};
+use crate::files::{FileRead, put_file_name, read_file};
 use crate::typed_tree::without_end;
 use paper::Width;
+use std::rt::Files;
 
 // A table that was read: its width, its bytes, and whether reading went well.
-#[derive(Drop)]
+#[derive(Clone, Copy, Drop)]
 pub struct Source {
     pub width: Width,
     pub bytes: usize,
@@ -15,52 +16,64 @@ pub struct Source {
 }
 
 // A wanted tree that was read: whether it is a text or a shape, its bytes, and whether reading went well.
-#[derive(Drop)]
+#[derive(Clone, Copy, Drop)]
 pub struct Wanted {
     pub typed: bool,
     pub bytes: usize,
     pub good: bool,
 }
 
-// Reads the table of a folder: the wide one where it opens, else the narrow one. One byte more than a table may have is read, so that one that is
-// too long is refused.
-pub fn read_source(folder: &[u8], table: &mut [u8]) -> Source
+// Reads a table by the names of its files: the wide one where it opens, else the narrow one. One byte more than a table may have is read, so that one
+// that is too long is refused.
+pub fn read_table(rt: &impl Files, wide: &[u8], narrow: &[u8], table: &mut [u8]) -> Source
     requires { 28673 ≤ length table.old }
     ensures { IsPrefixLen result.bytes table.new }
 {
-    let wide = read_file(folder, b"source8.tab", 28673, table);
-    if wide.opened {
+    let eight = read_file(rt, wide, 28673, table);
+    if eight.opened {
         return Source {
             width: Width::Eight,
-            bytes: wide.bytes,
-            good: wide.good,
+            bytes: eight.bytes,
+            good: eight.good,
         };
     }
-    let narrow = read_file(folder, b"source.tab", 24577, table);
+    let six = read_file(rt, narrow, 24577, table);
     Source {
         width: Width::Six,
-        bytes: narrow.bytes,
-        good: narrow.good,
+        bytes: six.bytes,
+        good: six.good,
     }
 }
 
+// Reads the table of a folder.
+pub fn read_source(rt: &impl Files, folder: &[u8], table: &mut [u8]) -> Source
+    requires { 28673 ≤ length table.old }
+    ensures { IsPrefixLen result.bytes table.new }
+{
+    let mut wide = [0u8; 4096];
+    let mut narrow = [0u8; 4096];
+    let w = put_file_name(&mut wide, folder, b"source8.tab");
+    let n = put_file_name(&mut narrow, folder, b"source.tab");
+    read_table(rt, &wide[..w], &narrow[..n], table)
+}
+
 // Reads the shape file of a width, of which a byte more than a shape may have is read.
-fn read_shape(folder: &[u8], width: Width, shape: &mut [u8]) -> Read
+fn read_shape(rt: &impl Files, width: Width, name: &[u8], shape: &mut [u8]) -> FileRead
     requires { 321 ≤ length shape.old }
     ensures { IsPrefixLen result.bytes shape.new }
 {
     match width {
-        Width::Six => read_file(folder, b"shape.tab", 257, shape),
-        Width::Eight => read_file(folder, b"shape8.tab", 321, shape),
+        Width::Six => read_file(rt, name, 257, shape),
+        Width::Eight => read_file(rt, name, 321, shape),
     }
 }
 
 // Reads the file of a typed tree. It has a byte more than a tree and the end of its line may have, where it is too long.
-fn read_text(folder: &[u8], text: &mut [u8]) -> Wanted
+fn read_text(rt: &impl Files, name: &[u8], text: &mut [u8]) -> Wanted
     requires { 1539 ≤ length text.old }
     ensures { IsPrefixLen result.bytes text.new }
 {
-    let t = read_file(folder, b"shape.txt", 1539, text);
+    let t = read_file(rt, name, 1539, text);
     let n = t.bytes;
     Wanted {
         typed: t.opened,
@@ -69,13 +82,20 @@ fn read_text(folder: &[u8], text: &mut [u8]) -> Wanted
     }
 }
 
-// Reads the wanted tree of a folder: the shape file where it opens, else, where the tree is shown, the file of a typed tree where that opens, else an
-// empty shape.
-pub fn read_wanted(folder: &[u8], width: Width, shown: bool, wanted: &mut [u8]) -> Wanted
+// Reads a wanted tree by the names of its files: the shape file where it opens, else, where the tree is shown, the file of a typed tree where that
+// opens, else an empty shape.
+pub fn read_tree(
+    rt: &impl Files,
+    width: Width,
+    shape: &[u8],
+    typed: &[u8],
+    shown: bool,
+    wanted: &mut [u8],
+) -> Wanted
     requires { 1539 ≤ length wanted.old }
     ensures { IsPrefixLen result.bytes wanted.new }
 {
-    let s = read_shape(folder, width, wanted);
+    let s = read_shape(rt, width, shape, wanted);
     if s.opened {
         return Wanted {
             typed: false,
@@ -90,5 +110,33 @@ pub fn read_wanted(folder: &[u8], width: Width, shown: bool, wanted: &mut [u8]) 
             good: true,
         };
     }
-    read_text(folder, wanted)
+    read_text(rt, typed, wanted)
+}
+
+// The name of a folder's shape file, by the width of its table.
+fn put_shape_name(name: &mut [u8; 4096], folder: &[u8], width: Width) -> usize
+    ensures { IsPrefixLen result name.new }
+{
+    match width {
+        Width::Six => put_file_name(name, folder, b"shape.tab"),
+        Width::Eight => put_file_name(name, folder, b"shape8.tab"),
+    }
+}
+
+// Reads the wanted tree of a folder.
+pub fn read_wanted(
+    rt: &impl Files,
+    folder: &[u8],
+    width: Width,
+    shown: bool,
+    wanted: &mut [u8],
+) -> Wanted
+    requires { 1539 ≤ length wanted.old }
+    ensures { IsPrefixLen result.bytes wanted.new }
+{
+    let mut shape = [0u8; 4096];
+    let mut typed = [0u8; 4096];
+    let s = put_shape_name(&mut shape, folder, width);
+    let t = put_file_name(&mut typed, folder, b"shape.txt");
+    read_tree(rt, width, &shape[..s], &typed[..t], shown, wanted)
 }

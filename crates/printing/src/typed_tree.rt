@@ -6,17 +6,18 @@ use crate::new_table::print_refused;
 use crate::out::print;
 use crate::width::served;
 use paper::Width;
+use std::env::{Env, FillError};
 
 // Puts the tree that the program was started with, as its i-th word, into what is lent, and answers its length. One that is longer than what is
 // lent fills it, so that a part of it never passes for the whole.
-pub fn typed_word(i: usize, text: &mut [u8]) -> usize
+pub fn typed_word(rt: &impl Env, i: usize, text: &mut [u8]) -> usize
     ensures { IsPrefixLen result text.new }
 {
-    let n = os::arg(i, text);
-    if os::errno() == libc::ENAMETOOLONG {
-        return text.len();
+    match rt.arg(i, text) {
+        Ok(n) => n,
+        Err(FillError::TooLong) => text.len(),
+        Err(FillError::NotPresent) => 0,
     }
-    n
 }
 
 // How long a text is without the end of its line, a newline or a carriage return and a newline, which editors put behind it.
@@ -40,7 +41,7 @@ pub fn without_end(text: &[u8]) -> usize
 }
 
 // What reading a text over a table answers: a refusal, or the bytes of its shape.
-#[derive(Drop)]
+#[derive(Clone, Copy, Drop)]
 pub struct TypedRead {
     pub number: usize,
     pub place: usize,
@@ -64,20 +65,20 @@ pub fn read_typed(width: Width, table: &[u8], text: &[u8], shape: &mut [u8]) -> 
 }
 
 // Prints the refusal of printing, or the shape as a line of text.
-pub fn print_shape(width: Width, shape: &[u8]) -> bool {
+pub fn print_shape(rt: &impl Print, width: Width, shape: &[u8]) -> bool {
     let mut text = [0u8; 1536];
     let p = silmezga::print_tree(width, shape, &mut text);
     let number = p.number;
     let place = p.place;
     if number != 0 {
-        return print_refused(number, place);
+        return print_refused(rt, number, place);
     }
     let n = p.bytes;
     if 1536 < n {
         return false;
     }
-    if !print(&text[..n]) {
+    if !print(rt, &text[..n]) {
         return false;
     }
-    print(b"\n")
+    print(rt, b"\n")
 }

@@ -44,7 +44,7 @@ fn after(all: [TypeSummary; 64], count: usize, k: usize) -> usize {
 }
 
 // One type; the label above it is that of its parent type, 0 where it has none.
-fn print_type(all: [TypeSummary; 64], k: usize) -> bool {
+fn print_type(rt: &impl Print, all: [TypeSummary; 64], k: usize) -> bool {
     if 64 <= k {
         return false;
     }
@@ -60,14 +60,14 @@ fn print_type(all: [TypeSummary; 64], k: usize) -> bool {
     }
     let mut text = [0u8; 256];
     let n = put_type(&mut text, s, above);
-    print(&text[..n])
+    print(rt, &text[..n])
 }
 
-fn print_tree(all: [TypeSummary; 64], count: usize) -> bool {
+fn print_tree(rt: &impl Print, all: [TypeSummary; 64], count: usize) -> bool {
     let mut k = 0;
     let mut i = 0;
     while i < count {
-        if !print_type(all, k) {
+        if !print_type(rt, all, k) {
             return false;
         }
         k = after(all, count, k);
@@ -77,13 +77,13 @@ fn print_tree(all: [TypeSummary; 64], count: usize) -> bool {
 }
 
 // Prints the refusal of adorning, or the tree. The figures are those that `adorn` stores in what it is lent.
-pub fn print_types(width: Width, table: &[u8]) -> bool {
+pub fn print_types(rt: &impl Print, width: Width, table: &[u8]) -> bool {
     let a = adorn_by_value(table, served(width), 64);
     let number = a.number;
     let place = a.place;
     if number != 0 {
-        return print_refused(number, place);
+        return print_refused(rt, number, place);
     }
     let all = a.summaries;
-    print_tree(all, a.count)
+    print_tree(rt, all, a.count)
 }

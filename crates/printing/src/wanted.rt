@@ -2,18 +2,26 @@
 use crate::marked::report_typed;
 use crate::new_table::print_refused;
 use crate::screen::{Screen, channel_of, print_of, shows_tree};
-use crate::tape::read_wanted;
+use crate::tape::read_tree;
 use crate::typed_tree::read_typed;
 use paper::Width;
+use std::rt::Files;
 
 // Prints a screen of a table and a typed tree, or the tree's refusal.
-pub fn print_typed(width: Width, table: &[u8], text: &[u8], screen: Screen, channel: i32) -> bool {
+pub fn print_typed(
+    rt: &impl Print,
+    width: Width,
+    table: &[u8],
+    text: &[u8],
+    screen: Screen,
+    channel: i32,
+) -> bool {
     let mut shape = [0u8; 320];
     let r = read_typed(width, table, text, &mut shape);
     let number = r.number;
     let place = r.place;
     if number != 0 {
-        if !print_refused(number, place) {
+        if !print_refused(rt, number, place) {
             return false;
         }
         return report_typed(
@@ -26,25 +34,28 @@ pub fn print_typed(width: Width, table: &[u8], text: &[u8], screen: Screen, chan
         );
     }
     let n = r.bytes;
-    print_of(width, table, &shape[..n], screen, channel)
+    print_of(rt, width, table, &shape[..n], screen, channel)
 }
 
-// Prints a screen of a table and the wanted tree of a folder.
+// Prints a screen of a table and the wanted tree of two files: the shape file where it opens, else the file of a typed tree where that opens, else
+// an empty shape.
 pub fn print_wanted(
+    rt: &(impl Files + Print),
     width: Width,
     table: &[u8],
-    folder: &[u8],
+    shape: &[u8],
+    typed: &[u8],
     screen: Screen,
     channel: i32,
 ) -> bool {
     let mut wanted = [0u8; 1539];
-    let w = read_wanted(folder, width, shows_tree(screen), &mut wanted);
+    let w = read_tree(rt, width, shape, typed, shows_tree(screen), &mut wanted);
     let n = w.bytes;
     if !w.good {
         return false;
     }
     if w.typed {
-        return print_typed(width, table, &wanted[..n], screen, channel);
+        return print_typed(rt, width, table, &wanted[..n], screen, channel);
     }
-    print_of(width, table, &wanted[..n], screen, channel)
+    print_of(rt, width, table, &wanted[..n], screen, channel)
 }

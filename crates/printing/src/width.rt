@@ -5,6 +5,7 @@ use paper::{Format, Width};
 use tables::row::smaller;
 
 // The format of a width, which every layer below serves.
+#[tactic(auto, using(octets::proofs::Laws::format_served))]
 pub fn served(width: Width) -> Format
     ensures { Served result }
 {

@@ -1,0 +1,18 @@
+-- At most sixteen entries, of at most twenty bytes each, lie within the shape.
+use Rattle.std.proofs.Common.{◌≤◌, ◌*◌}
+use native.Mathlib.Omega.{arith}
+use Rattle.io.proofs.Counting.{prefix_len_of_le}
+use Rattle.printing.proofs.Entries.{few_entries, in_shape}
+use Rattle.printing.proofs.typed_tree.read_typed.Goals as goal
+
+pub overflow_mul-result : goal.overflow_mul-result
+overflow_mul-result c =
+    let room : c.read_tree-r.result.entries * c.entry_bytes.result ≤ 320 =
+    in_shape _ _ (few_entries _ _ _ _ _ c.read_tree-r.ensures) (omega (arith, c.entry_bytes.ensures, c.served.ensures.shallow)) in
+    record { fits = omega (arith, room) }
+
+pub returns : goal.returns
+returns c =
+    let room : c.read_tree-r.result.entries * c.entry_bytes.result ≤ 320 =
+    in_shape _ _ (few_entries _ _ _ _ _ c.read_tree-r.ensures) (omega (arith, c.entry_bytes.ensures, c.served.ensures.shallow)) in
+    prefix_len_of_le _ _ (omega (arith, room, c.requires))
