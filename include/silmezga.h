@@ -7,7 +7,7 @@
  * writes a file, or stops the program. Each takes bytes and numbers of every kind. It gives its answer, or a refusal with a number and a
  * place, and a refused call changes nothing that it was lent. What each call answers is proved for every input (docs/PROVED.md).
  *
- * The archive is target/staticlib/libsilmezga_c.a, made by `rt staticlib silmezga_c`. It is for x86-64 Linux, and all that it takes from other
+ * The archive is target/staticlib/libsilmezga_c.a, made by `tools/staticlib silmezga_c`. It is for x86-64 Linux, and all that it takes from other
  * libraries is memcpy and memset. This header is C99 and C++. Calls from several threads do not disturb each other, as long as nothing
  * that one of them writes to is lent to another. Reshaping and summarising took at most 64 KB of stack when measured,
  * building an index at most 20 KB, the others at most 10 KB; the proofs say nothing of stack.

@@ -1,4 +1,4 @@
-// Links the archives that `rt staticlib silmezga_c` and `rt staticlib totals_c` write. SILMEZGA_LIB names the folder that they are in.
+// Links the archives that `tools/staticlib silmezga_c` and `tools/staticlib totals_c` write. SILMEZGA_LIB names the folder that they are in.
 use std::env;
 
 fn main() {

@@ -34,8 +34,10 @@ class Bench(InFolder):
 
     def setUp(self):
         super().setUp()
-        for file in ("bench/run", "bench/report.py", "tools/modules/x86_64.sh"):
+        for file in ("bench/run", "bench/report.py", "tools/modules/x86_64.sh", "tools/staticlib", "tools/modules/archive.py", "tools/modules/usage.py"):
             self.program(file, (ROOT / file).read_text())
+        for crate in (archive.CALLS, archive.TOTALS):
+            self.put(f"crates/{archive.thin(crate)}/out/lib{archive.thin(crate)}.a", "")
         self.page = self.put("docs/BENCH.md", "as it was\n")
         narrow = itertools.product(self.TAPES, ["narrow"], (128, 256, 512, 1024), self.CALLS)
         wide = itertools.product(self.TAPES + self.DEEP, ["wide"], [1024], self.CALLS)
@@ -48,7 +50,7 @@ class Bench(InFolder):
         for program, printed in ("driver", figures), ("trees", trees), ("index", index), ("totals", totals):
             self.program(program, f"#!/bin/sh\ncat <<'END'\n{printed}END\n")
         self.program("bin/uname", "#!/bin/sh\necho x86_64\n")
-        self.program("bin/rt", "#!/bin/sh\n")
+        self.program("bin/rt", "#!/bin/sh\n[ \"$*\" = lib ] || exit 2\n")
         self.program("bin/cc", "#!/bin/sh\nif [ \"$*\" = --version ]; then echo cc of a test; else cp driver trees index totals target/bench; fi\n")
         (self.folder / "bin/python3").symlink_to(sys.executable)
 
@@ -178,7 +180,34 @@ class CheckAll(InFolder):
         """Every command of tools/ that tests or compares is in the list."""
         run = {check.command.split()[0] for check in self.command.CHECKS}
         checking = {f"tools/{path.name}" for path in COMMANDS if path.name.startswith(("check_", "compare_", "test_"))}
-        self.assertEqual(run, checking - {"tools/check_all"} | {"rt", "examples/run"})
+        self.assertEqual(run, checking - {"tools/check_all"} | {"examples/run"})
+
+
+class CheckLayout(InFolder):
+    """tools/check_layout, with a toolchain that is made up here: it lays files out by a line at their end, and cannot read those that are named bad."""
+
+    def test_layout(self):
+        command = loaded("check_layout")
+        command.ROOT = self.folder
+        self.program("bin/rt", "#!/bin/sh\n[ \"$*\" = fmt ] || exit 2\nfor file in $(find . -name '*.rt' -o -name '*.antt'); do\n"
+                               "grep -q laid $file || echo laid >>$file\ndone\n[ ! -e src/bad.rt ] || { echo bad; exit 1; }\n")
+        for file in ("crates/one/src/lib.rt", "crates/one/specs/A.antt", "crates/two/src/lib.rt", "crates/two/proofs/f/Proof.antt"):
+            self.put(file, "laid\n")
+        for file in ("crates/one/out/rlib/x.rt", "crates/one/must-fail/x.edit", "crates/two/stdout", "crates/gone/out/x.rt", "docs/x.rt"):
+            self.put(file, "not\n")
+        self.assertEqual(self.check(command), (0, "4 files, 0 of them not laid out\n"))
+        proof = self.put("crates/two/proofs/f/Proof.antt", "not\n")
+        said = "crates/two/proofs/f/Proof.antt is not laid out as rt fmt lays it out\n"
+        self.assertEqual(self.check(command), (1, f"{said}4 files, 1 of them not laid out\n"))
+        self.assertEqual(proof.read_text(), "not\n")
+        self.put("crates/one/src/bad.rt", "laid\n")
+        self.assertEqual(self.check(command), (1, f"bad\n{said}5 files, 2 of them not laid out\n"))
+        (self.folder / "bin/rt").unlink()
+        self.assertEqual(self.check(command, "/nowhere")[0], usage.NOT_RUN)
+
+    def check(self, command, path="/usr/bin:/bin"):
+        with unittest.mock.patch.object(sys, "argv", ["check_layout"]), unittest.mock.patch.dict(os.environ, PATH=f"{self.folder}/bin:{path}"):
+            return printed(command.main)
 
 
 class CheckMade(InFolder):
@@ -188,7 +217,7 @@ class CheckMade(InFolder):
         at_root = "#!/bin/sh\ncd \"$(dirname \"$0\")/..\"\n"
         self.program("tools/make_other", at_root + "cp samples/made crates/cases/stdin\nrm -f crates/cases/old\n")
         self.program("tools/make_samples", at_root + "echo made >samples/made\n")
-        for file in ("samples/made", "crates/cases/stdin", "crates/cases/old"):
+        for file in ("samples/made", "crates/cases/stdin", "crates/cases/old", "crates/cases/out/x"):
             self.put(file, "made\n")
         (self.folder / "crates/folders").mkdir()
         before = command.held(self.folder)
@@ -231,20 +260,23 @@ class Archive(InFolder):
         self.addCleanup(root.stop)
         self.code = self.put("crates/one/src/lib.rt", "")
         self.put("crates.txt", "")
+        for crate in (archive.CALLS, archive.TOTALS):
+            self.put(f"crates/{archive.thin(crate)}/out/kept", "")
         path = unittest.mock.patch.dict(os.environ, PATH=f"{self.folder}/bin")
         path.start()
         self.addCleanup(path.stop)
 
     def rt(self, crate, text):
-        self.program("bin/rt", f"#!/bin/sh\n[ \"$*\" = 'staticlib {crate}' ] && [ -f crates.txt ] || exit 2\n{text}\n")
+        """It is run in the thin crate above the one that is named."""
+        self.program("bin/rt", f"#!/bin/sh\n[ \"$*\" = lib ] && [ \"$PWD\" = '{self.folder}/crates/{archive.thin(crate)}' ] || exit 2\n{text}\n")
 
     def test_built_where_it_must(self):
         for crate in (archive.CALLS, archive.TOTALS):
-            self.put("target/staticlib/other", "")
             os.utime(self.code, (1, 1))
-            self.rt(crate, f"echo made >{archive.library(crate)}")
+            self.rt(crate, f"echo made >out/lib{archive.thin(crate)}.a")
             self.assertTrue(archive.needs_building(crate))
-            self.assertEqual(printed(lambda: archive.build_where_needed(crate)), (None, f"building target/staticlib/lib{crate}.a: rt staticlib {crate}\n"))
+            self.assertEqual(printed(lambda: archive.build_where_needed(crate)), (None, f"building target/staticlib/lib{crate}.a: tools/staticlib {crate}\n"))
+            self.assertEqual((self.folder / archive.library(crate)).read_text(), "made\n")
             self.assertFalse(archive.needs_building(crate))
             self.assertEqual(printed(lambda: archive.build_where_needed(crate)), (None, ""))
             later = (self.folder / archive.library(crate)).stat().st_mtime + 5
@@ -257,6 +289,71 @@ class Archive(InFolder):
         self.assertIn("NOT RUN: target/staticlib/libsilmezga_c.a is not there or is older than the code, and there is no command rt", said)
         self.rt("totals_c", "echo wrong; exit 1")
         self.assertIn("wrong\nthe library is not built", printed(lambda: archive.build(archive.TOTALS))[0])
+        self.assertFalse((self.folder / archive.library(archive.TOTALS)).exists())
+
+    def test_command(self):
+        """It says what the toolchain says, and ends as that does."""
+        command, there = loaded("staticlib"), self.folder / archive.library(archive.CALLS)
+        self.rt(archive.CALLS, f"echo made >out/lib{archive.thin(archive.CALLS)}.a")
+        for words, wanted in ((["silmezga_c"], 0), (["totals_c"], 2), (["silmezga_c_c"], 2), ([], 2), (["silmezga_c", "totals_c"], 2)):
+            there.unlink(missing_ok=True)
+            with unittest.mock.patch.object(sys, "argv", ["staticlib", *words]):
+                self.assertEqual(printed(command.main)[0], wanted, words)
+            self.assertEqual(there.exists(), wanted == 0)
+        (self.folder / "bin/rt").unlink()
+        with unittest.mock.patch.object(sys, "argv", ["staticlib", "silmezga_c"]):
+            self.assertEqual(printed(command.main), (usage.NOT_RUN, "NOT RUN: there is no command rt on the path\n"))
+
+
+class Thin(unittest.TestCase):
+    """The crates that are built as libraries for C, each over the crate that it is named after."""
+
+    def exports(self, crate):
+        """What stands before the body of each exported call, its comment too."""
+        text = (ROOT / "crates" / crate / "src/lib.rt").read_text(encoding="utf-8")
+        return dict((name, head) for head, name in re.findall(r"(?m)^((?://.*\n)*#\[unsafe\(no_mangle\)\]\npub extern \"C\" fn (\w+)(?:.*\n)+?)\{$", text))
+
+    def test_same_promises(self):
+        """They export what the header declares, each call with the same words and clauses as the crate below has, which it calls with what it is given."""
+        for crate, header in ((archive.CALLS, "silmezga.h"), (archive.TOTALS, "totals.h")):
+            said = self.exports(archive.thin(crate))
+            declared = re.findall(rf"(?m)^\w+ ({header[:-2]}_\w+)\(", (ROOT / "include" / header).read_text())
+            self.assertEqual(sorted(said), sorted(declared))
+            self.assertEqual(said, self.exports(crate))
+            text = (ROOT / "crates" / archive.thin(crate) / "src/lib.rt").read_text(encoding="utf-8")
+            bodies = re.findall(r"(?m)^\{\n    (.*)\n\}$", text)
+            given = [", ".join(re.findall(r"(\w+): ", head.partition("fn ")[2].partition(" -> ")[0])) for head in said.values()]
+            self.assertEqual(bodies, [f"{crate}::{name}({words})" for name, words in zip(said, given)])
+
+
+class Gate(InFolder):
+    """.ci/run, with a toolchain that is made up here."""
+
+    def gate(self, said, status=0):
+        """The status, and what is written to standard output and error, where rt says this."""
+        self.program(".ci/run", (ROOT / ".ci/run").read_text())
+        self.program("bin/rt", f"#!/bin/sh\n[ \"$*\" = version ] && exec cat version\n[ \"$*\" = ci ] && [ -f crates.txt ] || exit 9\ncat said\nexit {status}\n")
+        for file, text in (("said", said), ("crates.txt", ""), ("toolchain.txt", "a kit\n")):
+            self.put(file, text)
+        done = subprocess.run([self.folder / ".ci/run"], cwd="/", env={"PATH": f"{self.folder}/bin:/usr/bin:/bin"},
+                              stdout=subprocess.PIPE, stderr=subprocess.PIPE, text=True)
+        return done.returncode, done.stdout, done.stderr
+
+    def test_outcomes(self):
+        self.put("version", "a kit\n")
+        ok, ended = "rt: ok; handles allowed: none; must-fail edits: 180 refused", "; every proof and must-fail edit was done in this run\n214 passed, 0 failed\n"
+        for said in (ok + ended, f"  a\\b\trt: ok, 2 bad\n{ok}, 2 of them only by a limit{ended}", f"rt: note: bad must-fail edits, as told above: 1.\n{ok}{ended}"):
+            self.assertEqual(self.gate(said), (0, said, ""))
+        for bad in (", 1 bad", ", 2 of them only by a limit, 13 bad"):
+            self.assertEqual(self.gate(ok + bad + ended), (1, ok + bad + ended, ".ci/run: FAILED: must-fail edits are bad, as told above\n"))
+        for status in (1, 2):
+            said = "rt: FAILED: low\n3 passed, 1 failed\n"
+            self.assertEqual(self.gate(said, status), (status, said, ""))
+
+    def test_another_toolchain(self):
+        self.put("version", "another kit\n")
+        self.assertEqual(self.gate("214 passed, 0 failed\n"), (0, "214 passed, 0 failed\n",
+                         ".ci/run: this project is proved with the toolchain 'a kit', and here is 'another kit'\n"))
 
 
 class CheckCopies(InFolder):

@@ -1,5 +1,5 @@
 # To be sourced: how programs over the archive are built and run. The archive is for x86-64; on another machine C is cross-compiled and
-# the kit's emulator runs the result. Sets, each empty where there is none:
+# an emulator runs the result. Sets, each empty where there is none:
 #   x86_64_cc        the C compiler for x86-64, and $x86_64_no_cc says what is missing
 #   x86_64_run       the emulator to put before a program, and $x86_64_no_run says what is missing
 machine=$(uname -m)
@@ -16,10 +16,5 @@ else
     else
         x86_64_no_cc="no C compiler for x86-64 (x86_64-linux-gnu-gcc); on Debian: apt install gcc-x86-64-linux-gnu"
     fi
-    kit=${RATTLE_HOME:-$(dirname "$(dirname "$(readlink -f "$(command -v rt)")")")}
-    x86_64_run=$kit/on/$machine/toolchain/bin/qemu-x86_64
-    if [ ! -x "$x86_64_run" ]; then
-        x86_64_no_run="the kit at $kit has no emulator of x86-64 for this machine, $machine"
-        x86_64_run=''
-    fi
+    x86_64_run=$(command -v qemu-x86_64) || x86_64_no_run="no emulator of x86-64 for this machine, $machine (qemu-x86_64); on Debian: apt install qemu-user"
 fi

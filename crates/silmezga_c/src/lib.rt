@@ -1,7 +1,8 @@
 // The calls for programs in C and Rust: the same calls and the same promises as `silmezga`'s, under C's calling convention. What C cannot
 // take is told in numbers: the width as its levels, the verdict as its number and two values, the second answer as 1 or 0, and a row's own
 // bytes as the place in the caller's table where they stand. An enum of C may hold any number: 8 is eight levels, and every other number
-// six. `include/silmezga.h` declares what is exported here. None asks anything of its caller beyond slices that are there.
+// six. `include/silmezga.h` declares these calls, and `silmezga_c_c`, built over this crate as an archive, exports them: a crate is a library or an archive,
+// not both. None asks anything of its caller beyond slices that are there.
 #![tactic(auto)]
 
 ghost use Rattle.std.specs.Prelude.{◌≡◌, [], ◌∷◌, map};

@@ -1,6 +1,6 @@
 // Both calls for programs in C and Rust: the same calls and the same promises as those of `totals`, under C's calling convention. The width is told by its
-// levels, as in `silmezga_c`: 8 is eight levels, and every other number six. `include/totals.h` declares what is exported here. Neither asks anything of its
-// caller beyond slices that are there.
+// levels, as in `silmezga_c`: 8 is eight levels, and every other number six. `include/totals.h` declares both, and `totals_c_c`, built over this crate as an
+// archive, exports them. Neither asks anything of its caller beyond slices that are there.
 #![tactic(auto)]
 
 ghost use Rattle.std.specs.Prelude.{◌≡◌, ◌+ℤ◌};

@@ -1,0 +1,230 @@
+// The archive for C: each call of `silmezga_c` under the name that `include/silmezga.h` declares, with the same promise. A crate is a library or an archive, not
+// both, and `silmezga_c` is the library. `tools/staticlib silmezga_c` builds this one and puts it where C programs look for it,
+// target/staticlib/libsilmezga_c.a.
+#![tactic(auto)]
+
+ghost use Rattle.std.specs.Prelude.{◌≡◌, map};
+ghost use Rattle.paper.specs.Format.{base, eight};
+ghost use Rattle.paper.specs.Widths.{move_table, move_shape};
+ghost use Rattle.paper.specs.Calls.{examine, adorn, judge, summarise};
+ghost use Rattle.paper.specs.Labels.{convert};
+ghost use Rattle.paper.specs.Index.{judge_with, summarise_with};
+ghost use Rattle.grammar.specs.Typed.{print_tree};
+ghost use Rattle.tables.specs.Reply.{examined};
+ghost use Rattle.adorned.specs.Lent.{told, adorned_types};
+ghost use Rattle.indexes.specs.Built.{Builds};
+ghost use Rattle.reshaping.specs.Reshaped.{Reshapes, ReshapesWith, summarised};
+ghost use Rattle.widths.specs.Answers.{Moves};
+ghost use Rattle.labels.specs.Answers.{Converts};
+ghost use Rattle.typed.specs.Read.{ReadsTree};
+ghost use Rattle.spelling.specs.Printed.{Prints};
+ghost use Rattle.silmezga_c.specs.Told.{format_numbered, LooksUp, in_four, four_numbers};
+
+use adorned::TypeSummary;
+use adorned::lent::AdornedTypes;
+use reshaping::reshape::Reshaped;
+use reshaping::summarise::Summary;
+use silmezga::{Converted, IndexBuilt, Moved, TreePrinted, TreeRead};
+use silmezga_c::{JudgedNumbers, LookedUp};
+use tables::table::Examined;
+
+// Refusals 1 to 3, or the count of rows.
+#[unsafe(no_mangle)]
+pub extern "C" fn silmezga_examine(width: u32, table: &[u8]) -> Examined
+    ensures { examined result ≡ examine (format_numbered width) table.now }
+{
+    silmezga_c::silmezga_examine(width, table)
+}
+
+// Refusals 1 to 3, then 11, or where the row stands.
+#[unsafe(no_mangle)]
+pub extern "C" fn silmezga_look_up(width: u32, table: &[u8], row: usize) -> LookedUp
+    ensures { LooksUp (format_numbered width) table.now row result }
+{
+    silmezga_c::silmezga_look_up(width, table, row)
+}
+
+// Refusals 1 to 4, then 10, or the count of types, with one summary a type at the front of what was lent; what lies past them stays as it
+// was.
+#[unsafe(no_mangle)]
+pub extern "C" fn silmezga_adorn(
+    width: u32,
+    table: &[u8],
+    summaries: &mut [TypeSummary],
+) -> AdornedTypes
+    ensures result_value { adorned_types result ≡ (adorn (format_numbered width) table.now (map told summaries.old)).reply }
+    ensures summaries_after { map told summaries.new ≡ (adorn (format_numbered width) table.now (map told summaries.old)).summaries }
+{
+    silmezga_c::silmezga_adorn(width, table, summaries)
+}
+
+// Refusals 1 to 7, or the verdict and the second answer in numbers, and the numbers of each edge.
+#[unsafe(no_mangle)]
+pub extern "C" fn silmezga_judge(width: u32, table: &[u8], shape: &[u8]) -> JudgedNumbers
+    ensures { in_four result ≡ four_numbers (judge (format_numbered width) table.now shape.now) }
+{
+    silmezga_c::silmezga_judge(width, table, shape)
+}
+
+// Refusals 1 to 8, or the new table and its source list, at the front of what was lent; what lies past them stays as it was. Where the
+// verdict on the same table and shape is 0, what the call leaves keeps the links between records, none missing and none made up. Where the
+// second answer is yes, none is made up whatever the verdict. The row that verdict 1 names is in no line of the entry that it names. A new
+// table of at most 1,024 lines is a sound source: no call refuses it with 1 to 4. Directly beneath each line stand of each child entry as many lines as
+// its source row has closest rows of that entry's type, and so between the two numbers of children that judging says of it.
+#[unsafe(no_mangle)]
+pub extern "C" fn silmezga_reshape(
+    width: u32,
+    table: &[u8],
+    shape: &[u8],
+    new: &mut [u8],
+    sources: &mut [u32],
+) -> Reshaped
+    ensures { Reshapes (format_numbered width) table.now shape.now new.old sources.old result new.new sources.new }
+{
+    silmezga_c::silmezga_reshape(width, table, shape, new, sources)
+}
+
+// Refusals 1 to 8, with room for 4,096 lines, or for each of 16 entries its lines, source rows, copies and different source rows.
+#[unsafe(no_mangle)]
+pub extern "C" fn silmezga_summarise(width: u32, table: &[u8], shape: &[u8]) -> Summary
+    ensures { summarised result ≡ summarise (format_numbered width) table.now shape.now }
+{
+    silmezga_c::silmezga_summarise(width, table, shape)
+}
+
+// Refusals 1 to 3, then 29, or the count of rows, with the table of eight levels at the front of what was lent; what lies past it stays as it was.
+#[unsafe(no_mangle)]
+pub extern "C" fn silmezga_widen_table(table: &[u8], new: &mut [u8]) -> Moved
+    ensures { Moves (move_table base eight table.now new.old) result new.new }
+{
+    silmezga_c::silmezga_widen_table(table, new)
+}
+
+// Refusals 1 to 3, then 24, then 29, or the count of rows, with the table of six levels at the front of what was lent; what lies past it
+// stays as it was.
+#[unsafe(no_mangle)]
+pub extern "C" fn silmezga_narrow_table(table: &[u8], new: &mut [u8]) -> Moved
+    ensures { Moves (move_table eight base table.now new.old) result new.new }
+{
+    silmezga_c::silmezga_narrow_table(table, new)
+}
+
+// Refusals 5 and 6, then 29, or the count of entries, with the shape of eight levels at the front of what was lent; what lies past it stays as
+// it was.
+#[unsafe(no_mangle)]
+pub extern "C" fn silmezga_widen_shape(shape: &[u8], new: &mut [u8]) -> Moved
+    ensures { Moves (move_shape base eight shape.now new.old) result new.new }
+{
+    silmezga_c::silmezga_widen_shape(shape, new)
+}
+
+// Refusals 5 and 6, then 24, then 29, or the count of entries, with the shape of six levels at the front of what was lent; what lies past it
+// stays as it was.
+#[unsafe(no_mangle)]
+pub extern "C" fn silmezga_narrow_shape(shape: &[u8], new: &mut [u8]) -> Moved
+    ensures { Moves (move_shape eight base shape.now new.old) result new.new }
+{
+    silmezga_c::silmezga_narrow_shape(shape, new)
+}
+
+// Refusals 1 to 3, 5 and 6 on the old range of labels, then 25, 26 and 29, or the counts of rows and entries, with the converted table and shape
+// at the front of what was lent for each; what lies past them stays as it was.
+#[unsafe(no_mangle)]
+pub extern "C" fn silmezga_convert_labels(
+    width: u32,
+    table: &[u8],
+    shape: &[u8],
+    pairs: &[u16],
+    new_table: &mut [u8],
+    new_shape: &mut [u8],
+) -> Converted
+    ensures { let asked = convert (format_numbered width) table.now shape.now pairs.now new_table.old new_shape.old in
+        Converts asked result new_table.new new_shape.new }
+{
+    silmezga_c::silmezga_convert_labels(width, table, shape, pairs, new_table, new_shape)
+}
+
+// Refusals 1 to 4, 12, 5, 6, 13 and 29, or the count of entries, with the shape of the typed tree at the front of what was lent; what lies past it
+// stays as it was.
+#[unsafe(no_mangle)]
+pub extern "C" fn silmezga_read_tree(
+    width: u32,
+    table: &[u8],
+    text: &[u8],
+    shape: &mut [u8],
+) -> TreeRead
+    ensures { ReadsTree (format_numbered width) table.now text.now shape.old result shape.new }
+{
+    silmezga_c::silmezga_read_tree(width, table, text, shape)
+}
+
+// Refusals 5, 6 and 29, or the count of bytes, with the shape's line of text at the front of what was lent; what lies past it stays as it was.
+#[unsafe(no_mangle)]
+pub extern "C" fn silmezga_print_tree(width: u32, shape: &[u8], text: &mut [u8]) -> TreePrinted
+    ensures { Prints (print_tree (format_numbered width) shape.now text.old) result text.new }
+{
+    silmezga_c::silmezga_print_tree(width, shape, text)
+}
+
+// Refusals 1 to 3, then 14, or the count of rows, with each row's last descendant and the next row of its type at the front of what was lent; places
+// past the rows stay as they were.
+#[unsafe(no_mangle)]
+pub extern "C" fn silmezga_build_index(
+    width: u32,
+    table: &[u8],
+    last: &mut [u16],
+    next: &mut [u16],
+) -> IndexBuilt
+    ensures { Builds (format_numbered width) table.now last.old next.old result last.new next.new }
+{
+    silmezga_c::silmezga_build_index(width, table, last, next)
+}
+
+// Refusals 1 to 4, then 14 and 15 of the lists, then 5 to 7, or the verdict and the second answer in numbers, and the numbers of each edge. Where the
+// lists are this table's, everything is as without an index.
+#[unsafe(no_mangle)]
+pub extern "C" fn silmezga_judge_with_index(
+    width: u32,
+    table: &[u8],
+    shape: &[u8],
+    last: &[u16],
+    next: &[u16],
+) -> JudgedNumbers
+    ensures { let asked = judge_with (format_numbered width) table.now shape.now last.now next.now in
+        in_four result ≡ four_numbers asked }
+{
+    silmezga_c::silmezga_judge_with_index(width, table, shape, last, next)
+}
+
+// Refusals 1 to 4, then 14 and 15 of the lists, then 5 to 8, or the new table and its source list, at the front of what was lent; what lies past them
+// stays as it was. Where the lists are this table's, everything is as without an index, with all that is promised of that call.
+#[unsafe(no_mangle)]
+pub extern "C" fn silmezga_reshape_with_index(
+    width: u32,
+    table: &[u8],
+    shape: &[u8],
+    last: &[u16],
+    next: &[u16],
+    new: &mut [u8],
+    sources: &mut [u32],
+) -> Reshaped
+    ensures { let promised = ReshapesWith (format_numbered width) table.now shape.now last.now next.now in
+        promised new.old sources.old result new.new sources.new }
+{
+    silmezga_c::silmezga_reshape_with_index(width, table, shape, last, next, new, sources)
+}
+
+// Refusals 1 to 4, then 14 and 15 of the lists, then 5 to 8, with room for 4,096 lines, or the figures of each of 16 entries. Where the lists are this
+// table's, everything is as without an index.
+#[unsafe(no_mangle)]
+pub extern "C" fn silmezga_summarise_with_index(
+    width: u32,
+    table: &[u8],
+    shape: &[u8],
+    last: &[u16],
+    next: &[u16],
+) -> Summary
+    ensures { summarised result ≡ summarise_with (format_numbered width) table.now shape.now last.now next.now }
+{
+    silmezga_c::silmezga_summarise_with_index(width, table, shape, last, next)
+}
