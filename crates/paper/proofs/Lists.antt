@@ -11,14 +11,8 @@ use lib.ListN.{length, get_or, take, drop, length-append}
 use lib.Seq.{take_at}
 use borrow.Author.Tests.{eqb-true, eq-eqb, ne_eqb, leb-true, leb-false}
 use Rattle.paper.specs.Lists.{Has, keep, all, any, is_empty, last_or, between, most, least, joined, join_map, same, up, count}
+
 -- A wrong definition is refused first by the sample that it breaks, so the samples stand before every law.
-use Rattle.paper.specs.samples.Marked
-use Rattle.paper.specs.samples.Tried
-use Rattle.paper.specs.samples.Further
-use Rattle.paper.specs.samples.Widths
-use Rattle.paper.specs.samples.Labels
-use Rattle.paper.specs.samples.Partners
-use Rattle.paper.specs.samples.Index
 
 -- ---- tests
 pub both : (a b : Bool) → a && b ≡ true → (a ≡ true) × (b ≡ true)

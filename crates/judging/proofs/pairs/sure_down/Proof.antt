@@ -4,7 +4,6 @@ use native.Mathlib.Omega.{arith}
 use mathlib.Core.Path.{◌≡◌, refl, sym, ◌∙◌, ap}
 use lib.ListN.{drop}
 use borrow.Author.Rules.{rules}
-use borrow.Author.Tests.{not-true, not-false}
 use Rattle.shapes.specs.Ways.{way_at}
 use Rattle.judging.specs.Pairs.{WayFits, way_of, sure_on}
 use Rattle.judging.proofs.Ways.{fits_read, way_within, way_entry, sure_found, sure_lost, sure_step, sure_end}

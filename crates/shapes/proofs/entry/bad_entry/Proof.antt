@@ -1,7 +1,6 @@
 -- `entry::bad_entry`: the entries so far keep the rules. Assumes nothing.
 use native.Mathlib.Omega.{arith}
 use borrow.Author.Rules.{rules}
-use borrow.Author.Tests.{not-true, not-false}
 use Prim.Native.Nat.{◌-◌}
 use mathlib.Core.Path.{◌≡◌, sym, ◌∙◌, ap}
 use Rattle.paper.specs.Format.{entry_bytes, whole}

@@ -1,6 +1,5 @@
 -- `entry::entry_kept`: each test decides one rule. Assumes nothing.
 use borrow.Author.Rules.{rules}
-use borrow.Author.Tests.{not-true, not-false}
 use mathlib.Core.Path.{sym, ◌∙◌}
 use Rattle.shapes.proofs.Kept.{below, above, within, wrong_level, wrong_size, spare_set, wrong_label, past_set, level_decides}
 use Rattle.shapes.proofs.entry.entry_kept.Statement.{statement}

@@ -5,7 +5,6 @@ use mathlib.Core.Path.{◌≡◌, sym, ◌∙◌, ap, ap₂, subst}
 use mathlib.Core.List.{[]}
 use lib.ListN.{length}
 use borrow.Author.Rules.{rules}
-use borrow.Author.Tests.{not-true, not-false}
 use Rattle.paper.specs.Format.{row_bytes, whole, byte}
 use Rattle.paper.specs.Tables as Tables
 use Rattle.paper.specs.Tables.{row_of, dewey, row_kept, bad_row}
