@@ -9,8 +9,8 @@
  *
  * The archive is target/staticlib/libsilmezga_c.a, made by `tools/staticlib silmezga_c`. It is for x86-64 Linux, and all that it takes from other
  * libraries is memcpy and memset. This header is C99 and C++. Calls from several threads do not disturb each other, as long as nothing
- * that one of them writes to is lent to another. Reshaping and summarising took at most 64 KB of stack when measured,
- * building an index at most 20 KB, the others at most 10 KB; the proofs say nothing of stack.
+ * that one of them writes to is lent to another. Measured with an older toolchain, reshaping and
+ * summarising took at most 64 KB of stack, building an index at most 20 KB, the others at most 10 KB; the proofs say nothing of stack.
  *
  * What a caller owes
  *   - A pointer and the length behind it tell of memory that is there: `table` has table_len bytes, and so on. No length passes the
