@@ -1,4 +1,3 @@
 pub mod Marks
-pub mod Rows
 pub mod Chained
 pub mod Fits

@@ -30,6 +30,7 @@ fn width_of(levels: usize) -> Width {
 }
 
 // The bytes of so many records of a table, and of those past them.
+#[tactic(auto, using(crate::proofs::Fits::records_few))]
 fn bytes_lent(width: Width, records: usize, past: usize) -> usize
     requires { (records < 65536) × (past < 256) }
 {

@@ -18,6 +18,7 @@ pub fn print_examined(said: u32, t: &[u8]) {
 }
 
 // The place of each row, and two past the last.
+#[tactic(auto, using(crate::proofs::Fits::records_half))]
 fn places_asked(width: Width, t: &[u8]) -> usize
     ensures { 2 * result ≤ length t.now + 4 }
 {

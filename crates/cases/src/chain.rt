@@ -9,6 +9,7 @@ use silmezga::{Reshaped, Width, reshape};
 use tables::row::smaller;
 
 // Reshapes the first lines of a new table: it is accepted, or refused for the shape or the room.
+#[tactic(auto, using(crate::proofs::Chained::past4))]
 fn reshape_again(
     width: Width,
     new: &[u8],
@@ -51,6 +52,7 @@ fn print_again(width: Width, new: &[u8], lines: usize, again: &[u8])
 }
 
 // A refused reshape leaves no table, and one of more than 1,024 lines is no source.
+#[tactic(auto, using(crate::proofs::Chained::leaves_source))]
 fn print_both(width: Width, t: &[u8], s: &[u8], again: &[u8], new: &mut [u8], sources: &mut [u32]) {
     let first = reshape(width, t, s, new, sources);
     let lines = first.lines;

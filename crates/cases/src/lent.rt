@@ -9,6 +9,7 @@ use silmezga::{Reshaped, Width};
 use tables::row::smaller;
 
 // The bytes of a table's record: 24 or 28.
+#[tactic(auto, using(octets::proofs::Laws::format_served))]
 pub fn record_bytes(width: Width) -> usize
     ensures { (result ≡ row_bytes (format_of width)) × (1 < result) × (result ≤ 28) }
 {

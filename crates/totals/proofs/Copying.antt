@@ -27,6 +27,7 @@ module _ (s : List ℕ) (i : ℕ) where
   }
 
   set_first : (l : List ℕ) (a : ℕ) → 0 < length l → set l 0 a ≡ a ∷ drop 1 l
+  set_first [] a h = elim h [ ]
   set_first (x ∷ l) a h = refl
 
   pub copied_first : {n : ℕ} (l : List ℕ) (k a : ℕ) → 0 < k → i + k ≤ length s → Copied n l k → take k (set l 0 a) ≡ a ∷ drop 1 (take k (drop i s))

@@ -9,7 +9,7 @@ use lib.Seq.{get_or-take, get_or-drop, take-append_seam, drop-drop}
 use Rattle.paper.specs.Lists.{Has}
 use Rattle.paper.specs.Format.{Format, most_rows, value_bytes, row_bytes, entry_bytes, span, signed, records, whole}
 use Rattle.paper.specs.Tables.{Row, row_of, rows}
-use Rattle.paper.specs.Closeness.{Node, nodes}
+use Rattle.paper.specs.Closeness.{Node}
 use Rattle.paper.specs.Shapes.{entries, kind}
 use Rattle.paper.specs.Calls.{Work, room_in, reshape}
 use Rattle.reshaping.specs.Reshaped.{Reshapes}

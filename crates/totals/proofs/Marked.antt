@@ -10,7 +10,7 @@ use lib.Seq.{take-append_seam}
 use Rattle.paper.specs.Lists.{Has, keep}
 use Rattle.paper.specs.Format.{Format, most_rows, most_entries, most_lines}
 use Rattle.paper.specs.Closeness.{Node}
-use Rattle.paper.specs.NewTable.{Line, lines, source_list}
+use Rattle.paper.specs.NewTable.{Line, source_list}
 use Rattle.paper.specs.Figures.{Figures, entry_lines, appears, figures}
 use Rattle.paper.specs.Calls.{Reply, given, Work, tests1_7, test8, room_in, summarise}
 use Rattle.reshaping.specs.Reshaped.{Reshapes}

@@ -6,7 +6,6 @@ use lib.Dec.{leb, ltb}
 use lib.ListN.{length, drop, length-map}
 use borrow.Author.Tests.{ltb-false, le-ltb}
 use Rattle.paper.specs.Format.{Format, most_lines}
-use Rattle.paper.specs.Tables.{rows}
 use Rattle.paper.specs.NewTable.{Line, lines, source_list}
 use Rattle.paper.specs.Calls.{Answer, refused, given, ◌>>=◌, refuse, refuse_at, Work}
 use Rattle.paper.specs.Calls.{tests1_7, test8, room_in, reshaping, reshape_rows, reshape}

@@ -4,7 +4,7 @@ use mathlib.Core.Bool.{true, false}
 use Prim.Native.Nat.{◌*◌}
 use mir.Syntax.{w64}
 use mir.Val.{to_z, of_z}
-use borrow.Author.Tests.{le-leb, lt-leb, not-true, not-false}
+use borrow.Author.Tests.{le-leb, lt-leb}
 use Rattle.totals.specs.Sums.{within}
 use Rattle.totals.specs.Total.{most_tapes, most_sum}
 use Rattle.totals.proofs.TakingIn.{cannot_is}
@@ -27,7 +27,7 @@ returns-2 c =
     let x = s.args.total in
     let shown : to_z w64 (of_z w64 x.shown) ≡ x.shown = search rules in
     cannot_is x false false (within (x.tapes * most_sum) x.unshown) (lt-leb most_tapes x.tapes e.if-tapes-ge1000.false)
-    (ap (within (x.tapes * most_sum)) (sym shown) ∙ sym l.lies_within.ensures ∙ not-true l.lies_within.result c.if-not-lies_within.true) refl
+    (ap (within (x.tapes * most_sum)) (sym shown) ∙ sym l.lies_within.ensures ∙ c.if-not-lies_within.true) refl
 
 returns-3 : tie.Need-returns
 returns-3 c =
@@ -41,7 +41,7 @@ returns-3 c =
     let shown : to_z w64 (of_z w64 x.shown) ≡ x.shown = search rules in
     let unshown : to_z w64 (of_z w64 x.unshown) ≡ x.unshown = search rules in
     cannot_is x false true c.lies_within-2.result (lt-leb most_tapes x.tapes e.if-tapes-ge1000.false)
-    (ap (within (x.tapes * most_sum)) (sym shown) ∙ sym l.lies_within.ensures ∙ not-false l.lies_within.result f.if-not-lies_within.false)
+    (ap (within (x.tapes * most_sum)) (sym shown) ∙ sym l.lies_within.ensures ∙ f.if-not-lies_within.false)
     (ap (within (x.tapes * most_sum)) (sym unshown) ∙ sym c.lies_within-2.ensures)
 
 pub cannot_be_spec : {M : Type 1} → statement M

@@ -28,7 +28,7 @@ returns c =
     let s : tie.Start = search in
     marks_lines (format_of s.args.width) s.args.table.now s.args.shape.now s.args.entry s.requires.0
     (replicate 114688 0) (replicate 4096 0) (room_for_lines s.args.width) x.reshape-written.ensures
-    s.args.marks.now m.mark_shown.last.1.1.1.0 s.requires.1 m.mark_shown.ensures
+    s.args.marks.now m.mark_shown.new.marks s.requires.1 m.mark_shown.ensures
 
 pub mark_lines_spec : {M : Type 1} → statement M
 mark_lines_spec =

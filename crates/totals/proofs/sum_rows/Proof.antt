@@ -34,15 +34,15 @@ array-share-prefix-alone c =
     let s : tie.Start = search in
     let e : tie.After-entry_bytes-bytes = search in
     let p : tie.After-put_alone = search in
-    omega (arith, e.entry_bytes-bytes.ensures, entry_most s.args.width, p.put_alone.kept)
+    omega (arith, e.entry_bytes-bytes.ensures, entry_most s.args.width, p.put_alone.auto.alone)
 
 slice-aggregate-reshape : tie.Need-slice_bounds-reshape-end
 slice-aggregate-reshape c =
     let s : tie.Start = search in
     let e : tie.After-entry_bytes-bytes = search in
     let p : tie.After-put_alone = search in
-    sym (length-take-le e.entry_bytes-bytes.result p.put_alone.last.1.1.1.0
-    (omega (arith, e.entry_bytes-bytes.ensures, entry_most s.args.width, p.put_alone.kept)))
+    sym (length-take-le e.entry_bytes-bytes.result p.put_alone.new.alone
+    (omega (arith, e.entry_bytes-bytes.ensures, entry_most s.args.width, p.put_alone.auto.alone)))
 
 add-up-requires : tie.Need-add_up-requires
 add-up-requires c κs =
@@ -60,7 +60,7 @@ add-up-requires c κs =
     let w = s.requires.0.work in
     let past = passed f t sb w s.requires.0.passes1_7 in
     let rows = listed f t sb w past s.args.entry s.requires.0.inside (replicate 28672 0) (replicate 1024 0) room
-    (take e.entry_bytes-bytes.result p.put_alone.last.1.1.1.0) is-alone x.reshape-listed.ensures in (
+    (take e.entry_bytes-bytes.result p.put_alone.new.alone) is-alone x.reshape-listed.ensures in (
       (rows.long, rows.few, s.requires.1, omega (arith, bytes, b.row_bytes.ensures), omega (arith, b.row_bytes.ensures, entry_most s.args.width)),
       subst (λ is. RowsOf b.row_bytes.result t is) (sym rows.rows_are)
           (subst (λ n. RowsOf n t (places (type_rows w s.args.entry))) (sym b.row_bytes.ensures) (rows_of f t sb w past s.args.entry)),
@@ -80,7 +80,7 @@ returns c w h =
     let room : 1024 ≤ room_in f (replicate 28672 0) (replicate 1024 0) = omega (arith, room_for_rows s.args.width) in
     let is-alone = p.put_alone.ensures ∙ ap (λ n. 1 ∷ drop 1 (take n (drop (n * s.args.entry) sb))) bytes in
     let rows = listed f t sb w (passed f t sb w h) s.args.entry s.requires.0.inside (replicate 28672 0) (replicate 1024 0) room
-    (take e.entry_bytes-bytes.result p.put_alone.last.1.1.1.0) is-alone x.reshape-listed.ensures in
+    (take e.entry_bytes-bytes.result p.put_alone.new.alone) is-alone x.reshape-listed.ensures in
     c.add_up.ensures
     ∙ (λ i. added_up (value_at (b.row_bytes.ensures i) (bytes i) t) (is_marked s.args.marks.now) (rows.rows_are i) (pos 0) (pos 0))
 

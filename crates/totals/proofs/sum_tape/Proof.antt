@@ -59,7 +59,7 @@ sum-rows-requires c κs =
     let t = tape (format_of s.args.width) s.args.table.now s.args.shape.now s.args.entry in (
       has-entry t.format t.table t.shape t.entry (summarised x.summarise-summary.result) x.summarise-summary.ensures a.if-number-ne0.false
           (subst (λ m. t.entry < length t.shape / m) n.entry_bytes.ensures b.if-shape-entry_bytes.false),
-      omega (arith, k.mark_rows.kept),
+      omega (arith, k.mark_rows.auto.marks),
     )
 
 returns-3 : tie.Need-returns
@@ -75,7 +75,7 @@ returns-3 c =
     told-together t y.sum_rows.result
     (summed-up t.format t.table t.shape t.entry (summarised x.summarise-summary.result) x.summarise-summary.ensures a.if-number-ne0.false
     (subst (λ m. t.entry < length t.shape / m) n.entry_bytes.ensures b.if-shape-entry_bytes.false)
-    k.mark_rows.last.1.1.1.1.1.0 k.mark_rows.ensures (summed y.sum_rows.result) y.sum_rows.ensures)
+    k.mark_rows.new.marks k.mark_rows.ensures (summed y.sum_rows.result) y.sum_rows.ensures)
 
 pub sum_tape_spec : {M : Type 1} → statement M
 sum_tape_spec =

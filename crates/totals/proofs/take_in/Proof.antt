@@ -13,7 +13,7 @@ returns c =
     let m : tie.After-sum_tape-sums = search in
     let s : tie.Start = search in
     let t = tape (format_of s.args.width) s.args.table.now s.args.shape.now s.args.entry in
-    c.false.ensures ∙ as_summed s.args.total t m.sum_tape-sums.result m.sum_tape-sums.ensures.0 c.before.if-number-ne0.true
+    c.left.ensures ∙ as_summed s.args.total t m.sum_tape-sums.result m.sum_tape-sums.ensures.0 c.before.if-number-ne0.true
 
 returns-2 : tie.Need-returns-then-cannot_be
 returns-2 c =

@@ -10,14 +10,14 @@ use Rattle.totals_c.proofs.totals_sum_tape.Tie as tie
 
 returns : tie.Need-returns
 returns c =
-    let k : tie.After-width-of = search in
+    let k : tie.After-width_of = search in
     let start : tie.Start = search in
     let a = start.args in
-    let r = c.sum-tape.result in
+    let r = c.sum_tape.result in
     subst (λ w.
     let t = tape (format_of w) a.table.now a.shape.now a.entry in
     (summed r ≡ sum_tape t) × (r.number ≡ 0 → r.shown +ℤ r.unshown ≡ sum_of_type t))
-    k.width_of_lem.ensures c.sum-tape.ensures
+    k.width_of.ensures c.sum_tape.ensures
 
-pub totals-sum-tape-spec : {M : Type 1} → statement M
-totals-sum-tape-spec = tie.close (tie.spec (λ c κs. search rules) (λ c κs. search rules) returns)
+pub totals_sum_tape_spec : {M : Type 1} → statement M
+totals_sum_tape_spec = tie.close (tie.spec (λ c κs. search rules) (λ c κs. search rules) returns)

@@ -9,11 +9,11 @@ use Rattle.totals_c.proofs.totals_take_in.Tie as tie
 
 returns : tie.Need-returns
 returns c =
-    let k : tie.After-width-of = search in
+    let k : tie.After-width_of = search in
     let start : tie.Start = search in
     let a = start.args in
     subst (λ w. taken c.take_in.result ≡ take_in a.total (tape (format_of w) a.table.now a.shape.now a.entry))
-    k.width_of_lem.ensures c.take_in.ensures
+    k.width_of.ensures c.take_in.ensures
 
-pub totals-take-in-spec : {M : Type 1} → statement M
-totals-take-in-spec = tie.close (tie.spec (λ c κs. search rules) (λ c κs. search rules) returns)
+pub totals_take_in_spec : {M : Type 1} → statement M
+totals_take_in_spec = tie.close (tie.spec (λ c κs. search rules) (λ c κs. search rules) returns)

@@ -8,11 +8,11 @@ use Rattle.totals_c.specs.Numbered.{width_of}
 use Rattle.totals_c.proofs.width_of.Statement.{statement}
 use Rattle.totals_c.proofs.width_of.Tie as tie
 
-returns : tie.Need-returns
-returns c = sym (ap width_of c.if1.true)
+returns : tie.Need-returns-then-number-eq8
+returns c = sym (ap width_of c.if-number-eq8.true)
 
-returns-2 : tie.Need-returns-2
-returns-2 c = sym (ap (λ b. elim b as (λ _. Width) [ true ↦ Eight | false ↦ Six ]) (ne_eqb c.before.args.number 8 c.if1.false))
+returns-2 : tie.Need-returns
+returns-2 c = sym (ap (λ b. elim b as (λ _. Width) [ true ↦ Eight | false ↦ Six ]) (ne_eqb c.before.args.number 8 c.if-number-eq8.false))
 
-pub width-of-spec : {M : Type 1} → statement M
-width-of-spec = tie.close (tie.spec returns returns-2)
+pub width_of_spec : {M : Type 1} → statement M
+width_of_spec = tie.close (tie.spec returns returns-2)

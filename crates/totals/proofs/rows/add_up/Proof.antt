@@ -7,7 +7,7 @@ use lib.Seq.{length-take-le}
 use native.Mathlib.Omega.{arith}
 use mir.Syntax.{w64}
 use mir.Val.{SFits, to_z}
-use borrow.Author.Tests.{eq-eqb, ne_eqb, not-true, not-false}
+use borrow.Author.Tests.{eq-eqb, ne_eqb}
 use Rattle.totals.specs.Sums.{within}
 use Rattle.totals.specs.Tape.{most_value}
 use Rattle.totals.specs.Rows.{value_at, is_marked}
@@ -41,19 +41,19 @@ row w =
 
 -- its value fits, and the test of it says whether it is in range
 fits : (v : tie.After-value_at-value invariant-loop decreases-loop) → SFits w64 v.value_at-value.result
-fits v = record { sfits = v.value_at-value.type-inv }
+fits v = record { sfits = v.value_at-value.type_inv }
 
 out_of_range : (t : tie.Then-not-lies_within invariant-loop decreases-loop) → within most_value t.before.before.value_at-value.result ≡ false
 out_of_range t =
     let q = t.before in
     tested q.before.value_at-value.result q.lies_within.result false (fits q.before) q.lies_within.ensures
-    (not-true q.lies_within.result t.if-not-lies_within.true)
+    t.if-not-lies_within.true
 
 in_range : (t : tie.Else-not-lies_within invariant-loop decreases-loop) → within most_value t.before.before.value_at-value.result ≡ true
 in_range t =
     let q = t.before in
     tested q.before.value_at-value.result q.lies_within.result true (fits q.before) q.lies_within.ensures
-    (not-false q.lies_within.result t.if-not-lies_within.false)
+    t.if-not-lies_within.false
 
 -- ---- the answers
 loop-holds : tie.Need-loop-k-init invariant-loop decreases-loop
@@ -80,7 +80,7 @@ add-shown c =
     let v : tie.After-value_at-value invariant-loop decreases-loop = search in
     let l : tie.At-loop-k invariant-loop decreases-loop = search in
     adding_fits l.loop-k.invariant.1 (row v.before) v.value_at-value.result v.value_at-value.ensures (in_range t) (omega arith) (fits v)
-    (to_z w64 l.loop-k.shown) l.loop-k.invariant.1.small
+    (to_z w64 l.loop-k.shown-bits) l.loop-k.invariant.1.small
 
 loop-again : tie.Need-loop-k-preserved-then-marks-row-eq1 invariant-loop decreases-loop
 loop-again c =
@@ -98,7 +98,7 @@ add-unshown c =
     let v : tie.After-value_at-value invariant-loop decreases-loop = search in
     let l : tie.At-loop-k invariant-loop decreases-loop = search in
     adding_fits l.loop-k.invariant.1 (row v.before) v.value_at-value.result v.value_at-value.ensures (in_range t) (omega arith) (fits v)
-    (to_z w64 l.loop-k.unshown) l.loop-k.invariant.1.small-unshown
+    (to_z w64 l.loop-k.unshown-bits) l.loop-k.invariant.1.small-unshown
 
 loop-again-2 : tie.Need-loop-k-preserved invariant-loop decreases-loop
 loop-again-2 c =

@@ -8,11 +8,11 @@ use Rattle.totals.proofs.rows.row_bytes.Tie as tie
 
 returns : tie.Need-returns-in-Six
 unfolding base
-returns c = sym (ap (λ w. row_bytes (format_of w)) c.enum_told-1.given.1)
+returns c = sym (ap (λ w. row_bytes (format_of w)) c.in-Six.is)
 
 returns-2 : tie.Need-returns-in-Eight
 unfolding eight
-returns-2 c = sym (ap (λ w. row_bytes (format_of w)) c.enum_told-in-Eight-1.given.1)
+returns-2 c = sym (ap (λ w. row_bytes (format_of w)) c.in-Eight.is)
 
 pub row_bytes_spec : {M : Type 1} → statement M
 row_bytes_spec = tie.close (tie.spec (λ c. search rules) (λ c. search rules) returns returns-2)

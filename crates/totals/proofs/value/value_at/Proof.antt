@@ -13,7 +13,7 @@ returns : tie.Need-returns
 returns c =
     let s : tie.Start = search in
     let long : tie.After-long = search in
-    to_z-of_z {w = w64} {z = c.with_sign.result} (record { sfits = c.with_sign.type-inv }) ∙ c.with_sign.ensures ∙ ap signed_bits long.long.ensures
+    to_z-of_z {w = w64} {z = c.with_sign.result} (record { sfits = c.with_sign.type_inv }) ∙ c.with_sign.ensures ∙ ap signed_bits long.long.ensures
     ∙ signed_bits_lem (span 8 s.args.b.now s.args.i)
 
 pub value_at_spec : {M : Type 1} → statement M
