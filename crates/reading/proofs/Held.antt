@@ -1,12 +1,12 @@
 -- What the walks over a `Reader` share: how a width, a table and a place, and a reader, go to a call, and what is kept beside it. All are Copy, so what they
 -- own is had twice.
---     width_is, width-typed       a width is what its machine value says, and that value is of its type
---     reader, onward, made-is     the reader of a width, a table and a place; the one a row on; and a reader with these fields is that one
+--     width_is, width_typed       a width is what its machine value says, and that value is of its type
+--     reader, onward, made_is     the reader of a width, a table and a place; the one a row on; and a reader with these fields is that one
 --     Asks-table, Asks-reader     what a call asks that takes a width, a table and a place, or a reader
 --     apart       a reader is taken apart for a call on its width, its table and its place, and kept
 --     lent        a width, a table and a place go to a call, and the table is kept
 --     passed      a reader that a call returned goes to the next call
---     make-said, row-said     what is known of a result of `make` and of `row`
+--     make_said, row-said     what is known of a result of `make` and of `row`
 -- Assumes `Logic`.
 use mathlib.Core.Path.{◌≡◌, refl}
 use Prim.Native.Nat.{ℕ, ◌<◌, ◌^◌}

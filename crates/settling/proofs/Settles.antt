@@ -1,7 +1,7 @@
 -- What it is for a call's own contract to ask nothing, and to settle what a caller sees: any two ways to meet it show the same. Assumes nothing.
 --     Asks-nothing, Settles      of what a caller must show and what it learns, as the borrow checker reads them off a contract: `Asked` and `Learnt`
 --     Settled, Promises      both of these; and that whatever a caller learns has a property
---     Says-as, Settled-too, Holds-too, settled-too, holds-too      a contract says what another says, and what is proved of the other holds of it
+--     Says-as, Settled-too, Holds-too, settled_too, holds_too      a contract says what another says, and what is proved of the other holds of it
 --     Walk-asks-nothing, Walk-settles, Walk-settled      of the clauses themselves, at every model of the logic: a walk has no such reading
 -- `shows` picks what a caller sees of the result and of the parameters at exit: of what was lent as `&mut`, its last value.
 use Prim.Native.Nat.{ℕ}
