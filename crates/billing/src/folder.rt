@@ -15,7 +15,7 @@ use std::rt::Files;
 use totals::Total;
 
 // What became of a folder: whether its line was written, whether it is refused, and the total afterwards.
-#[derive(Drop)]
+#[derive(Clone, Copy, Drop)]
 pub struct Step {
     pub written: bool,
     pub refused: bool,

@@ -12,7 +12,7 @@ use paper::Width;
 use totals::Total;
 
 // The number of a tape's refusal, 0 for none, the total afterwards, and the bytes of the tape's line.
-#[derive(Drop)]
+#[derive(Clone, Copy, Drop)]
 pub struct Billed {
     pub number: usize,
     pub total: Total,
