@@ -7,8 +7,8 @@ use lib.ListN.{length}
 use Rattle.grammar.specs.Text.{decimal}
 use Rattle.names.specs.Put.{Put}
 use Rattle.names.proofs.Putting.{as_long, put_as}
+
 -- A wrong definition is refused first by the sample that it breaks, so the samples stand before the laws.
-use Rattle.facts.specs.Samples
 
 -- A byte that has room leaves a place inside the buffer, or at its end.
 pub room : {l l' : List ℕ} {at i c : ℕ} → at < length l → Put l at (c ∷ []) l' i → i ≤ length l'

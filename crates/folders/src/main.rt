@@ -1,11 +1,8 @@
 // The gate's run of what the program does: every screen of every folder that is named, one after the other, with a heading each. What the
 // program reports to the command stands in the listing here. A word that begins with a space is a tree typed behind the folder that the word
-// before it names. Where a screen ends before all was read, a line says so. Last come histories of folders.
+// before it names. Where a screen ends before all was read, a line says so.
 #![tactic(auto)]
 
-mod months;
-
-use crate::months::{mark_from, print_months};
 use printing::folder::print_screen_in;
 use printing::out::{OUTPUT, print};
 use printing::screen::screen_named;
@@ -111,24 +108,13 @@ fn print_named(rt: &(impl Env + Files + Print), before: usize, i: usize) -> bool
     print_folder(rt, &text[..n])
 }
 
-fn print_folders(rt: &(impl Env + Files + Print), last: usize) -> bool {
+fn main(rt: HostRuntime) {
+    let names = words::count(&rt);
     let mut i = 1;
-    while i < last {
-        if !print_named(rt, i - 1, i) {
-            return false;
+    while i < names {
+        if !print_named(&rt, i - 1, i) {
+            return;
         }
         i += 1;
-    }
-    true
-}
-
-fn main(rt: HostRuntime) {
-    let last = words::count(&rt);
-    if last < 1 {
-        return;
-    }
-    let mark = mark_from(&rt, 1, last);
-    if print_folders(&rt, mark) {
-        print_months(&rt, mark, last);
     }
 }

@@ -15,8 +15,8 @@ use Rattle.grammar.specs.Text.{ascii, digit, digits_in, decimal}
 use Rattle.grammar.specs.Names.{names, named, name_of, name_text}
 use Rattle.names.proofs.Naming.{has_name}
 use Rattle.screens.specs.Screens.{vowel, article}
+
 -- A wrong definition is refused first by the sample that it breaks, so the samples stand before the laws.
-use Rattle.screens.specs.Samples
 
 -- ---- a byte
 -- A byte that is one of some is found among them.

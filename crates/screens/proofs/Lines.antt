@@ -13,8 +13,8 @@ use Rattle.listing.specs.Listing.{lined}
 use Rattle.names.specs.Put.{Put}
 use Rattle.names.proofs.Putting.{as_long, put_then}
 use Rattle.screens.specs.Screens.{rows_text, under_text, type_text}
+
 -- A wrong definition is refused first by the sample that it breaks, so the samples stand before the laws.
-use Rattle.screens.specs.Samples
 
 -- A line that ends within the buffer stands in its first bytes.
 pub fits : {l : List ℕ} {at : ℕ} {line l' : List ℕ} {r : ℕ} → Put l at line l' r → r ≤ length l → Put l at line l' r × IsPrefixLen r l'

@@ -7,8 +7,8 @@ use lib.ListN.{replicate, replicate-append-replicate}
 use borrow.Author.Tests.{eq-eqb, ne_eqb}
 use Rattle.grammar.specs.Text.{space, decimal}
 use Rattle.screens.specs.Screens.{counted, indent}
+
 -- A wrong definition is refused first by the sample that it breaks, so the samples stand before the laws.
-use Rattle.screens.specs.Samples
 
 module _ (n : ℕ) (one more : List ℕ) where
   -- One is counted by the word for one.

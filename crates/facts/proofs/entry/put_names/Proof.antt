@@ -11,7 +11,6 @@ use Rattle.names.proofs.Putting.{as_long, put_none, put_then, put_as}
 use Rattle.listing.proofs.Dewey.{leading, leading_put}
 use Rattle.facts.specs.Facts.{names_text}
 -- A wrong definition is refused first by the sample that it breaks, so the samples stand before the proofs.
-use Rattle.facts.specs.Samples
 use borrow.Author.Rules.{rules}
 use Rattle.facts.proofs.entry.put_names.Statement.{statement}
 use Rattle.facts.proofs.entry.put_names.Tie as tie

@@ -6,7 +6,6 @@ use lib.Dec.{ltb}
 use borrow.Author.Tests.{lt-ltb, le-ltb}
 use Rattle.facts.specs.Typed.{shown}
 -- A wrong definition is refused first by the sample that it breaks, so the samples stand before the proofs.
-use Rattle.facts.specs.Samples
 use Rattle.facts.proofs.tree.shown.Statement.{statement}
 use Rattle.facts.proofs.tree.shown.Tie as tie
 

@@ -2,9 +2,7 @@
 use Prim.Native.Nat.{◌+◌, ◌*◌, ◌-◌, ◌≤◌, max}
 use native.Mathlib.Omega.{arith}
 use mathlib.Core.Path.{◌≡◌, refl}
-use mathlib.Core.List.{[], ◌∷◌}
 use lib.ListN.{length}
-use Rattle.grammar.specs.Text.{space}
 use Rattle.names.specs.Put.{Put}
 use Rattle.names.proofs.Putting.{as_long, put_none, put_then, put_as}
 use Rattle.screens.specs.Screens.{indent}
