@@ -3,7 +3,10 @@
 // before it names. Where a screen ends before all was read, a line says so.
 #![tactic(auto)]
 
-use printing::folder::print_screen_in;
+ghost use Rattle.io.specs.Counts.{IsPrefixLen};
+
+use names::put::{put_byte, put_bytes};
+use printing::folder::print_screen;
 use printing::out::{OUTPUT, print};
 use printing::screen::screen_named;
 use printing::typed_tree::typed_word;
@@ -11,7 +14,53 @@ use printing::words;
 use std::env::Env;
 use std::rt::Files;
 
-// A screen of a folder, with a typed tree where one is given.
+// A folder's name, a slash and a file's name; no bytes where the two are too long.
+fn put_path(path: &mut [u8; 128], folder: &[u8], file: &[u8]) -> usize
+    ensures { IsPrefixLen result path.new }
+{
+    if 64 < folder.len() {
+        return 0;
+    }
+    if 32 < file.len() {
+        return 0;
+    }
+    let slash = put_bytes(path, 0, folder);
+    let from = put_byte(path, slash, b'/');
+    put_bytes(path, from, file)
+}
+
+// A screen of a folder with a typed tree, where one is given.
+fn print_screen_of(
+    rt: &(impl Files + Print),
+    folder: &[u8],
+    text: &[u8],
+    given: bool,
+    word: &[u8],
+) -> bool {
+    let mut source8 = [0u8; 128];
+    let mut shape8 = [0u8; 128];
+    let mut source = [0u8; 128];
+    let mut shape = [0u8; 128];
+    let mut tree = [0u8; 128];
+    let n8 = put_path(&mut source8, folder, b"source8.tab");
+    let m8 = put_path(&mut shape8, folder, b"shape8.tab");
+    let n = put_path(&mut source, folder, b"source.tab");
+    let m = put_path(&mut shape, folder, b"shape.tab");
+    let k = put_path(&mut tree, folder, b"shape.txt");
+    print_screen(
+        rt,
+        &source8[..n8],
+        &shape8[..m8],
+        &source[..n],
+        &shape[..m],
+        &tree[..k],
+        text,
+        given,
+        screen_named(word),
+        OUTPUT,
+    )
+}
+
 fn print_in(
     rt: &(impl Files + Print),
     folder: &[u8],
@@ -19,7 +68,7 @@ fn print_in(
     given: bool,
     word: &[u8],
 ) -> bool {
-    if print_screen_in(rt, folder, text, given, screen_named(word), OUTPUT) {
+    if print_screen_of(rt, folder, text, given, word) {
         return true;
     }
     print(rt, b"not whole\n")
