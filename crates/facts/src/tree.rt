@@ -8,6 +8,7 @@ ghost use Rattle.facts.specs.Typed.{shown, marked_text};
 use names::put::{put_byte, put_bytes};
 
 // A byte as it is shown.
+#[tactic(auto, unfolding(crate::specs::Typed::shown))]
 fn shown(b: u8) -> u8
     ensures { result ≡ shown b }
 {
