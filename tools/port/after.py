@@ -5,7 +5,7 @@ usage: tools/port/after.py [--names]   at the top of a checkout that port.py has
 
 A word is in snake case: firstPlace is first_place, tests1-3 is tests1_3. A dash stays only where it joins names of definitions, as in
 sets-append. Types, facts and modules keep their capitals. The crate `bytes`, whose name a library of the toolchain has, is `octets`.
-Must-fail edits and the pages are turned by the same table. With --names it only prints the table.
+Must-fail edits and the pages were brought over by hand, by the same table. With --names it only prints the table.
 """
 import os
 import pathlib
