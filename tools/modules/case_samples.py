@@ -91,9 +91,9 @@ def meeting_at_1():
 
 
 def sample_files():
-    """The tables and shapes of samples/, with the program's room and with 4,096 lines."""
+    """The tables and shapes of samples/ but the later ones, with the program's room and with 4,096 lines."""
     for name, table, shape, levels in folders.samples():
-        for room in (folders.ROOM, paper01.MOST_LINES) if name not in OF_TEXT and levels == 6 else ():
+        for room in (folders.ROOM, paper01.MOST_LINES) if name not in OF_TEXT + folders.LATER and levels == 6 else ():
             yield Case(table, shape, room=(room, 0, room))
 
 

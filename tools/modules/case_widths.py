@@ -96,9 +96,9 @@ def narrow_read_as_wide():
 
 
 def sample_files():
-    """The wide tables and shapes of samples/, with the program's room and with 4,096 lines."""
+    """The wide tables and shapes of samples/ but the later ones, with the program's room and with 4,096 lines."""
     for name, t, s, levels in folders.samples():
-        for most in (folders.ROOM, paper01.MOST_LINES) if name not in OF_TEXT and levels == WIDE else ():
+        for most in (folders.ROOM, paper01.MOST_LINES) if name not in OF_TEXT + folders.LATER and levels == WIDE else ():
             yield Case(t, s, room=(most, 0, most), levels=WIDE)
 
 

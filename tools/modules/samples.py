@@ -12,6 +12,9 @@ FIGURES = ("line", "lines"), ("row", "rows"), ("copy", "copies"), ("different ro
 
 # the file of a typed tree, which is read where there is no shape file
 TREE = "shape.txt"
+# folders that came when what the gate runs the programs cases and folders on had landed: what a crate's gate run is given does not change by a sample that
+# comes later, and one more among the cases would have those behind it lend other rooms. The program histories takes them in
+LATER = "credits", "credits_wide", "value_beyond"
 
 
 class Typed(typing.NamedTuple):

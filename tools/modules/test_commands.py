@@ -219,7 +219,8 @@ class CheckMade(InFolder):
         self.program("tools/make_samples", at_root + "echo made >samples/made\n")
         for file in ("samples/made", "crates/cases/stdin", "crates/cases/old", "crates/cases/out/x"):
             self.put(file, "made\n")
-        (self.folder / "crates/folders").mkdir()
+        for crate in ("folders", "histories"):
+            (self.folder / "crates" / crate).mkdir()
         before = command.held(self.folder)
         self.assertEqual(self.made(command, before), ["crates/cases/old would not be there"])
         (self.folder / "crates/cases/old").unlink()

@@ -3,6 +3,7 @@ import re, unittest
 
 import brackets, explained, paper01, samples, table_text
 from case_samples import P4
+from gate_data import UNREAD
 from test_text import A_BYTES
 from testing import ROOT, loaded
 
@@ -159,26 +160,19 @@ class Samples(unittest.TestCase):
         self.assertLess({str(-2**63), "-500", "-1", str(2**63 - 1)}, {value for *_, value in lines})
 
     def test_folders(self):
-        """The program folders is run on every folder, by tables and shapes of its own, and must write what stands in the folders."""
+        """The program folders is run on every folder but the later ones, by tables and shapes of its own, and must write what stands in the folders."""
         home, made = ROOT / "crates/folders", loaded("make_folders")
-        names = sorted(folder.name for folder in samples.folders())
+        names = sorted({folder.name for folder in samples.folders()} - {*samples.LATER})
         words = (home / "args").read_text().splitlines()
-        words = words[:words.index(made.MARK)]
-        self.assertEqual([word for word in words if not word.startswith(" ")], [*names, *made.UNREAD])
+        self.assertEqual([word for word in words if not word.startswith(" ")], [*names, *UNREAD])
         self.assertEqual({words[at - 1]: word for at, word in enumerate(words) if word.startswith(" ")}, made.TREES)
-        files = {str(path.relative_to(samples.FOLDER)): path for folder in samples.folders() for path in samples.read_files(folder)}
-        files.update({f"{name}/{file}": samples.FOLDER / like / file for name, (_, like, beside) in made.UNREAD.items() for file in beside})
-        kept = {str(path.relative_to(home / "data")) for path in (home / "data").rglob("*") if not path.is_dir()}
-        self.assertEqual(kept, {*files, *(f"{name}/{file}/README.md" for name, (file, _, _) in made.UNREAD.items())})
-        for file, path in files.items():
-            self.assertFalse((home / "data" / file).is_symlink())
-            self.assertEqual((home / "data" / file).read_bytes(), path.read_bytes(), file)
-        parts = re.split(r"(?m)^== (\w+(?:, typed)?)\n", (home / "stdout").read_text().split("== total ")[0])
+        self.assert_data(home / "data", names)
+        parts = re.split(r"(?m)^== (\w+(?:, typed)?)\n", (home / "stdout").read_text())
         typed = [[name, f"{name}, typed"][:1 + (name in made.TREES)] for name in names]
-        self.assertEqual(parts[:1] + parts[1::2], ["", *sum(typed, []), *made.UNREAD])
+        self.assertEqual(parts[:1] + parts[1::2], ["", *sum(typed, []), *UNREAD])
         both = samples.by_name()
         for name, text in zip(parts[1::2], parts[2::2]):
-            if name in made.UNREAD:
+            if name in UNREAD:
                 self.assert_unread(name, text)
             elif name in both:
                 self.assert_screens(name, text, self.listed(name), both[name], samples.types(both[name][0], both[name][2]))
@@ -187,18 +181,37 @@ class Samples(unittest.TestCase):
                 given = table, samples.Typed(made.TREES[name.split(",")[0]].encode()), levels
                 self.assert_screens(name, text, samples.listing(*given), given)
 
+    def assert_data(self, data, names):
+        """The files of the named folders, and the folders with one file that cannot be read: nothing else, and no links."""
+        files = {f"{name}/{path.name}": path for name in names for path in samples.read_files(samples.FOLDER / name)}
+        files.update({f"{name}/{file}": samples.FOLDER / like / file for name, (_, like, beside) in UNREAD.items() for file in beside})
+        kept = {str(path.relative_to(data)) for path in data.rglob("*") if not path.is_dir()}
+        self.assertEqual(kept, {*files, *(f"{name}/{file}/README.md" for name, (file, _, _) in UNREAD.items())})
+        for file, path in files.items():
+            self.assertFalse((data / file).is_symlink())
+            self.assertEqual((data / file).read_bytes(), path.read_bytes(), file)
+
+    def test_later(self):
+        """The later folders are there, the gate runs histories alone on them, and takes each in."""
+        names = {folder.name for folder in samples.folders()}
+        self.assertLess({*samples.LATER}, names)
+        for crate, taken in (("folders", names - {*samples.LATER}), ("histories", names)):
+            words = (ROOT / "crates" / crate / "args").read_text().split("\n")
+            self.assertEqual(names & {*words}, taken)
+
     def test_histories(self):
-        """Behind the folders, histories: every line is that of the tape by itself, and the total that of the lines above it; at both widths, of typed
-        trees, in another order, one tape more than a total takes in, and up to a folder that cannot be read."""
-        home, made = ROOT / "crates/folders", loaded("make_folders")
-        words = " ".join((home / "args").read_text().split("\n")).split(f" {made.MARK} ")[1:]
-        texts = (home / "stdout").read_text().split("== total ")[1:]
-        self.assertEqual(len(words), len(texts))
+        """The program histories is run on every folder, by tables and shapes of its own: every line is that of the tape by itself, and the total that of
+        the lines above it; at both widths, of typed trees, in another order, one tape more than a total takes in, and up to a folder that cannot be read."""
+        home, made = ROOT / "crates/histories", loaded("make_histories")
+        self.assert_data(home / "data", [folder.name for folder in samples.folders()])
+        first, *words = f" {' '.join((home / 'args').read_text().splitlines())} ".split(f" {made.MARK} ")
+        none, *texts = (home / "stdout").read_text().split("== total ")
+        self.assertEqual((first, none, len(words)), ("", "", len(texts)))
         refused, ends = set(), {}
         for (entry, *names), (head, *lines) in zip((month.split() for month in words), (text.splitlines() for text in texts)):
             self.assertEqual(head, entry)
             if lines[-1] == "not whole":
-                self.assertEqual([name in made.UNREAD for name in names[:len(lines)]], [False] * (len(lines) - 1) + [True], names)
+                self.assertEqual([name in UNREAD for name in names[:len(lines)]], [False] * (len(lines) - 1) + [True], names)
                 continue
             self.assertEqual([line.split(":")[0] for line in lines[:len(names) + 1]], [*names, "total"])
             left = [line for line in lines if line.endswith(", not counted")]
@@ -210,7 +223,7 @@ class Samples(unittest.TestCase):
             ends.setdefault((entry, *sorted(names)), set()).add(lines[len(names)])
         self.assertEqual(refused, {*range(1, 8), 12, 13, 16, 17, 18})
         self.assertEqual({len(end) for end in ends.values()}, {1})
-        self.assertLess(len(ends) + len(made.UNREAD), len(words))
+        self.assertLess(len(ends) + len(UNREAD), len(words))
 
     def assert_screens(self, name, text, listing, sample, *types):
         """The screens of a folder, or of a tree typed behind one, which has no types."""
