@@ -19,6 +19,7 @@ pub mod Deep
 pub mod Bytes
 pub mod NewTypes
 pub mod Calls
+pub mod Refusals
 pub mod Reread
 pub mod Promises
 pub mod Partners

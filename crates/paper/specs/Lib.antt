@@ -9,6 +9,7 @@ pub mod Figures
 pub mod Partners
 pub mod Verdict
 pub mod Calls
+pub mod Refusals
 pub mod Widths
 pub mod Labels
 pub mod Index

@@ -2,6 +2,8 @@
 // the layers above share, and which of the two a file has.
 #![tactic(auto)]
 
+pub mod refusal;
+
 ghost use Rattle.std.specs.Prelude.{◌≡◌};
 ghost use Rattle.paper.specs.Widths.{format_of};
 

@@ -12,7 +12,11 @@ use Rattle.paper.specs.Format.{Format, most_rows, row_bytes, whole}
 use Rattle.paper.specs.Tables.{Row, rows, bad_row}
 use Rattle.paper.specs.Calls.{Answer, refused, given, ◌>>=◌, refuse, refuse_at, Reply, reply, tests1_3, examine, look_up}
 use Rattle.paper.proofs.Calls.{Past, count-rows, past1_3, pass1_3, examine-given, bind_past, reply-given, bind_given, passed1_3}
-use Rattle.tables.specs.Place.{place_of}
+use Rattle.std.specs.Prelude.{Ok, Err}
+use Rattle.paper.specs.Refusals.{refusal_number, refusal_place}
+use Rattle.paper.specs.declared.refusal.Refusal.{Refusal}
+use Rattle.paper.proofs.Refusals.{numbered}
+use Rattle.tables.specs.Reply.{examined}
 
 -- the tests, from what each finds
 abbrev tested : Bool → Bool → Option ℕ → List Row → Answer (List Row)
@@ -44,15 +48,12 @@ module _ (f : Format) (t : List ℕ) where
       whole-rows : ragged ≡ false
       whole-rows = ap not (eq-eqb (length t % row_bytes f) 0 z)
 
-      pub refused_3 : (p n : ℕ) → bad_row f (rows f t) ≡ place_of p n → p < n → tests1_3 f t ≡ refused 3 p
-      unfolding place_of
-      refused_3 p n e lt =
-          same ∙ ap₂ (λ a b. tested a b (bad_row f (rows f t)) (rows f t)) short whole-rows
-          ∙ ap (λ o. tested false false o (rows f t)) (e ∙ ap (λ b. elim b as (λ _. Option ℕ) [ true ↦ some p | false ↦ none ]) (lt-ltb p n lt))
+      pub refused_3 : (p : ℕ) → bad_row f (rows f t) ≡ some p → tests1_3 f t ≡ refused 3 p
+      refused_3 p e =
+          same ∙ ap₂ (λ a b. tested a b (bad_row f (rows f t)) (rows f t)) short whole-rows ∙ ap (λ o. tested false false o (rows f t)) e
 
-      pub accepted : (p n : ℕ) → bad_row f (rows f t) ≡ place_of p n → n ≤ p → tests1_3 f t ≡ given (rows f t)
-      unfolding place_of
-      accepted p n e more = pass1_3 f t le z (e ∙ ap (λ b. elim b as (λ _. Option ℕ) [ true ↦ some p | false ↦ none ]) (le-ltb p n more))
+      pub accepted : bad_row f (rows f t) ≡ none → tests1_3 f t ≡ given (rows f t)
+      accepted e = pass1_3 f t le z e
 
 -- ---- examining
 abbrev told : Answer (List Row) → Reply ℕ
@@ -90,6 +91,13 @@ module _ (f : Format) (t : List ℕ) (k p c : ℕ) (e : ◌≡◌ {A = Reply ℕ
       let same = (passed1_3 f t rs h).0 in
       let a : tests1_3 f t ≡ given (rows f t) = h ∙ ap {B = Answer (List Row)} given (sym same) in
       (a, ap (λ (r : Reply ℕ). r.rest) e ∙ ap (λ x. (told x).rest) a ∙ count-rows f t)
+
+-- what an answer of examining tells of them
+pub tests_refuse : (f : Format) (t : List ℕ) (e : Refusal) → examined (Err e) ≡ examine f t → tests1_3 f t ≡ refused (refusal_number e) (refusal_place e)
+tests_refuse f t e q = examined-refused f t (refusal_number e) (refusal_place e) 0 q (numbered e)
+
+pub tests_give : (f : Format) (t : List ℕ) (n : ℕ) → examined (Ok n) ≡ examine f t → (tests1_3 f t ≡ given (rows f t)) × (n ≡ whole (row_bytes f) t)
+tests_give f t n q = examined-given f t 0 0 n q refl
 
 -- ---- look-up
 abbrev found : Format → List ℕ → ℕ → Answer (List Row) → Reply (List ℕ)

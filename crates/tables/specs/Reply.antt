@@ -1,14 +1,15 @@
 -- What the calls' answers say, in the paper's terms. Assumes nothing.
-use Rattle.std.specs.Prelude.{ℕ, zero, suc, ◌*◌, ◌≡◌, List}
+use Rattle.std.specs.Prelude.{ℕ, zero, suc, ◌*◌, ◌≡◌, List, Result}
 use Rattle.std.specs.Borrow.{Bor}
 use Rattle.paper.specs.Format.{Format, row_bytes}
 use Rattle.paper.specs.Calls.{Reply, look_up}
+use Rattle.paper.specs.Refusals.{reply_of}
+use Rattle.paper.specs.declared.refusal.Refusal.{Refusal}
 use Rattle.octets.specs.Part.{OwnFrom}
-use Rattle.tables.specs.declared.table.Examined.{Examined}
 
 -- examining: number, place, count of rows
-abbrev pub examined : Examined → Reply ℕ
-examined r = record { number = r.number; place = r.place; rest = r.rows }
+abbrev pub examined : Result ℕ Refusal → Reply ℕ
+examined r = reply_of 0 (λ rows. rows) r
 
 -- where row i begins in the table that it is looked up in; refused, with a number above 0: the table's first byte
 abbrev pub start_of : Format → ℕ → ℕ → ℕ

@@ -20,12 +20,10 @@ pub fn zeros_from(row: &[u8], f: Format, k: usize) -> bool
     requires { (entry_bytes f ≤ length row.now) × (f.levels ≤ 255) }
     ensures { result ≡ all (eqb 0) (drop k (words f.levels row.now 4)) }
 {
-    let mut i = k;
-    while i < f.levels {
+    for i in k..f.levels {
         if component(row, f, i) != 0 {
             return false;
         }
-        i += 1;
     }
     true
 }
@@ -73,12 +71,10 @@ fn agree(x: &[u8], y: &[u8], f: Format, n: usize) -> bool
     requires x_bound { (byte x.now 0 ≤ f.levels) × (byte y.now 0 ≤ f.levels) × (n ≤ byte x.now 0) × (n ≤ byte y.now 0) }
     ensures { result ≡ leb n (shared (dewey (row_of f x.now)) (dewey (row_of f y.now))) }
 {
-    let mut k = 0;
-    while k < n {
+    for k in 0..n {
         if component(x, f, k) != component(y, f, k) {
             return false;
         }
-        k += 1;
     }
     true
 }
