@@ -9,11 +9,13 @@ use borrow.Author.Tests.{lt-ltb}
 use Rattle.paper.specs.Format.{Format, most_rows, most_types, row_bytes, whole}
 use Rattle.paper.specs.Tables.{Row, rows, types, bad_row}
 use Rattle.paper.specs.Calls.{Answer, refused, given, ◌>>=◌, refuse_at, examine, type_too_many, tests1_3, tests1_4}
+use Rattle.std.specs.Prelude.{Ok, Err}
+use Rattle.paper.specs.Refusals.{refusal_number, refusal_place}
+use Rattle.paper.specs.declared.refusal.Refusal.{Refusal}
 use Rattle.paper.proofs.Calls.{passed1_3, pass1_4, few_rows, count-rows}
 use Rattle.octets.specs.Served.{Served}
 use Rattle.tables.specs.Place.{place_of}
 use Rattle.tables.specs.Reply.{examined}
-use Rattle.tables.specs.declared.table.Examined.{Examined}
 use Rattle.tables.proofs.Examine as table-laws
 use Rattle.types.specs.Types.{Lists}
 use Rattle.types.specs.declared.list.Types.{Types}
@@ -22,17 +24,7 @@ use Rattle.types.proofs.Told.{told}
 use Rattle.closest.specs.Node.{Typed}
 use Rattle.closest.specs.Runs.{SoundRows, LevelsOf, Rows}
 use Rattle.closest.specs.Rows.{ReadRows}
-use Rattle.closest.specs.declared.rows.RowsRead.{RowsRead}
 use Rattle.closest.proofs.Meets.{kind_few, ks_long}
-
--- a refusal is no rows
-pub refusal : (f : Format) (t : List ℕ) (r : RowsRead) (levels ks : List ℕ) (k p : ℕ) → (r.number ≡ k) × (r.place ≡ p) → (k ≡ 0 → ⊥)
-    → tests1_4 f t ≡ refused k p → ReadRows f t r levels ks
-refusal f t r levels ks k p is ne e = record {
-  refused-is = λ _. e ∙ ap₂ (λ a b. refused a b) (sym is.0) (sym is.1);
-  given_is = λ z. absurd (ne (sym is.0 ∙ z));
-  read = λ z. absurd (ne (sym is.0 ∙ z));
-}
 
 -- ---- the tests, from what each finds
 abbrev listed : List Row → Option ℕ → Answer (List Row)
@@ -53,13 +45,13 @@ pub record Tabled (f : Format) (t : List ℕ) (n : ℕ) : Type 0 where
   pub kept : bad_row f (rows f t) ≡ none
   pub few : n ≤ most_rows
 
-module _ (f : Format) (t : List ℕ) (x : Examined) (e : examined x ≡ examine f t) where
-  pub table-refused : (x.number ≡ 0 → ⊥) → tests1_4 f t ≡ refused x.number x.place
-  table-refused ne = tests_are f t ∙ ap tabled (table-laws.examined-refused f t x.number x.place x.rows e ne)
+module _ (f : Format) (t : List ℕ) where
+  pub table-refused : (e : Refusal) → examined (Err e) ≡ examine f t → tests1_4 f t ≡ refused (refusal_number e) (refusal_place e)
+  table-refused e q = tests_are f t ∙ ap tabled (table-laws.tests_refuse f t e q)
 
-  pub table_passed : x.number ≡ 0 → Tabled f t x.rows
-  table_passed z =
-      let (g, w) = table-laws.examined-given f t x.number x.place x.rows e z in
+  pub table_passed : (n : ℕ) → examined (Ok n) ≡ examine f t → Tabled f t n
+  table_passed n q =
+      let (g, w) = table-laws.tests_give f t n q in
       let (same, k, short) = passed1_3 f t (rows f t) g in
       record { passed = g; whole-rows = w; kept = k; few = omega (arith, w, few_rows f t short, count-rows f t) }
 
@@ -119,15 +111,14 @@ module _ {f : Format} {t : List ℕ} {n : ℕ} {ks : List ℕ} {ty : Types} (ser
     passes : tests1_4 f t ≡ given (rows f t)
     passes = pass1_4 f t l.table.passed few_types
 
-    pub rows-read : ReadRows f t (record { number = 0; place = 0; rows = n; count = ty.count; parents = ty.parents; labels = ty.labels }) levels ks
-    rows-read = record {
-      refused-is = λ ne. absurd (ne refl);
-      given_is = λ _. passes;
-      read = λ _. record {
+    pub rows-read : ReadRows f t (Ok (record { rows = n; count = ty.count; parents = ty.parents; labels = ty.labels })) levels ks
+    rows-read = (
+      passes,
+      record {
         given_is = passes;
         levelled = record { typed = typed-rows; level-is = ls.level-is };
         levels_are = ls;
         rows_are = rows_are;
         told = told (rows f t) ks ty l.lists l.late;
-      };
-    }
+      },
+    )

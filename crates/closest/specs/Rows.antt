@@ -1,9 +1,11 @@
 -- The rows of a table as they are read once, for calls that walk them. Assumes nothing.
-use Rattle.std.specs.Prelude.{ℕ, ◌≡◌, List}
+use Rattle.std.specs.Prelude.{ℕ, ◌≡◌, List, Result, Ok, Err}
 use Rattle.paper.specs.Format.{Format}
 use Rattle.paper.specs.Tables as Tables
 use Rattle.paper.specs.Tables.{Row}
 use Rattle.paper.specs.Calls.{Answer, refused, given, tests1_4}
+use Rattle.paper.specs.Refusals.{refusal_number, refusal_place}
+use Rattle.paper.specs.declared.refusal.Refusal.{Refusal}
 use Rattle.types.specs.Types.{Told}
 use Rattle.closest.specs.Runs.{LevelsOf, Levelled, Rows}
 use Rattle.closest.specs.declared.rows.RowsRead.{RowsRead}
@@ -20,12 +22,11 @@ pub record RowsIn (f : Format) (t : List ℕ) (r : RowsRead) (levels types : Lis
 abbrev pub SomeRows : Format → RowsRead → List ℕ → List ℕ → Type 0
 SomeRows f r levels types = (t : List ℕ) × RowsIn f t r levels types
 
--- what the tests before 5 say of a table t, 1 to 4 or these and further ones, and where none refuses, its rows
-pub record Reads (tests : Answer (List Row)) (f : Format) (t : List ℕ) (r : RowsRead) (levels types : List ℕ) : Type 0 where
-  pub refused-is : (r.number ≡ 0 → ⊥) → tests ≡ refused r.number r.place
-  pub given_is : r.number ≡ 0 → tests ≡ given (Tables.rows f t)
-  pub read : r.number ≡ 0 → RowsIn f t r levels types
+-- what the tests before 5 say of a table t, 1 to 4 or these and further ones: the refusal r, or where none refuses, the rows r of t
+abbrev pub Reads : Answer (List Row) → Format → List ℕ → Result RowsRead Refusal → List ℕ → List ℕ → Type 0
+Reads tests f t (Ok r) levels types = (tests ≡ given (Tables.rows f t)) × RowsIn f t r levels types
+Reads tests f t (Err e) levels types = tests ≡ refused (refusal_number e) (refusal_place e)
 
 -- what 1 to 4 say of it, and its rows
-abbrev pub ReadRows : Format → List ℕ → RowsRead → List ℕ → List ℕ → Type 0
+abbrev pub ReadRows : Format → List ℕ → Result RowsRead Refusal → List ℕ → List ℕ → Type 0
 ReadRows f t r levels types = Reads (tests1_4 f t) f t r levels types

@@ -7,61 +7,42 @@ ghost use Rattle.closest.specs.Rows.{ReadRows};
 
 use crate::meet::row_levels;
 use paper::Format;
+use paper::refusal::Refusal;
 use tables::table::examine;
 use types::list::list_types;
 
-// A refusal with zeros, or the number of rows and the types: how many, and of each its parent type (64 for none) and last label. It is small
-// enough to go by value with no call that copies.
+// The number of rows and the types: how many, and of each its parent type (64 for none) and last label. It is small enough to go by value with
+// no call that copies.
 #[derive(Clone, Copy, Drop)]
 pub struct RowsRead {
-    pub number: usize,
-    pub place: usize,
     pub rows: usize,
     pub count: usize,
     pub parents: [u8; 64],
     pub labels: [u16; 64],
 }
 
-fn unread(number: usize, place: usize) -> RowsRead
-    ensures { (result.number ≡ number) × (result.place ≡ place) }
-{
-    RowsRead {
-        number: number,
-        place: place,
-        rows: 0,
-        count: 0,
-        parents: [0u8; 64],
-        labels: [0u16; 64],
-    }
-}
-
 // Refusals 1 to 4 in their order, or the rows: each row's level and type number are found in the lent lists.
-pub fn read_rows(table: &[u8], f: Format, levels: &mut [u8], types: &mut [u8]) -> RowsRead
+pub fn read_rows(
+    table: &[u8],
+    f: Format,
+    levels: &mut [u8],
+    types: &mut [u8],
+) -> Result<RowsRead, Refusal>
     requires { Served f × (length levels.old ≡ most_rows) × (length types.old ≡ most_rows) }
     ensures { ReadRows f table.now result levels.new types.new }
 {
-    let examined = examine(table, f);
-    let number = examined.number;
-    let place = examined.place;
-    let rows = examined.rows;
-    if number != 0 {
-        return unread(number, place);
-    }
+    let rows = examine(table, f)?;
     let listed = list_types(table, f, rows, types);
-    let over = listed.over;
-    if over < rows {
-        return unread(4, over);
+    if listed.over < rows {
+        return Err(Refusal::TooManyTypes(listed.over));
     }
     row_levels(table, f, rows, levels);
-    let count = listed.count;
     let parents = listed.parents;
     let labels = listed.labels;
-    RowsRead {
-        number: 0,
-        place: 0,
-        rows: rows,
-        count: count,
-        parents: parents,
-        labels: labels,
-    }
+    Ok(RowsRead {
+        rows,
+        count: listed.count,
+        parents,
+        labels,
+    })
 }

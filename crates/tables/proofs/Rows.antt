@@ -121,6 +121,14 @@ module _ (f : Format) (t : List ℕ) where
     unfolding before
     search_end le = sym s.3 ∙ ap (first_break (row_kept f) dewey i before) (rows_end f t i le)
 
+pub some-place : (o : Option ℕ) (r n : ℕ) → r < n → o ≡ some r → o ≡ place_of r n
+unfolding place_of
+some-place o r n lt e = e ∙ rw (lt-ltb r n lt, place_of) refl
+
+pub none-place : (o : Option ℕ) (n : ℕ) → o ≡ none → o ≡ place_of n n
+unfolding place_of
+none-place o n e = e ∙ rw (le-ltb n n (omega arith), place_of) refl
+
 -- a row below the count lies within the table
 pub row_in : (w i : ℕ) (t : List ℕ) → i < whole w t → w * i + w ≤ length t
 row_in w i t lt = record_in w i (whole w t) (length t) lt (mul-div-le (length t) w)
