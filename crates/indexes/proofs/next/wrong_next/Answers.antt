@@ -11,7 +11,7 @@ loop-i-init c = (firsts_start _ _ c.requires.few.0, wrong_start _ _ _)
 
 pub loop-i-preserved : goal.loop-i-preserved
 loop-i-preserved c =
-    let pos = c.loop-i-test.true in
+    let pos : 0 < c.loop-i.i = omega (arith, c.loop-i-test.true) in
     let own = c.wide-k.ensures.0 in
     let known = c.loop-i.invariant.0 in
     let within = c.loop-i.auto.i in
