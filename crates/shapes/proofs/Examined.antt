@@ -15,7 +15,11 @@ use Rattle.paper.specs.Calls.{Answer, refused, given, ◌>>=◌, refuse, refuse_
 use Rattle.paper.proofs.Lists.{or_left, or_right}
 use Rattle.paper.proofs.Calls.{count_entries}
 use Rattle.tables.specs.Place.{place_of}
-use Rattle.shapes.specs.Tests.{shape_reply}
+use Rattle.std.specs.Prelude.{Ok, Err}
+use Rattle.paper.specs.Refusals.{refusal_number, refusal_place}
+use Rattle.paper.specs.declared.refusal.Refusal.{Refusal}
+use Rattle.paper.proofs.Refusals.{numbered}
+use Rattle.shapes.specs.Tests.{shape_reply, shape_examined}
 
 -- ---- a place among n
 pub place-some : (r n : ℕ) → r < n → place_of r n ≡ some r
@@ -134,3 +138,11 @@ module _ (f : Format) (s : List ℕ) where
       few_entries =
           let lt : length s < suc most_entries * entry_bytes f = omega (arith, short, suc-mul most_entries (entry_bytes f)) in
           omega (arith, counted, (div-lt_iff_lt-mul {k = entry_bytes f} {x = length s} {y = suc most_entries} (omega arith)).1 lt)
+
+-- what an answer of examining tells of them
+module _ (f : Format) (s : List ℕ) where
+  pub tests_refuse : (e : Refusal) → shape_examined (Err e) ≡ shape_reply f s → tests5_6 f s ≡ refused (refusal_number e) (refusal_place e)
+  tests_refuse e q = examined-refused f s (refusal_number e) (refusal_place e) 0 q (numbered e)
+
+  pub tests_give : (n : ℕ) → shape_examined (Ok n) ≡ shape_reply f s → (tests5_6 f s ≡ given (entries f s)) × (n ≡ whole (entry_bytes f) s)
+  tests_give n q = (examined-given f s 0 0 n q refl, counted f s 0 0 n q refl)

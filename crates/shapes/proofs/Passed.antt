@@ -1,7 +1,7 @@
 -- What is known of a shape as the tests go by, over the types of a table, and what was read at their end. Assumes nothing.
 use Prim.Native.Nat.{ℕ, ◌≤◌, ◌<◌}
 use native.Mathlib.Omega.{arith}
-use mathlib.Core.Path.{◌≡◌, refl, sym, ◌∙◌, ap, ap₂}
+use mathlib.Core.Path.{◌≡◌, refl, sym, ◌∙◌, ap}
 use mathlib.Core.List.{List, []}
 use mathlib.Core.Option.{none}
 use lib.ListN.{length}
@@ -12,27 +12,19 @@ use Rattle.paper.specs.Calls.{refused, given, tests1_4, tests5_6, tests1_7}
 use Rattle.paper.proofs.Tables.{none-rules}
 use Rattle.paper.proofs.Shapes.{level_of, size}
 use Rattle.paper.proofs.Calls.{count_entries}
+use Rattle.std.specs.Prelude.{Ok, Err}
+use Rattle.paper.specs.Refusals.{refusal_number, refusal_place}
+use Rattle.paper.specs.declared.refusal.Refusal.{Refusal}
 use Rattle.octets.specs.Served.{Served}
 use Rattle.types.specs.Types.{Told}
 use Rattle.shapes.specs.EntryTypes.{TypesAre, NumbersEach}
 use Rattle.shapes.specs.Ways.{Laid, way_at}
-use Rattle.shapes.specs.Tests.{shape_reply, shape_examined, shape_in, Read, Passes}
+use Rattle.shapes.specs.Tests.{shape_reply, shape_examined, shape_in, Read, Passed}
 use Rattle.shapes.specs.declared.entry_types.EntryTypes.{EntryTypes}
 use Rattle.shapes.specs.declared.ways.Fields.{Fields}
-use Rattle.shapes.specs.declared.tests.ShapeExamined.{ShapeExamined}
 use Rattle.shapes.specs.declared.tests.Tested.{Tested}
 use Rattle.shapes.proofs.Examined as shape-laws
 use Rattle.shapes.proofs.Tested.{missing_some, missing_none, refused-shape, refused_missing, none-refused, work_of}
-
--- a refusal is nothing read
-pub refusal : (f : Format) (t s : List ℕ) (w : Tested) (ways : List ℕ) (k p : ℕ) → (w.number ≡ k) × (w.place ≡ p) → (k ≡ 0 → ⊥)
-    → tests1_7 f t s ≡ refused k p → Passes f t s w ways
-refusal f t s w ways k p is ne e = record {
-  refused-is = λ _. e ∙ ap₂ (λ a b. refused a b) (sym is.0) (sym is.1);
-  given_is = λ z. absurd (ne (sym is.0 ∙ z));
-  known = λ z. absurd (ne (sym is.0 ∙ z));
-  reads = λ z. absurd (ne (sym is.0 ∙ z));
-}
 
 -- ---- tests 5 and 6
 -- the shape passes them, and has so many entries
@@ -42,17 +34,17 @@ pub record Shaped (f : Format) (s : List ℕ) (m : ℕ) : Type 0 where
   pub kept : bad_entry f (entries f s) ≡ none
   pub few : m ≤ most_entries
 
-module _ (f : Format) (s : List ℕ) (x : ShapeExamined) (e : shape_examined x ≡ shape_reply f s) where
-  pub shape-refused : (t : List ℕ) → tests1_4 f t ≡ given (rows f t) → (x.number ≡ 0 → ⊥) → tests1_7 f t s ≡ refused x.number x.place
-  shape-refused t table ne =
-      refused-shape f t s table x.number x.place (shape-laws.examined-refused f s x.number x.place x.entries e ne)
+module _ (f : Format) (s : List ℕ) where
+  pub shape-refused : (e : Refusal) → shape_examined (Err e) ≡ shape_reply f s → (t : List ℕ) → tests1_4 f t ≡ given (rows f t)
+      → tests1_7 f t s ≡ refused (refusal_number e) (refusal_place e)
+  shape-refused e q t table = refused-shape f t s table (refusal_number e) (refusal_place e) (shape-laws.tests_refuse f s e q)
 
-  pub shape_passed : x.number ≡ 0 → Shaped f s x.entries
-  shape_passed z = record {
-    passed = shape-laws.examined-given f s x.number x.place x.entries e z;
-    whole-entries = shape-laws.counted f s x.number x.place x.entries e z;
-    kept = shape-laws.kept f s x.number x.place x.entries e z;
-    few = shape-laws.few_entries f s x.number x.place x.entries e z;
+  pub shape_passed : (n : ℕ) → shape_examined (Ok n) ≡ shape_reply f s → Shaped f s n
+  shape_passed n q = record {
+    passed = shape-laws.examined-given f s 0 0 n q refl;
+    whole-entries = shape-laws.counted f s 0 0 n q refl;
+    kept = shape-laws.kept f s 0 0 n q refl;
+    few = shape-laws.few_entries f s 0 0 n q refl;
   }
 
 -- what the readings of its entries ask for
@@ -78,8 +70,6 @@ module _ {f : Format} (t : List ℕ) {s parents labels : List ℕ} {count m : �
   module _ (le : m ≤ es.place) (fs : Fields) (ways : List ℕ) (laid : Laid (shape_over [] (entries f s)) m fs ways) where
     abbrev read : Tested
     read = record {
-      number = 0;
-      place = 0;
       entries = m;
       levels = fs.levels;
       labels = fs.labels;
@@ -110,10 +100,5 @@ module _ {f : Format} (t : List ℕ) {s parents labels : List ℕ} {count m : �
       way_is = λ e lt. ap (way_at ways e) (laid.level e lt) ∙ laid.way_is e lt;
     }
 
-    pub passes : Passes f t s read ways
-    passes = record {
-      refused-is = λ ne. absurd (ne refl);
-      given_is = λ _. all_passed;
-      known = λ _. numbered.known le;
-      reads = λ _. held;
-    }
+    pub passes : Passed f t s read ways
+    passes = record { given_is = all_passed; known = numbered.known le; reads = held }

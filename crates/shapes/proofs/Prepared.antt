@@ -8,36 +8,28 @@ use Rattle.paper.specs.Format.{Format, most_types}
 use Rattle.paper.specs.Tables.{rows}
 use Rattle.paper.specs.Closeness.{Node, nodes, kinds_meet}
 use Rattle.paper.specs.Shapes as Paper
-use Rattle.paper.specs.Calls.{refused}
+use Rattle.std.specs.Prelude.{Ok}
 use Rattle.octets.specs.Served.{Served}
 use Rattle.closest.specs.Deepest.{Meetings}
 use Rattle.closest.specs.Rows.{RowsIn}
 use Rattle.closest.specs.declared.rows.RowsRead.{RowsRead}
 use Rattle.closest.proofs.Deepest.{types_meet_lem, kinds_shallow}
 use Rattle.shapes.specs.Ways.{way_at}
-use Rattle.shapes.specs.Tests.{Read, Passes, PassesEach, shape_in}
+use Rattle.shapes.specs.Tests.{Read, Passed, PassesEach, shape_in}
 use Rattle.shapes.specs.Edges.{Known, meeting_of}
 use Rattle.shapes.specs.Shape.{level_of, type_of, parent_of, edge_of, Sized, Drawn}
-use Rattle.shapes.specs.Work.{Work, Holds, Prepared}
+use Rattle.shapes.specs.Work.{Work, Holds, Ready}
 use Rattle.shapes.specs.declared.shape.Shape.{Shape}
 use Rattle.shapes.specs.declared.tests.Tested.{Tested}
 use Rattle.shapes.proofs.Given as goal
 
--- A refusal is no work.
-pub refusal : (f : Format) (t s : List ℕ) (r : Tested) (ways : List ℕ) (w : Work) → Passes f t s r ways → (r.number ≡ 0 → ⊥)
-    → (w.number ≡ r.number) × (w.place ≡ r.place) → Prepared f t s w
-refusal f t s r ways w p ne is = record {
-  refused-is = λ _. p.refused-is ne ∙ ap₂ (λ a b. refused a b) (sym is.0) (sym is.1);
-  ready = λ z. absurd (ne (sym is.0 ∙ z));
-}
-
 -- The rows of a table have what tests 5 to 7 ask of it.
 pub tested : {f : Format} {t s : List ℕ} {read : RowsRead} {levels ks : List ℕ} {r : Tested} {ways : List ℕ} → RowsIn f t read levels ks
-    → PassesEach f read.parents read.labels read.count s r ways → Passes f t s r ways
+    → PassesEach f read.parents read.labels read.count s (Ok r) ways → Passed f t s r ways
 tested {t = t} i p = p t i.given_is i.told
 
 module _ {f : Format} {t s : List ℕ} {read : RowsRead} {levels ks : List ℕ} {r : Tested} {ways : List ℕ} (i : RowsIn f t read levels ks)
-    (p : Passes f t s r ways) (z : r.number ≡ 0) where
+    (p : Passed f t s r ways) where
   abbrev ns : List Node
   ns = nodes (rows f t)
 
@@ -45,22 +37,22 @@ module _ {f : Format} {t s : List ℕ} {read : RowsRead} {levels ks : List ℕ} 
   sh = shape_in f t s
 
   held : Read (shape_in f t s) r ways
-  held = p.reads z
+  held = p.reads
 
   inways : (e : ℕ) → e < r.entries → e < length sh.ways
   inways e lt = omega (arith, held.counted)
 
   some-entry : 1 ≤ r.entries
-  some-entry = omega (arith, goal.some-entry f t s (p.given_is z), held.counted)
+  some-entry = omega (arith, goal.some-entry f t s p.given_is, held.counted)
 
   -- ---- what the edges ask for
   pub known : Known r.entries r.types r.parents
   known = record {
     inside = record {
       few = held.few;
-      under = λ e lt. omega (arith, held.parent_is e lt, goal.parent_in f t s (p.given_is z) e (inways e lt), held.counted);
+      under = λ e lt. omega (arith, held.parent_is e lt, goal.parent_in f t s p.given_is e (inways e lt), held.counted);
     };
-    typed = λ e lt. omega (arith, p.known z e lt, i.told.count-is, i.told.few);
+    typed = λ e lt. omega (arith, p.known e lt, i.told.count-is, i.told.few);
   }
 
   module _ (meetings : List ℕ) (met : Meetings read.rows levels ks r.types meetings)
@@ -102,23 +94,23 @@ module _ {f : Format} {t s : List ℕ} {read : RowsRead} {levels ks : List ℕ} 
     nearest : (c : ℕ) → 0 < c → c < d.entries → (parent_of d c < c) × (level_of d c ≡ suc (level_of d (parent_of d c)))
     nearest c pos lt =
         let lc = inside c lt in
-        let n = goal.over f t s (p.given_is z) c pos (inways c lc) in
+        let n = goal.over f t s p.given_is c pos (inways c lc) in
         let is = parent_at c ∙ held.parent_is c lc in
         let up = level-at (parent_of d c) ∙ held.level (parent_of d c) (omega (arith, is, n.0)) ∙ ap (λ e. get_or sh.levels e 0) is in
         (omega (arith, is, n.0), omega (arith, level-at c, held.level c lc, up, n.1))
 
     top : level_of d 0 ≡ 1
-    top = level-at 0 ∙ held.level 0 some-entry ∙ goal.top f t s (p.given_is z)
+    top = level-at 0 ∙ held.level 0 some-entry ∙ goal.top f t s p.given_is
 
     deep : (e : ℕ) → e < r.entries → level_of d e ≤ f.levels
-    deep e lt = let w = goal.way_deep f t s (p.given_is z) e (inways e lt) in omega (arith, level-at e, held.level e lt, w.0, w.1)
+    deep e lt = let w = goal.way_deep f t s p.given_is e (inways e lt) in omega (arith, level-at e, held.level e lt, w.0, w.1)
 
     sized : Served f → Sized d
     sized served = record {
       some = omega (arith, some-entry, drawn.entries_are);
       few = omega (arith, held.few, drawn.entries_are);
       typed = λ e lt. omega (arith, type_at e, type_few e (inside e lt));
-      root = parent_at 0 ∙ held.parent_is 0 some-entry ∙ goal.root f t s (p.given_is z);
+      root = parent_at 0 ∙ held.parent_is 0 some-entry ∙ goal.root f t s p.given_is;
       under = λ c pos lt. (nearest c pos lt).0;
       top = top;
       down = λ c pos lt. (nearest c pos lt).1;
@@ -129,8 +121,6 @@ module _ {f : Format} {t s : List ℕ} {read : RowsRead} {levels ks : List ℕ} 
 
     abbrev work : Work
     work = record {
-      number = 0;
-      place = 0;
       rows = read.rows;
       levels = levels;
       types = ks;
@@ -149,26 +139,14 @@ module _ {f : Format} {t s : List ℕ} {read : RowsRead} {levels ks : List ℕ} 
       way_is = λ e lt. ap (way_at ways e) (level-at e) ∙ held.way_is e (inside e lt);
     }
 
-    pub prepared : Served f → Prepared f t s (record {
-      number = 0;
-      place = 0;
-      rows = read.rows;
-      levels = levels;
-      types = ks;
-      meetings = meetings;
-      shape = d;
-      ways = ways;
-    })
+    pub prepared : Served f → Ready f t s (record { rows = read.rows; levels = levels; types = ks; meetings = meetings; shape = d; ways = ways })
     prepared served = record {
-      refused-is = λ ne. absurd (ne refl);
-      ready = λ _. record {
-        served = served;
-        given_is = p.given_is z;
-        levelled = i.levelled;
-        rows_are = i.rows_are;
-        shaped = record { sized = sized served; meets = edge_is };
-        shallow = λ e lt. deep e (inside e lt);
-        meets = meets;
-        holds = holds;
-      };
+      served = served;
+      given_is = p.given_is;
+      levelled = i.levelled;
+      rows_are = i.rows_are;
+      shaped = record { sized = sized served; meets = edge_is };
+      shallow = λ e lt. deep e (inside e lt);
+      meets = meets;
+      holds = holds;
     }

@@ -1,13 +1,14 @@
 -- A shape that passes tests 5 to 7 over a table, as it was read. Assumes nothing.
-use Rattle.std.specs.Prelude.{ℕ, ◌≤◌, ◌<◌, ◌≡◌, List, length, get_or}
+use Rattle.std.specs.Prelude.{ℕ, ◌≤◌, ◌<◌, ◌≡◌, List, length, get_or, Result, Ok, Err}
 use Rattle.paper.specs.Format.{Format, most_entries}
 use Rattle.paper.specs.Tables.{rows, types}
 use Rattle.paper.specs.Closeness.{nodes}
 use Rattle.paper.specs.Shapes.{Shape, entries, shape_over, kind, parent, way}
 use Rattle.paper.specs.Calls.{◌>>=◌, Reply, refused, given, reply, tests1_4, tests5_6, tests1_7}
+use Rattle.paper.specs.Refusals.{refusal_number, refusal_place, reply_of}
+use Rattle.paper.specs.declared.refusal.Refusal.{Refusal}
 use Rattle.types.specs.Types.{Told}
 use Rattle.shapes.specs.Ways.{way_at}
-use Rattle.shapes.specs.declared.tests.ShapeExamined.{ShapeExamined}
 use Rattle.shapes.specs.declared.tests.Tested.{Tested}
 
 -- number and place of 5 and 6, or the number of entries
@@ -16,8 +17,8 @@ shape_reply f s = reply 0 do
   es ← tests5_6 f s
   given (length es)
 
-abbrev pub shape_examined : ShapeExamined → Reply ℕ
-shape_examined r = record { number = r.number; place = r.place; rest = r.entries }
+abbrev pub shape_examined : Result ℕ Refusal → Reply ℕ
+shape_examined r = reply_of 0 (λ entries. entries) r
 
 -- the shape of the bytes s over the types of the table t
 abbrev pub shape_in : Format → List ℕ → List ℕ → Shape
@@ -33,14 +34,18 @@ pub record Read (s : Shape) (w : Tested) (ways : List ℕ) : Type 0 where
   pub type_is : (e : ℕ) → e < w.entries → get_or w.types e 0 ≡ kind s e
   pub way_is : (e : ℕ) → e < w.entries → way_at ways e (get_or w.levels e 0) ≡ way s e
 
--- what tests 1 to 7 say of a table t and a shape s, and where none refuses, the entries
-pub record Passes (f : Format) (t s : List ℕ) (w : Tested) (ways : List ℕ) : Type 0 where
-  pub refused-is : (w.number ≡ 0 → ⊥) → tests1_7 f t s ≡ refused w.number w.place
-  pub given_is : w.number ≡ 0 → tests1_7 f t s ≡ given (record { rows = rows f t; nodes = nodes (rows f t); shape = shape_in f t s })
-  pub known : w.number ≡ 0 → (e : ℕ) → e < w.entries → get_or w.types e 0 < length (types (rows f t))
-  pub reads : w.number ≡ 0 → Read (shape_in f t s) w ways
+-- tests 1 to 7 pass a table t and a shape s, and these are the entries
+pub record Passed (f : Format) (t s : List ℕ) (w : Tested) (ways : List ℕ) : Type 0 where
+  pub given_is : tests1_7 f t s ≡ given (record { rows = rows f t; nodes = nodes (rows f t); shape = shape_in f t s })
+  pub known : (e : ℕ) → e < w.entries → get_or w.types e 0 < length (types (rows f t))
+  pub reads : Read (shape_in f t s) w ways
+
+-- what tests 1 to 7 say of a table t and a shape s: a refusal, or where none refuses, the entries
+abbrev pub Passes : Format → List ℕ → List ℕ → Result Tested Refusal → List ℕ → Type 0
+Passes f t s (Ok w) ways = Passed f t s w ways
+Passes f t s (Err e) ways = tests1_7 f t s ≡ refused (refusal_number e) (refusal_place e)
 
 -- this is so of whatever table passes the first four tests and has these types
-abbrev pub PassesEach : Format → List ℕ → List ℕ → ℕ → List ℕ → Tested → List ℕ → Type 0
-PassesEach f parents labels count s w ways =
-    (t : List ℕ) → tests1_4 f t ≡ given (rows f t) → Told (types (rows f t)) parents labels count → Passes f t s w ways
+abbrev pub PassesEach : Format → List ℕ → List ℕ → ℕ → List ℕ → Result Tested Refusal → List ℕ → Type 0
+PassesEach f parents labels count s r ways =
+    (t : List ℕ) → tests1_4 f t ≡ given (rows f t) → Told (types (rows f t)) parents labels count → Passes f t s r ways

@@ -1,10 +1,12 @@
 -- A table and a shape that pass tests 1 to 7, as judging, reshaping and summarising work on them. Assumes nothing.
-use Rattle.std.specs.Prelude.{ℕ, ◌*◌, ◌≤◌, ◌<◌, ◌≡◌, List, length, get_or}
+use Rattle.std.specs.Prelude.{ℕ, ◌*◌, ◌≤◌, ◌<◌, ◌≡◌, List, length, get_or, Result, Ok, Err}
 use Rattle.paper.specs.Format.{Format, most_entries}
 use Rattle.paper.specs.Tables.{rows}
 use Rattle.paper.specs.Closeness.{nodes, kinds_meet}
 use Rattle.paper.specs.Shapes as Paper
 use Rattle.paper.specs.Calls.{refused, given, tests1_7}
+use Rattle.paper.specs.Refusals.{refusal_number, refusal_place}
+use Rattle.paper.specs.declared.refusal.Refusal.{Refusal}
 use Rattle.octets.specs.Served.{Served}
 use Rattle.closest.specs.Deepest.{no_meetings}
 use Rattle.closest.specs.Runs.{Levelled, Rows}
@@ -17,10 +19,8 @@ use Rattle.shapes.specs.Shape.{level_of, label_of, type_of, parent_of, Shaped}
 use Rattle.shapes.specs.declared.shape.Shape.{Shape}
 use Rattle.shapes.specs.declared.work.Preparation.{Preparation}
 
--- a refusal, or the number of rows with the level and the type number of each, where the types meet, the shape, and the ways of its entries
+-- the number of rows with the level and the type number of each, where the types meet, the shape, and the ways of its entries
 pub record Work : Type 0 where
-  pub number : ℕ
-  pub place : ℕ
   pub rows : ℕ
   pub levels : List ℕ
   pub types : List ℕ
@@ -49,11 +49,6 @@ pub record Ready (f : Format) (t s : List ℕ) (w : Work) : Type 0 where
       → meeting_of w.meetings w.shape.types d e ≡ kinds_meet (nodes (rows f t)) (type_of w.shape d) (type_of w.shape e)
   pub holds : Holds (shape_in f t s) w
 
--- what tests 1 to 7 say of a table t and a shape s
-pub record Prepared (f : Format) (t s : List ℕ) (w : Work) : Type 0 where
-  pub refused-is : (w.number ≡ 0 → ⊥) → tests1_7 f t s ≡ refused w.number w.place
-  pub ready : w.number ≡ 0 → Ready f t s w
-
 -- the lists that are lent to prepare it: no meetings yet, and places for all ways
 pub record Blank (meetings ways : List ℕ) : Type 0 where
   pub none_met : meetings ≡ no_meetings
@@ -62,8 +57,6 @@ pub record Blank (meetings ways : List ℕ) : Type 0 where
 -- the work that is given back as r and found in the lent lists
 abbrev pub work_of : Preparation → List ℕ → List ℕ → List ℕ → List ℕ → Work
 work_of r levels types meetings ways = record {
-  number = r.number;
-  place = r.place;
   rows = r.rows;
   levels = levels;
   types = types;
@@ -72,7 +65,12 @@ work_of r levels types meetings ways = record {
   ways = ways;
 }
 
+-- what tests 1 to 7 say of a table t and a shape s: a refusal, or the work, with these lists
+abbrev pub Prepared : Format → List ℕ → List ℕ → Result Preparation Refusal → List ℕ → List ℕ → List ℕ → List ℕ → Type 0
+Prepared f t s (Ok p) levels types meetings ways = Ready f t s (work_of p levels types meetings ways)
+Prepared f t s (Err e) levels types meetings ways = tests1_7 f t s ≡ refused (refusal_number e) (refusal_place e)
+
 -- whatever table the rows are of, preparing gives r back, and leaves these meetings and ways
-abbrev pub Prepares : Format → List ℕ → RowsRead → Preparation → List ℕ → List ℕ → List ℕ → List ℕ → Type 0
+abbrev pub Prepares : Format → List ℕ → RowsRead → Result Preparation Refusal → List ℕ → List ℕ → List ℕ → List ℕ → Type 0
 Prepares f s read r levels types meetings ways =
-    (t : List ℕ) → RowsIn f t read levels types → Prepared f t s (work_of r levels types meetings ways)
+    (t : List ℕ) → RowsIn f t read levels types → Prepared f t s r levels types meetings ways

@@ -9,82 +9,33 @@ use crate::entry::bad_entry;
 use crate::entry_types::entry_types;
 use crate::ways::entry_ways;
 use paper::Format;
-
-// What examining a shape by itself answers.
-#[derive(Clone, Copy, Drop)]
-pub struct ShapeExamined {
-    pub number: usize,
-    pub place: usize,
-    pub entries: usize,
-}
+use paper::refusal::Refusal;
 
 // Refusals 5 and 6, or the number of entries.
-pub fn examine_shape(shape: &[u8], f: Format) -> ShapeExamined
+pub fn examine_shape(shape: &[u8], f: Format) -> Result<usize, Refusal>
     requires { Served f }
     ensures { shape_examined result ≡ shape_reply f shape.now }
 {
     let w = octets::entry_bytes(f);
-    if shape.len() == 0 {
-        return ShapeExamined {
-            number: 5,
-            place: 0,
-            entries: 0,
-        };
-    }
-    if 16 * w < shape.len() {
-        return ShapeExamined {
-            number: 5,
-            place: 0,
-            entries: 0,
-        };
-    }
-    if shape.len() % w != 0 {
-        return ShapeExamined {
-            number: 5,
-            place: 0,
-            entries: 0,
-        };
+    if shape.is_empty() || 16 * w < shape.len() || shape.len() % w != 0 {
+        return Err(Refusal::NoShape);
     }
     let entries = shape.len() / w;
     let bad = bad_entry(shape, f, entries);
     if bad < entries {
-        return ShapeExamined {
-            number: 6,
-            place: bad,
-            entries: 0,
-        };
+        return Err(Refusal::BadEntry(bad));
     }
-    ShapeExamined {
-        number: 0,
-        place: 0,
-        entries: entries,
-    }
+    Ok(entries)
 }
 
-// A refusal, or the number of entries with the level, last label, parent and type number of each.
+// The number of entries with the level, last label, parent and type number of each.
 #[derive(Clone, Copy, Drop)]
 pub struct Tested {
-    pub number: usize,
-    pub place: usize,
     pub entries: usize,
     pub levels: [u8; 16],
     pub labels: [u16; 16],
     pub parents: [u8; 16],
     pub types: [u8; 16],
-}
-
-fn refused(number: usize, place: usize) -> Tested
-    ensures { (result.number ≡ number) × (result.place ≡ place) }
-{
-    Tested {
-        number: number,
-        place: place,
-        entries: 0,
-        levels: [0u8; 16],
-        labels: [0u16; 16],
-        parents: [0u8; 16],
-        types: [0u8; 16],
-    }
 }
 
 // Refusals 5 to 7 in their order, over the listed types of a table, or what was read: each entry's way is found in the lent list.
@@ -95,35 +46,26 @@ pub fn tests5_7<'a>(
     labels: &'a [u16],
     count: usize,
     ways: &mut [u8],
-) -> Tested
+) -> Result<Tested, Refusal>
     requires served { Served f × (length ways.old ≡ way_places * most_entries) }
     requires count_in_bounds { (count ≤ length parents.now) × (count ≤ length labels.now) × (count ≤ most_types) }
     ensures { PassesEach f parents.now labels.now count shape.now result ways.new }
 {
-    let examined = examine_shape(shape, f);
-    let number = examined.number;
-    let place = examined.place;
-    let entries = examined.entries;
-    if number != 0 {
-        return refused(number, place);
-    }
+    let entries = examine_shape(shape, f)?;
     let named = entry_types(shape, f, entries, parents, labels, count);
-    let missing = named.place;
-    if missing < entries {
-        return refused(7, missing);
+    if named.place < entries {
+        return Err(Refusal::TypeMissing(named.place));
     }
     let laid = entry_ways(shape, f, entries, ways);
     let entry_levels = laid.levels;
     let entry_labels = laid.labels;
     let entry_parents = laid.parents;
-    let wanted = named.types;
-    Tested {
-        number: 0,
-        place: 0,
-        entries: entries,
+    let entry_types = named.types;
+    Ok(Tested {
+        entries,
         levels: entry_levels,
         labels: entry_labels,
         parents: entry_parents,
-        types: wanted,
-    }
+        types: entry_types,
+    })
 }

@@ -8,33 +8,13 @@ use crate::shape::{Shape, draw};
 use crate::tests::tests5_7;
 use closest::rows::RowsRead;
 use paper::Format;
+use paper::refusal::Refusal;
 
-// A refusal, or the number of rows and the shape.
+// The number of rows and the shape.
 #[derive(Clone, Copy, Drop)]
 pub struct Preparation {
-    pub number: usize,
-    pub place: usize,
     pub rows: usize,
     pub shape: Shape,
-}
-
-fn unprepared(number: usize, place: usize) -> Preparation
-    ensures { (result.number ≡ number) × (result.place ≡ place) }
-{
-    Preparation {
-        number: number,
-        place: place,
-        rows: 0,
-        shape: Shape {
-            entries: 0,
-            levels: [0u8; 16],
-            labels: [0u16; 16],
-            types: [0u8; 16],
-            parents: [0u8; 16],
-            edges: [0u8; 16],
-            ends: [0u8; 16],
-        },
-    }
 }
 
 // Refusals 5 to 7 in their order, or the work, for the rows of a table that were read: where the types meet and the ways of the entries are
@@ -47,38 +27,28 @@ pub fn prepare(
     types: &[u8],
     meetings: &mut [u8],
     ways: &mut [u8],
-) -> Preparation
+) -> Result<Preparation, Refusal>
     requires { Served f × SomeRows f read levels.now types.now × Blank meetings.old ways.old }
     ensures { Prepares f shape.now read result levels.now types.now meetings.new ways.new }
 {
-    let count = read.count;
     let type_parents = read.parents;
     let type_labels = read.labels;
-    let tested = tests5_7(shape, f, &type_parents, &type_labels, count, ways);
-    let number = tested.number;
-    let place = tested.place;
-    if number != 0 {
-        return unprepared(number, place);
-    }
-    let rows = read.rows;
-    let entries = tested.entries;
+    let tested = tests5_7(shape, f, &type_parents, &type_labels, read.count, ways)?;
     let entry_types = tested.types;
     let entry_levels = tested.levels;
     let labels = tested.labels;
     let parents = tested.parents;
-    closest::meet::meetings(levels, types, rows, entry_types, meetings);
+    closest::meet::meetings(levels, types, read.rows, entry_types, meetings);
     let drawn = draw(
-        entries,
+        tested.entries,
         entry_levels,
         labels,
         entry_types,
         parents,
         meetings,
     );
-    Preparation {
-        number: 0,
-        place: 0,
-        rows: rows,
+    Ok(Preparation {
+        rows: read.rows,
         shape: drawn,
-    }
+    })
 }
