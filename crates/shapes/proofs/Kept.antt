@@ -8,6 +8,7 @@ use mathlib.Core.List.{List}
 use lib.Dec.{eqb, leb}
 use lib.ListN.{length, get_or, take, drop, length-take, drop_of_length-le}
 use lib.Seq.{drop-cons, get_or-take}
+use Rattle.std.specs.List.{list_all, range_with_len}
 use borrow.Author.Tests.{eq-eqb, ne_eqb, le-leb, lt-leb}
 use Rattle.paper.specs.Lists.{all, between}
 use Rattle.paper.specs.Format.{Format, byte, word, words}
@@ -26,37 +27,12 @@ above a x b lt = and_right (leb a x) (lt-leb x b lt)
 pub within : (a x b : ℕ) → a ≤ x → x ≤ b → between a x b ≡ true
 within a x b lo hi = and (le-leb a x lo) (le-leb x b hi)
 
--- ---- the labels of the type that an entry names, from label k on
-module _ (f : Format) (size : ℕ) (e : List ℕ) (fits : size ≤ f.levels) (k : ℕ) where
-  abbrev labels : List ℕ
-  labels = take size (words f.levels e 4)
-
-  abbrev label : ℕ → Bool
-  label x = between 1 x f.labels
-
-  count : length labels ≡ size
-  count = omega (arith, length-take size (words f.levels e 4), length-words f.levels e 4)
-
-  module _ (x : ℕ) (lt : k < size) (at-k : x ≡ get_or (words f.levels e 4) k 0) where
-    split : all label (drop k labels) ≡ label x && all label (drop (suc k) labels)
-    split =
-        ap (all label) (drop-cons labels k 0 (omega (arith, count)))
-        ∙ ap (λ y. label y && all label (drop (suc k) labels)) (get_or-take size (words f.levels e 4) k 0 lt ∙ sym at-k)
-
-    -- A number that is no label of the format decides.
-    pub label_stop : between 1 x f.labels ≡ false → all (λ y. between 1 y f.labels) (drop k (take size (words f.levels e 4))) ≡ false
-    label_stop no_label = split ∙ and_left (all label (drop (suc k) labels)) no_label
-
-    -- After a label of the format the next one decides.
-    pub label_step : between 1 x f.labels ≡ true
-        → all (λ y. between 1 y f.labels) (drop k (take size (words f.levels e 4)))
-        ≡ all (λ y. between 1 y f.labels) (drop (k + 1) (take size (words f.levels e 4)))
-    label_step a-label =
-        split ∙ ap (λ b. b && all label (drop (suc k) labels)) a-label ∙ ap (λ n. all label (drop n labels)) (sym (add-one k))
-
-  -- Past the last label there is nothing left to break.
-  pub label_end : size ≤ k → all (λ y. between 1 y f.labels) (drop k (take size (words f.levels e 4))) ≡ true
-  label_end le = ap (all label) (drop_of_length-le labels {i = k} (omega (arith, count)))
+-- ---- the elements of a list from place i on, tested at their places
+pub all_places : (p : ℕ → Bool) (l : List ℕ) (n i : ℕ) → i + n ≤ length l → list_all (λ k. p (get_or l k 0)) (range_with_len i n) ≡ all p (take n (drop i l))
+all_places p l zero i le = refl
+all_places p l (suc n) i le =
+    ap (λ b. p (get_or l i 0) && b) (all_places p l n (i + 1) (omega arith) ∙ ap (λ m. all p (take n (drop m l))) (add-one i))
+    ∙ sym (ap (λ d. all p (take (suc n) d)) (drop-cons l i 0 (omega arith)))
 
 -- ---- the level of an entry after one of level b
 -- The first entry has level 1.
