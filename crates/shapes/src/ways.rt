@@ -14,8 +14,9 @@ fn put_way(ways: &mut [u8], e: usize, l: usize)
     requires { (length ways.old ≡ way_places * most_entries) × (e < 16) × (1 ≤ l) × (l ≤ 8) × (e ≡ 0 → l ≡ 1) }
     ensures { Put ways.old e l ways.new }
 {
-    for k in 0..l - 1 {
-        ways[8 * e + k] = ways[8 * (e - 1) + k];
+    if 1 < l {
+        let before = 8 * (e - 1);
+        ways.copy_within(before..before + (l - 1), 8 * e);
     }
     ways[8 * e + (l - 1)] = e as u8;
 }

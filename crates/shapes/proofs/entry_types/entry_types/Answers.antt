@@ -28,7 +28,7 @@ returns-then-count-k c =
     let e = c.loop-e in
     let is : c.record-entry.result.now ≡ rec (entry_bytes a.f) e.e a.shape.now = cc in
     let number = read_numbers a.f a.shape.now a.parents.now a.labels.now a.count e.e c.record-entry.result.now c.wide-size.result
-        c.type_of-k.result is c.wide-size.ensures.0 c.type_of-k.ensures.1 in
+    c.type_of-k.result is c.wide-size.ensures.0 c.type_of-k.ensures.1 in
     numbered_stop a.f a.shape.now a.parents.now a.labels.now a.count e.e e.types e.invariant.numbered (omega arith)
     c.type_of-k.result number (omega arith) a.entries c.requires.entries_value.0
 
@@ -38,7 +38,7 @@ loop-e-preserved c =
     let e = c.loop-e in
     let is : c.record-entry.result.now ≡ rec (entry_bytes a.f) e.e a.shape.now = cc in
     let number = read_numbers a.f a.shape.now a.parents.now a.labels.now a.count e.e c.record-entry.result.now c.wide-size.result
-        c.type_of-k.result is c.wide-size.ensures.0 c.type_of-k.ensures.1 in record {
+    c.type_of-k.result is c.wide-size.ensures.0 c.type_of-k.ensures.1 in record {
       long = length-set e.types e.e c.type_of-k.result ∙ e.invariant.long;
       numbered = numbered_step a.f a.shape.now a.parents.now a.labels.now a.count e.e e.types e.invariant.numbered (omega arith)
           c.type_of-k.result number (omega arith) (omega arith);

@@ -17,7 +17,7 @@ overflow_sub-size c =
     let a = c.args in
     let is : c.record-entry.result.now ≡ rec (entry_bytes a.f) c.loop-e.e a.shape.now = cc in
     let fits = size-read a.f a.shape.now a.entries (c.requires.entries_value, c.requires.shape_value.0) c.loop-e.e (omega arith) c.record-entry.result.now is
-        c.wide-size.result c.wide-size.ensures.0 in
+    c.wide-size.result c.wide-size.ensures.0 in
     omega arith
 
 pub component-requires : goal.component-requires
@@ -25,7 +25,7 @@ component-requires c =
     let a = c.args in
     let is : c.record-entry.result.now ≡ rec (entry_bytes a.f) c.loop-e.e a.shape.now = cc in
     let fits = size-read a.f a.shape.now a.entries (c.requires.entries_value, c.requires.shape_value.0) c.loop-e.e (omega arith) c.record-entry.result.now is
-        c.wide-size.result c.wide-size.ensures.0 in
+    c.wide-size.result c.wide-size.ensures.0 in
     (omega (arith, c.record-entry.ensures.1, c.entry_bytes-w.ensures), omega arith, omega (arith, c.requires.entries_value.2))
 
 pub put_way-requires : goal.put_way-requires
@@ -33,7 +33,7 @@ put_way-requires c =
     let a = c.args in
     let is : c.record-entry.result.now ≡ rec (entry_bytes a.f) c.loop-e.e a.shape.now = cc in
     let (inside, lo, hi, first) = level-read a.f a.shape.now a.entries (c.requires.entries_value, c.requires.shape_value.0) c.loop-e.e (omega arith)
-        c.record-entry.result.now is c.wide-l.result c.wide-l.ensures.0 in
+    c.record-entry.result.now is c.wide-l.result c.wide-l.ensures.0 in
     (c.loop-e.invariant.ways_long, inside, lo, hi, first)
 
 pub parent_of-requires : goal.parent_of-requires
@@ -41,7 +41,7 @@ parent_of-requires c =
     let a = c.args in
     let is : c.record-entry.result.now ≡ rec (entry_bytes a.f) c.loop-e.e a.shape.now = cc in
     let (inside, lo, hi, first) = level-read a.f a.shape.now a.entries (c.requires.entries_value, c.requires.shape_value.0) c.loop-e.e (omega arith)
-        c.record-entry.result.now is c.wide-l.result c.wide-l.ensures.0 in
+    c.record-entry.result.now is c.wide-l.result c.wide-l.ensures.0 in
     (omega (arith, c.loop-e.invariant.ways_long), inside, lo, hi)
 
 pub loop-e-preserved : goal.loop-e-preserved
