@@ -19,8 +19,8 @@ use Rattle.judging.specs.contracts.verdict.Verdict.{the_type}
 use Rattle.judging.proofs.Earned.{join_related, FirstIn, first_more, first_fault_lem}
 
 -- a verdict of another variant is not kept
-pub not_kept : (v : Verdict) → OneOf (1 ∷ 2 ∷ 3 ∷ []) (tag_of the_type v) → told v ≡ kept → ⊥
-not_kept Kept h q = ⊎_elim (λ x. omega arith) (⊎_elim (λ x. omega arith) (λ x. omega arith)) h
+pub not_kept : (v : Verdict) → (v ≡ Kept → ⊥) → told v ≡ kept → ⊥
+not_kept Kept h q = h refl
 not_kept (Missing e r) h q = omega (arith, ap (λ v. first_or 0 (verdict_numbers v)) q)
 not_kept (Apart e f) h q = omega (arith, ap (λ v. first_or 0 (verdict_numbers v)) q)
 not_kept (Unsure e f) h q = omega (arith, ap (λ v. first_or 0 (verdict_numbers v)) q)

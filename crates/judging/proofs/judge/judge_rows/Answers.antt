@@ -40,3 +40,36 @@ walk_edges-edges-requires c = let r = some_ready (goal.at.walk_edges-edges-requi
 pub first_lone-lone-requires : goal.first_lone-lone-requires
 first_lone-lone-requires c =
     let r = some_ready (goal.at.first_lone-lone-requires c).In_ok-prepared in (r.rows_are, r.shaped.sized, c.walk_edges-edges.ensures.all_met)
+
+pub first_fault-fault-requires : goal.first_fault-fault-requires
+first_fault-fault-requires c = (room (some_ready (goal.at.first_fault-fault-requires c).In_ok-prepared) (search rules), search rules)
+
+pub none_apart_beside-none-requires : goal.none_apart_beside-none-requires
+none_apart_beside-none-requires c = (
+  room (some_ready (goal.at.none_apart_beside-none-requires c).In_ok-prepared) (search rules),
+  search rules,
+  (c.full_edges-full.result, c.first_fault-fault.ensures),
+)
+
+pub none_apart-none-requires : goal.none_apart-none-requires
+none_apart-none-requires c = (room (some_ready (goal.at.none_apart-none-requires c).In_ok-prepared) (search rules), search rules)
+
+pub returns-in-Kept : goal.returns-in-Kept
+returns-in-Kept c t rows =
+    let y = c.in_ok-prepared.ensures t rows in
+    let found = c.walk_edges-edges.result in
+    answered c.given.result c.first_fault-fault.result c.none_apart_beside-none.result found _ c.given.ensures
+    (judge-given y _ _ _
+    (c.first_fault-fault.ensures
+    ∙ pair_verdict y c.full_edges-full.result (fulls_are y found c.walk_edges-edges.ensures c.full_edges-full.result c.full_edges-full.ensures)
+    (sym c.first_lone-lone.ensures ∙ ap told c.in-Kept.is))
+    c.none_apart_beside-none.ensures (edges_are y found c.walk_edges-edges.ensures (long (goal.at.returns-in-Kept c).After-walk_edges-edges)))
+
+pub returns-in_default : goal.returns-in_default
+returns-in_default c t rows =
+    let y = c.in_ok-prepared.ensures t rows in
+    let found = c.walk_edges-edges.result in
+    answered c.given-in_default.result c.first_lone-lone.result c.none_apart-none.result found _ c.given-in_default.ensures
+    (judge-given y _ _ _
+    (alone_verdict y (told c.first_lone-lone.result) c.first_lone-lone.ensures (not_kept c.first_lone-lone.result c.in_default.not-Kept))
+    c.none_apart-none.ensures (edges_are y found c.walk_edges-edges.ensures (long (goal.at.returns-in_default c).After-walk_edges-edges)))

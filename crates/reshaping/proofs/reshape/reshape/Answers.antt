@@ -16,7 +16,7 @@ returns-in_err-read c =
     let e = c.in_err-read.field-0.0 in
     let call = (seam a.f a.table.now (tests1_4 a.f a.table.now) refl).reshapes a.shape.now a.new.now a.sources.now in
     rw (p.1, p.2)
-    (leaves c.requires _ _ a.new.now a.sources.now e (refused-reshape a.table.now a.shape.now a.new.now a.sources.now _ _ call e c.in_err-read.ensures))
+    (leaves c.requires _ _ a.new.now a.sources.now e (refused-reshape a.f a.shape.now a.new.now a.sources.now call e c.in_err-read.ensures))
 
 pub next_rows-requires : goal.next_rows-requires
 next_rows-requires c =

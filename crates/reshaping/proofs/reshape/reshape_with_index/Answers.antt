@@ -6,7 +6,7 @@ use Rattle.reshaping.proofs.reshape.reshape_with_index.Goals as goal
 pub returns-in_err-read : goal.returns-in_err-read
 returns-in_err-read c =
     let p = err_from_is_err_and c.from_residual.result c.from_residual.ensures.1 in
-    rw (p.1, p.2) (leaves-with _ _ c.in_err-read.field-0.0 c.in_err-read.ensures.reads)
+    rw (p.1, p.2) (leaves-with _ _ _ _ _ _ _ c.in_err-read.field-0.0 c.in_err-read.ensures.reads)
 
 -- the lent next rows are those of the rows that were read
 pub reshape_rows-requires : goal.reshape_rows-requires
@@ -15,4 +15,4 @@ reshape_rows-requires c =
     record { served = (c.requires, c.in_ok-read.ensures.reads.1); next_rows = (next.nexts, next.long) }
 
 pub returns : goal.returns
-returns c = reshapes_with _ _ c.in_ok-read.read c.in_ok-read.ensures.reads c.reshape_rows.ensures
+returns c = reshapes_with _ _ _ _ _ _ _ _ _ c.in_ok-read.read c.in_ok-read.ensures.reads _ _ _ c.reshape_rows.ensures

@@ -9,7 +9,7 @@ returns-in_err-read c =
     let a = c.args in
     let p = err_from_is_err_and c.from_residual.result c.from_residual.ensures.1 in
     let call = summarise_with_lem a.f a.table.now a.shape.now a.last.now a.next.now in
-    rw (p.1, p.2) (refused_summary a.shape.now call _ _ c.in_err-read.field-0.0 c.in_err-read.ensures.reads)
+    rw (p.1, p.2) (refused_summary a.f a.shape.now c.in_err-read.field-0.0 call c.in_err-read.ensures.reads)
 
 pub summarise_rows-requires : goal.summarise_rows-requires
 summarise_rows-requires c = (c.requires, (c.args.table.now, c.in_ok-read.ensures.reads.1))
@@ -18,4 +18,4 @@ pub returns : goal.returns
 returns c =
     let a = c.args in
     let call = summarise_with_lem a.f a.table.now a.shape.now a.last.now a.next.now in
-    summarised-rows a.shape.now call _ _ c.in_ok-read.read _ c.in_ok-read.ensures.reads c.summarise_rows.ensures
+    summarised-rows a.f a.table.now a.shape.now _ _ c.in_ok-read.read _ call c.in_ok-read.ensures.reads c.summarise_rows.ensures
