@@ -26,7 +26,10 @@ use Rattle.indexes.specs.Last.{LastRows}
 use Rattle.indexes.specs.Labels.{LabelLists, NextsAlike}
 use Rattle.indexes.specs.Built.{built, Builds}
 use Rattle.indexes.specs.Front.{Indexes}
-use Rattle.indexes.specs.declared.build.IndexBuilt.{IndexBuilt}
+use Rattle.std.specs.Prelude.{Ok, Err}
+use Rattle.paper.specs.Refusals.{refusal_number, refusal_place}
+use Rattle.paper.specs.declared.refusal.Refusal.{Refusal}
+use Rattle.paper.specs.declared.refusal.Refusal.TheVariants.{IndexTooShort}
 use Rattle.indexes.proofs.Held.{last_is, next_is}
 use Rattle.indexes.proofs.Numbered.{levelled, numbers}
 
@@ -122,28 +125,25 @@ module _ (f : Format) (t last next : List ℕ) where
     given_index e = by-building (given (index_of (nodes (rows f t)))) (building-is ∙ ap tested table ∙ ap short e)
 
 -- ---- the promise
-pub builds_refused : (f : Format) (t last next : List ℕ) (r : IndexBuilt) (k p : ℕ) → (r.number ≡ k) × (r.place ≡ p) × (r.rows ≡ 0)
-    → build_index f t last next ≡ record { reply = record { number = k; place = p; rest = 0 }; last = last; next = next } → Builds f t last next r last next
-builds_refused f t last next r k p (n, q, z) e = record {
-  answer = ap₃ n q z ∙ sym (ap (λ (b : Built). b.reply) e);
-  lasts = sym (ap (λ (b : Built). b.last) e);
-  nexts = sym (ap (λ (b : Built). b.next) e);
+pub builds_refused : (f : Format) (t last next : List ℕ) (e : Refusal)
+    → build_index f t last next ≡ record { reply = record { number = refusal_number e; place = refusal_place e; rest = 0 }; last = last; next = next }
+    → Builds f t last next (built (Err e)) last next
+builds_refused f t last next e q = record {
+  answer = sym (ap (λ (b : Built). b.reply) q);
+  lasts = sym (ap (λ (b : Built). b.last) q);
+  nexts = sym (ap (λ (b : Built). b.next) q);
 }
-  where
-    ap₃ : r.number ≡ k → r.place ≡ p → r.rows ≡ 0 → built r ≡ record { number = k; place = p; rest = 0 }
-    ap₃ n q z = cc
 
 module _ (f : Format) (n : ℕ) (t last next : List ℕ) (sound : SoundRows f n t) (table : tests1_3 f t ≡ given (rows f t)) where
   pub too_short_lem : (length last < n) ⊎ (length next < n) → too_short (rows f t) last next ≡ true
   too_short_lem (inl lt) = or_left (ltb (length next) (length (rows f t))) (lt-ltb (length last) (length (rows f t)) (omega (arith, sound.rows_n)))
   too_short_lem (inr lt) = or_right (ltb (length last) (length (rows f t))) (lt-ltb (length next) (length (rows f t)) (omega (arith, sound.rows_n)))
 
-  pub builds_short : (r : IndexBuilt) → (r.number ≡ 14) × (r.place ≡ 0) × (r.rows ≡ 0) → (length last < n) ⊎ (length next < n)
-      → Builds f t last next r last next
-  builds_short r is short = builds_refused f t last next r 14 0 is (refused_short f t last next table (too_short_lem short))
+  pub builds_short : (length last < n) ⊎ (length next < n) → Builds f t last next (built (Err IndexTooShort)) last next
+  builds_short short = builds_refused f t last next IndexTooShort (refused_short f t last next table (too_short_lem short))
 
   pub builds_given : (last' next' : List ℕ) → n ≤ length last → n ≤ length next → Indexes f t last next last' next'
-      → Builds f t last next (record { number = 0; place = 0; rows = n }) last' next'
+      → Builds f t last next (built (Ok n)) last' next'
   unfolding index_of
   builds_given last' next' la lb is = record {
     answer = ap (λ m. record { number = 0; place = 0; rest = m }) (sym (long (last_descendant ns))) ∙ sym (ap (λ (b : Built). b.reply) given_is);

@@ -23,6 +23,8 @@ use Rattle.closest.proofs.Meets.{nodes_are, kind_at}
 use Rattle.closest.proofs.Levels.{meet-level, meet_above, meet_within}
 use Rattle.indexes.specs.Last.{LastRow}
 use Rattle.indexes.specs.Wrong.{FirstWrong}
+use Rattle.std.specs.Prelude.{Ok, Err}
+use Rattle.paper.specs.declared.refusal.Refusal.TheVariants.{IndexTooShort, WrongIndex}
 use Rattle.indexes.specs.Tested.{Says}
 use Rattle.indexes.proofs.Counted.{kept_places, placed, first-none, first_at_lem, last_at, place_none, place_at}
 
@@ -161,16 +163,13 @@ module _ (f : Format) (t last next : List ℕ) (table : tests1_4 f t ≡ given (
   are : tests_index f t last next ≡ tested rs (too_short rs last next) (wrong_row (nodes rs) last next)
   are = tests_are f t last next rs table
 
-  pub lists_short : too_short (Tables.rows f t) last next ≡ true → Says (tests_index f t last next) (Tables.rows f t) 14 0
-  lists_short e = record {
-    refused-is = λ _. are ∙ ap (λ b. tested rs b (wrong_row (nodes rs) last next)) e;
-    given_is = λ z. let w : ⊥ = omega (arith, z) in absurd w;
-  }
+  pub lists_short : too_short (Tables.rows f t) last next ≡ true → Says (tests_index f t last next) (Tables.rows f t) (Err IndexTooShort)
+  lists_short e = are ∙ ap (λ b. tested rs b (wrong_row (nodes rs) last next)) e
 
   pub lists_wrong : too_short (Tables.rows f t) last next ≡ false → (w : ℕ) → wrong_row (nodes (Tables.rows f t)) last next ≡ some w
-      → Says (tests_index f t last next) (Tables.rows f t) 15 w
-  lists_wrong e w q = record { refused-is = λ _. are ∙ ap₂ (tested rs) e q; given_is = λ z. let w : ⊥ = omega (arith, z) in absurd w }
+      → Says (tests_index f t last next) (Tables.rows f t) (Err (WrongIndex w))
+  lists_wrong e w q = are ∙ ap₂ (tested rs) e q
 
   pub lists_right : too_short (Tables.rows f t) last next ≡ false → wrong_row (nodes (Tables.rows f t)) last next ≡ none
-      → Says (tests_index f t last next) (Tables.rows f t) 0 0
-  lists_right e q = record { refused-is = λ ne. absurd (ne refl); given_is = λ _. are ∙ ap₂ (tested rs) e q }
+      → Says (tests_index f t last next) (Tables.rows f t) (Ok tt)
+  lists_right e q = are ∙ ap₂ (tested rs) e q

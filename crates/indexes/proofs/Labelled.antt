@@ -65,9 +65,6 @@ module _ (f : Format) (t : List ℕ) (sound : bad_row f (rows f t) ≡ none) whe
   pub first-level : (i : ℕ) → i < whole (row_bytes f) t → i ≡ 0 → byte (rec (row_bytes f) i t) 0 ≤ 1
   first-level i lt e = omega (arith, deep i lt, ap (λ n. length (before ws n)) e)
 
-  pub labels-none : (labels : List ℕ) → LabelLists 0 (row_types (rows f t)) labels
-  labels-none labels i m lt = let z : ⊥ = omega arith in absurd z
-
   more : f.levels ≤ most_levels → (i : ℕ) → i < whole (row_bytes f) t → (old new : List ℕ) → LabelLists i (row_types (rows f t)) old
       → Put i (byte (rec (row_bytes f) i t) 0) (word (rec (row_bytes f) i t) 2) old new → LabelLists (i + 1) (row_types (rows f t)) new
   more le i lt old new so_far put j m lj lm = ⊎_elim earlier (λ e. subst (λ j. m < length (get_or ws j []) → label_of new j m ≡ get_or (get_or ws j []) m 0) (sym e) here lm) (below j i lj)

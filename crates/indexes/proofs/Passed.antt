@@ -9,14 +9,13 @@ use Rattle.paper.specs.Calls.{given, examine, tests1_3}
 use Rattle.paper.proofs.Calls.{passed1_3, few_rows, count-rows}
 use Rattle.octets.specs.Served.{Served}
 use Rattle.tables.specs.Reply.{examined}
-use Rattle.tables.specs.declared.table.Examined.{Examined}
-use Rattle.tables.proofs.Examine.{examined-given}
+use Rattle.std.specs.Prelude.{Ok}
+use Rattle.tables.proofs.Examine.{tests_give}
 use Rattle.closest.specs.Runs.{SoundRows}
 
-pub passed : {f : Format} {t : List ℕ} → Served f → (x : Examined) → examined x ≡ examine f t → x.number ≡ 0
-    → (tests1_3 f t ≡ given (rows f t)) × SoundRows f x.rows t
-passed {f} {t} served x e z =
-    let (g, w) = examined-given f t x.number x.place x.rows e z in
+pub passed : {f : Format} {t : List ℕ} → Served f → (n : ℕ) → examined (Ok n) ≡ examine f t → (tests1_3 f t ≡ given (rows f t)) × SoundRows f n t
+passed {f} {t} served n e =
+    let (g, w) = tests_give f t n e in
     let (same, kept, short) = passed1_3 f t (rows f t) g in (
       g,
       record {

@@ -13,7 +13,10 @@ use Rattle.paper.specs.Index.{too_short}
 use Rattle.paper.proofs.Lists.{or_left, or_right}
 use Rattle.paper.proofs.Index.{index_refused}
 use Rattle.octets.specs.Served.{Served}
-use Rattle.tables.specs.declared.table.Refusal.{Refusal}
+use Rattle.std.specs.Prelude.{Ok, Err}
+use Rattle.paper.specs.Refusals.{refusal_number, refusal_place}
+use Rattle.paper.specs.declared.refusal.Refusal.{Refusal}
+use Rattle.paper.specs.declared.refusal.Refusal.TheVariants.{IndexTooShort, WrongIndex}
 use Rattle.closest.specs.Runs.{Levelled, NextRow}
 use Rattle.closest.specs.Rows.{RowsIn, ReadRows}
 use Rattle.closest.specs.declared.rows.RowsRead.{RowsRead}
@@ -24,18 +27,18 @@ use Rattle.indexes.proofs.Held.{wrong_row_lem, no_wrong_row, lists_short, lists_
 
 module _ (n : ℕ) (levels types last next : List ℕ) where
   -- a list is too short for the rows
-  pub holds_short : length next < n → Holds n levels types last next (record { number = 14; place = 0 })
+  pub holds_short : length next < n → Holds n levels types last next (Err IndexTooShort)
   holds_short lt = record {
     says = λ f t lv table. lists_short f t last next table
         (or_right (ltb (length last) (length (rows f t))) (lt-ltb (length next) (length (rows f t)) (omega (arith, lv.typed.rows_n))));
-    next_in = λ z. let w : ⊥ = omega (arith, z) in absurd w;
+    next_in = tt;
   }
 
-  pub holds_short_last : length last < n → Holds n levels types last next (record { number = 14; place = 0 })
+  pub holds_short_last : length last < n → Holds n levels types last next (Err IndexTooShort)
   holds_short_last lt = record {
     says = λ f t lv table. lists_short f t last next table
         (or_left (ltb (length next) (length (rows f t))) (lt-ltb (length last) (length (rows f t)) (omega (arith, lv.typed.rows_n))));
-    next_in = λ z. let w : ⊥ = omega (arith, z) in absurd w;
+    next_in = tt;
   }
 
   module _ (long_last : n ≤ length last) (long_next : n ≤ length next) where
@@ -44,51 +47,32 @@ module _ (n : ℕ) (levels types last next : List ℕ) where
         (le-ltb (length next) (length (rows f t)) (omega (arith, lv.typed.rows_n)))
 
     module _ (a b w : ℕ) (fa : FirstWrong n (LastRow n levels) last a) (fb : FirstWrong n (NextRow n types) next b) (is : w ≡ min a b) where
-      pub holds_wrong : w < n → Holds n levels types last next (record { number = 15; place = w })
+      pub holds_wrong : w < n → Holds n levels types last next (Err (WrongIndex w))
       holds_wrong lt = record {
         says = λ f t lv table. lists_wrong f t last next table (fits f t lv) w (wrong_row_lem f n t levels types lv last next a b fa fb w is lt);
-        next_in = λ z. let w : ⊥ = omega (arith, z) in absurd w;
+        next_in = tt;
       }
 
-      pub holds_right : n ≤ w → Holds n levels types last next (record { number = 0; place = 0 })
+      pub holds_right : n ≤ w → Holds n levels types last next (Ok tt)
       holds_right le = record {
         says = λ f t lv table. lists_right f t last next table (fits f t lv) (no_wrong_row f n t levels types lv last next a b fa fb (omega arith));
-        next_in = λ _. record { long = long_next; nexts = λ i lt. fb.right i (omega arith) };
+        next_in = record { long = long_next; nexts = λ i lt. fb.right i (omega arith) };
       }
 
 -- ---- the rows with their index
-module _ (f : Format) (t last next levels types : List ℕ) (r : RowsRead) (read : ReadRows f t r levels types) where
+module _ (f : Format) (t last next levels types : List ℕ) where
   -- the table is refused
-  pub unread : (r.number ≡ 0 → ⊥) → ReadsIndexed f t last next r levels types
-  unread ne = record {
-    reads = record {
-      refused-is = λ _. index_refused f t last next r.number r.place (read.refused-is ne);
-      given_is = λ z. absurd (ne z);
-      read = read.read;
-    };
-    next_in = λ z. absurd (ne z);
-  }
+  pub unread : (e : Refusal) → ReadRows f t (Err e) levels types → ReadsIndexed f t last next (Err e) levels types
+  unread e read = record { reads = index_refused f t last next (refusal_number e) (refusal_place e) read; next_in = tt }
 
   -- and where it is not, the lists decide
-  pub read-with : r.number ≡ 0 → (x : Refusal) → Holds r.rows levels types last next x
-      → ReadsIndexed f t last next (record { number = x.number; place = x.place; rows = r.rows; count = r.count; parents = r.parents; labels = r.labels }) levels types
-  read-with z x holds =
-      let in_rows = read.read z in
-      let says = holds.says f t in_rows.levelled in_rows.given_is in
-      record {
-        reads = record {
-          refused-is = says.refused-is;
-          given_is = says.given_is;
-          read = λ _. record {
-            given_is = in_rows.given_is;
-            levelled = in_rows.levelled;
-            levels_are = in_rows.levels_are;
-            rows_are = in_rows.rows_are;
-            told = in_rows.told;
-          };
-        };
-        next_in = holds.next_in;
-      }
+  pub read_wrong : (r : RowsRead) (e : Refusal) → ReadRows f t (Ok r) levels types → Holds r.rows levels types last next (Err e)
+      → ReadsIndexed f t last next (Err e) levels types
+  read_wrong r e read holds = record { reads = holds.says f t read.1.levelled read.1.given_is; next_in = tt }
+
+  pub read_right : (r : RowsRead) → ReadRows f t (Ok r) levels types → Holds r.rows levels types last next (Ok tt)
+      → ReadsIndexed f t last next (Ok r) levels types
+  read_right r read holds = record { reads = (holds.says f t read.1.levelled read.1.given_is, read.1); next_in = holds.next_in }
 
 -- the levels of rows that are read
 pub shallow_rows : {f : Format} {t levels types : List ℕ} {r : RowsRead} → Served f → RowsIn f t r levels types → Shallow r.rows levels

@@ -14,11 +14,7 @@ fn end_of(ends: &mut [u16], behind: usize, l: usize, i: u16) -> u16
     if l < behind {
         return ends[l];
     }
-    let mut m = behind;
-    while m < l {
-        ends[m] = i;
-        m += 1;
-    }
+    ends[behind..l].fill(i);
     i
 }
 
@@ -29,9 +25,7 @@ pub fn put_last(levels: &[u8], rows: usize, last: &mut [u16])
 {
     let mut ends = [0u16; 9];
     let mut behind = 0;
-    let mut i = rows;
-    while 0 < i {
-        i -= 1;
+    for i in (0..rows).rev() {
         let l = octets::wide(levels[i]);
         last[i] = end_of(&mut ends, behind, l, i as u16);
         behind = l;
@@ -46,9 +40,7 @@ pub fn wrong_last(levels: &[u8], rows: usize, last: &[u16]) -> usize
     let mut ends = [0u16; 9];
     let mut behind = 0;
     let mut wrong = rows;
-    let mut i = rows;
-    while 0 < i {
-        i -= 1;
+    for i in (0..rows).rev() {
         let l = octets::wide(levels[i]);
         let end = end_of(&mut ends, behind, l, i as u16);
         wrong = if last[i] == end { wrong } else { i };

@@ -12,9 +12,7 @@ pub fn wrong_next(types: &[u8], rows: usize, next: &[u16]) -> usize
 {
     let mut seen = [65535u16; 64];
     let mut wrong = rows;
-    let mut i = rows;
-    while 0 < i {
-        i -= 1;
+    for i in (0..rows).rev() {
         let k = octets::wide(types[i]);
         let after = seen[k];
         seen[k] = i as u16;

@@ -11,7 +11,10 @@ use Rattle.paper.specs.Edges.{EdgesAgree}
 use Rattle.paper.proofs.Edges.{judge_agrees}
 use Rattle.paper.proofs.Index.{index_reads}
 use Rattle.paper.proofs.WithIndex.{judge-plain}
-use Rattle.judging.specs.Judged.{numbers_of, InNumbers, edges_of, judged, in_numbers}
+use Rattle.std.specs.Prelude.{Result, Ok}
+use Rattle.paper.specs.declared.refusal.Refusal.{Refusal}
+use Rattle.paper.proofs.Refusals.{same_answer}
+use Rattle.judging.specs.Judged.{numbers_of, InNumbers, edges_of, judgement_of, not_judged, judged, in_numbers}
 use Rattle.judging.specs.declared.verdict.Verdict.{Verdict}
 use Rattle.judging.specs.declared.verdict.Verdict.TheVariants.{Kept, Missing, Apart, Unsure}
 use Rattle.judging.specs.declared.judge.Judged.{Judged}
@@ -32,34 +35,35 @@ of_numbers (Missing e r) = refl
 of_numbers (Apart e f) = refl
 of_numbers (Unsure e f) = refl
 
--- two answers that are one reply are one
-judged-same : (a b : Judged) → judged a ≡ judged b → a ≡ b
-judged-same a b e =
+-- two that tell the same are one
+told_same : (a b : Judged) → judgement_of a ≡ judgement_of b → a ≡ b
+told_same a b e =
     let v : a.verdict ≡ b.verdict =
-    sym (of_numbers a.verdict) ∙ ap (λ (x : Reply InNumbers). from_numbers x.rest.verdict) e ∙ of_numbers b.verdict in
+    sym (of_numbers a.verdict) ∙ ap (λ (x : InNumbers). from_numbers x.verdict) e ∙ of_numbers b.verdict in
     λ i. record {
-      number = ap (λ (x : Reply InNumbers). x.number) e i;
-      place = ap (λ (x : Reply InNumbers). x.place) e i;
       verdict = v i;
-      none_apart = ap (λ (x : Reply InNumbers). x.rest.none_apart) e i;
-      least_children = ap (λ (x : Reply InNumbers). x.rest.edges.least_children) e i;
-      greatest_children = ap (λ (x : Reply InNumbers). x.rest.edges.greatest_children) e i;
-      least_parents = ap (λ (x : Reply InNumbers). x.rest.edges.least_parents) e i;
-      greatest_parents = ap (λ (x : Reply InNumbers). x.rest.edges.greatest_parents) e i;
+      none_apart = ap (λ (x : InNumbers). x.none_apart) e i;
+      least_children = ap (λ (x : InNumbers). x.edges.least_children) e i;
+      greatest_children = ap (λ (x : InNumbers). x.edges.greatest_children) e i;
+      least_parents = ap (λ (x : InNumbers). x.edges.least_parents) e i;
+      greatest_parents = ap (λ (x : InNumbers). x.edges.greatest_parents) e i;
     }
 
-pub judge_unique : (f : Format) (t s : List ℕ) (a b : Judged) → judged a ≡ in_numbers (judge f t s) → judged b ≡ in_numbers (judge f t s) → a ≡ b
+-- two answers that are one reply are one
+judged-same : (a b : Result Judged Refusal) → judged a ≡ judged b → a ≡ b
+judged-same a b e = same_answer not_judged judgement_of told_same a b e
+
+pub judge_unique : (f : Format) (t s : List ℕ) (a b : Result Judged Refusal) → judged a ≡ in_numbers (judge f t s) → judged b ≡ in_numbers (judge f t s) → a ≡ b
 judge_unique f t s a b p q = judged-same a b (p ∙ sym q)
 
 -- Where it is accepted, the numbers that it gives agree with rows and verdict.
-pub edges_agree : (f : Format) (t s : List ℕ) (a : Judged) → judged a ≡ in_numbers (judge f t s) → a.number ≡ 0 → EdgesAgree f t s (edges_of a)
-edges_agree f t s a q accepted =
-    subst (EdgesAgree f t s) (sym (ap (λ (x : Reply InNumbers). x.rest.edges) q))
-    (judge_agrees f t s (sym (ap (λ (x : Reply InNumbers). x.number) q) ∙ accepted))
+pub edges_agree : (f : Format) (t s : List ℕ) (a : Judged) → judged (Ok a) ≡ in_numbers (judge f t s) → EdgesAgree f t s (edges_of a)
+edges_agree f t s a q =
+    subst (EdgesAgree f t s) (sym (ap (λ (x : Reply InNumbers). x.rest.edges) q)) (judge_agrees f t s (sym (ap (λ (x : Reply InNumbers). x.number) q)))
 
 -- ---- with an index
-module _ (f : Format) (t s last next : List ℕ) (a : Judged) (p : judged a ≡ in_numbers (judge_with f t s last next)) where
-  pub judge_with_unique : (b : Judged) → judged b ≡ in_numbers (judge_with f t s last next) → a ≡ b
+module _ (f : Format) (t s last next : List ℕ) (a : Result Judged Refusal) (p : judged a ≡ in_numbers (judge_with f t s last next)) where
+  pub judge_with_unique : (b : Result Judged Refusal) → judged b ≡ in_numbers (judge_with f t s last next) → a ≡ b
   judge_with_unique b q = judged-same a b (p ∙ sym q)
 
   -- Where the index is this table's, it is what judging without one says.

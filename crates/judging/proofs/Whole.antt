@@ -27,6 +27,7 @@ use Rattle.shapes.proofs.Inside.{way_inside, path_inside}
 use Rattle.shapes.proofs.Places.{way_place}
 use Rattle.partners.specs.Closest.{alone_rows}
 use Rattle.partners.specs.declared.edges.Edges.{Edges}
+use Rattle.std.specs.Prelude.{Ok}
 use Rattle.judging.specs.Told.{told, numbers_in}
 use Rattle.judging.specs.Judged.{numbers_of, edges_of, judged, in_numbers}
 use Rattle.judging.specs.declared.verdict.Verdict.{Verdict}
@@ -175,8 +176,8 @@ numbers_told (Apart e f) = refl
 numbers_told (Unsure e f) = refl
 
 pub answered : (r : Judged) (v : Verdict) (n : Bool) (edges : Edges) (b : Reply Judgement)
-    → (r.number ≡ 0) × (r.place ≡ 0) × (r.verdict ≡ v) × (r.none_apart ≡ n) × (edges_of r ≡ numbers_in edges)
-    → record { number = 0; place = 0; rest = record { verdict = told v; none_apart = n; edges = numbers_in edges } } ≡ b → judged r ≡ in_numbers b
-answered r v n edges b (z, p, q, o, x) e =
-    (λ i. record { number = z i; place = p i; rest = record { verdict = (ap numbers_of q ∙ numbers_told v) i; none_apart = o i; edges = x i } })
+    → (r.verdict ≡ v) × (r.none_apart ≡ n) × (edges_of r ≡ numbers_in edges)
+    → record { number = 0; place = 0; rest = record { verdict = told v; none_apart = n; edges = numbers_in edges } } ≡ b → judged (Ok r) ≡ in_numbers b
+answered r v n edges b (q, o, x) e =
+    (λ i. record { number = 0; place = 0; rest = record { verdict = (ap numbers_of q ∙ numbers_told v) i; none_apart = o i; edges = x i } })
     ∙ ap in_numbers e

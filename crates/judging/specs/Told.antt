@@ -1,9 +1,10 @@
 -- What judging finds, in the paper's terms: what inner contracts name. Assumes nothing.
-use Rattle.std.specs.Prelude.{ℕ, ◌≡◌, List}
+use Rattle.std.specs.Prelude.{ℕ, ◌≡◌, List, Result}
 use Rattle.paper.specs.Format.{Format}
 use Rattle.paper.specs.Partners.{EdgeNumbers}
 use Rattle.paper.specs.Verdict
 use Rattle.paper.specs.Calls.{judge}
+use Rattle.paper.specs.declared.refusal.Refusal.{Refusal}
 use Rattle.closest.specs.Rows.{RowsIn}
 use Rattle.closest.specs.declared.rows.RowsRead.{RowsRead}
 use Rattle.partners.specs.declared.edges.Edges.{Edges}
@@ -29,5 +30,5 @@ numbers_in r = record {
 }
 
 -- whatever table the rows are of, r is what judging it says
-abbrev pub JudgesRows : Format → List ℕ → RowsRead → List ℕ → List ℕ → Judged → Type 0
+abbrev pub JudgesRows : Format → List ℕ → RowsRead → List ℕ → List ℕ → Result Judged Refusal → Type 0
 JudgesRows f s read levels types r = (t : List ℕ) → RowsIn f t read levels types → judged r ≡ in_numbers (judge f t s)

@@ -1,6 +1,6 @@
 // Judging a table and a shape.
 ghost use Rattle.std.specs.Prelude.{◌≡◌};
-ghost use Rattle.paper.specs.Calls.{judge, no_judgement};
+ghost use Rattle.paper.specs.Calls.{judge};
 ghost use Rattle.paper.specs.Index.{judge_with};
 ghost use Rattle.octets.specs.Served.{Served};
 ghost use Rattle.closest.specs.Rows.{SomeRows};
@@ -15,15 +15,14 @@ use crate::verdict::Verdict;
 use closest::rows::{RowsRead, read_rows};
 use indexes::test::read_indexed;
 use paper::Format;
+use paper::refusal::Refusal;
 use partners::edges::{Edges, walk_edges};
 use shapes::work::prepare;
 
-// What judging answers: a refusal with verdict Kept, no and zeros, or the verdict, the second answer, and for each entry but the first how many
-// closest rows there are along its edge, both ways; entry 0 and unused entries hold zeros.
+// What is judged: the verdict, the second answer, and for each entry but the first how many closest rows there are along its edge, both ways;
+// entry 0 and unused entries hold zeros.
 #[derive(Clone, Copy, Drop)]
 pub struct Judged {
-    pub number: usize,
-    pub place: usize,
     pub verdict: Verdict,
     pub none_apart: bool, // no pair of entries would earn a 2, whatever the verdict
     pub least_children: [usize; 16], // under a row of the parent entry's type
@@ -32,103 +31,81 @@ pub struct Judged {
     pub greatest_parents: [usize; 16],
 }
 
-pub fn refused(number: usize, place: usize) -> Judged
-    ensures { judged result ≡ in_numbers (record { number = number; place = place; rest = no_judgement }) }
-{
-    Judged {
-        number: number,
-        place: place,
-        verdict: Verdict::Kept,
-        none_apart: false,
-        least_children: [0; 16],
-        greatest_children: [0; 16],
-        least_parents: [0; 16],
-        greatest_parents: [0; 16],
-    }
-}
-
-fn given(verdict: Verdict, none: bool, edges: Edges) -> Judged
-    ensures { (result.number ≡ 0) × (result.place ≡ 0) × (result.verdict ≡ verdict) × (result.none_apart ≡ none) × (edges_of result ≡ numbers_in edges) }
+fn given(verdict: Verdict, none_apart: bool, edges: Edges) -> Judged
+    ensures { (result.verdict ≡ verdict) × (result.none_apart ≡ none_apart) × (edges_of result ≡ numbers_in edges) }
 {
     let least_children = edges.least_children;
     let greatest_children = edges.greatest_children;
     let least_parents = edges.least_parents;
     let greatest_parents = edges.greatest_parents;
     Judged {
-        number: 0,
-        place: 0,
-        verdict: verdict,
-        none_apart: none,
-        least_children: least_children,
-        greatest_children: greatest_children,
-        least_parents: least_parents,
-        greatest_parents: greatest_parents,
+        verdict,
+        none_apart,
+        least_children,
+        greatest_children,
+        least_parents,
+        greatest_parents,
     }
 }
 
 // Refusals 5 to 7, or the verdict, a row without a partner before all pairs, the second answer over all pairs, and the numbers of all edges,
 // whatever the verdict, for the rows of a table that were read.
-pub fn judge_rows(shape: &[u8], f: Format, read: RowsRead, levels: &[u8], types: &[u8]) -> Judged
+pub fn judge_rows(
+    shape: &[u8],
+    f: Format,
+    read: RowsRead,
+    levels: &[u8],
+    types: &[u8],
+) -> Result<Judged, Refusal>
     requires { Served f × SomeRows f read levels.now types.now }
     ensures { JudgesRows f shape.now read levels.now types.now result }
 {
     let mut meetings = [0u8; 1024];
     let mut ways = [0u8; 128];
-    let prepared = prepare(shape, f, read, levels, types, &mut meetings, &mut ways);
-    let number = prepared.number;
-    let place = prepared.place;
-    if number != 0 {
-        return refused(number, place);
-    }
+    let prepared = prepare(shape, f, read, levels, types, &mut meetings, &mut ways)?;
     let rows = prepared.rows;
     let drawn = prepared.shape;
     let edges = walk_edges(levels, types, rows, drawn);
-    let met = edges.met;
-    let from = edges.from;
-    let lone = first_lone(levels, types, rows, drawn, met, from);
+    let lone = first_lone(levels, types, rows, drawn, edges.met, edges.from);
     match lone {
         Verdict::Kept => {
             let least = edges.least_children;
             let full = full_edges(least);
             let fault = first_fault(drawn, &ways, full, &meetings);
             let none = none_apart_beside(fault, drawn, &ways, &meetings);
-            given(fault, none, edges)
+            Ok(given(fault, none, edges))
         }
         _ => {
             let none = none_apart(drawn, &ways, &meetings);
-            given(lone, none, edges)
+            Ok(given(lone, none, edges))
         }
     }
 }
 
 // Refusals 1 to 4, or what is judged of the rows that were read.
-pub fn judge(table: &[u8], shape: &[u8], f: Format) -> Judged
+pub fn judge(table: &[u8], shape: &[u8], f: Format) -> Result<Judged, Refusal>
     requires { Served f }
     ensures { judged result ≡ in_numbers (judge f table.now shape.now) }
 {
     let mut levels = [0u8; 1024];
     let mut types = [0u8; 1024];
-    let read = read_rows(table, f, &mut levels, &mut types);
-    let number = read.number;
-    let place = read.place;
-    if number != 0 {
-        return refused(number, place);
-    }
+    let read = read_rows(table, f, &mut levels, &mut types)?;
     judge_rows(shape, f, read, &levels, &types)
 }
 
 // Refusals 1 to 4, then 14 and 15 of the lists that are lent as the table's index, or what is judged of the rows that were read.
-pub fn judge_with_index(table: &[u8], shape: &[u8], f: Format, last: &[u16], next: &[u16]) -> Judged
+pub fn judge_with_index(
+    table: &[u8],
+    shape: &[u8],
+    f: Format,
+    last: &[u16],
+    next: &[u16],
+) -> Result<Judged, Refusal>
     requires { Served f }
     ensures { judged result ≡ in_numbers (judge_with f table.now shape.now last.now next.now) }
 {
     let mut levels = [0u8; 1024];
     let mut types = [0u8; 1024];
-    let read = read_indexed(table, f, last, next, &mut levels, &mut types);
-    let number = read.number;
-    let place = read.place;
-    if number != 0 {
-        return refused(number, place);
-    }
+    let read = read_indexed(table, f, last, next, &mut levels, &mut types)?;
     judge_rows(shape, f, read, &levels, &types)
 }

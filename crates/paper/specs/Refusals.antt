@@ -65,6 +65,10 @@ answer_of told (Err e) = refused (refusal_number e) (refusal_place e)
 abbrev pub reply_of : {A B : Type 0} → B → (A → B) → Result A Refusal → Reply B
 reply_of zeros told r = reply zeros (answer_of told r)
 
+-- a count, or the refusal
+abbrev pub counted : Result ℕ Refusal → Reply ℕ
+counted r = reply_of 0 (λ n. n) r
+
 -- its number and its place by themselves, zeros where it refuses nothing
 abbrev pub number_in : {A : Type 0} → Result A Refusal → ℕ
 number_in (Ok a) = 0

@@ -33,7 +33,9 @@ use Rattle.lines.specs.Lines.{Numbered, bytes_of, sources_of}
 use Rattle.lines.specs.Places.{Spacious}
 use Rattle.lines.specs.Write.{RunsNamed, Fits, all_lines, WrittenAll}
 use Rattle.reshaping.specs.Reshaped.{reshaped, Reshapes}
-use Rattle.reshaping.specs.declared.reshape.Reshaped.{Reshaped}
+use Rattle.std.specs.Prelude.{Err}
+use Rattle.paper.specs.Refusals.{refusal_number, refusal_place}
+use Rattle.paper.specs.declared.refusal.Refusal.{Refusal}
 use Rattle.reshaping.proofs.Paper.{bytes_are, sources_are, length-is}
 use Rattle.reshaping.proofs.Answers.{reshape-given}
 
@@ -43,7 +45,7 @@ records_fit w zero l le = omega (arith, mul-zero w)
 records_fit w (suc p) l le = omega (arith, row_in w p l (omega arith), mul-suc w p)
 
 -- an answer that is the definition's has the other parts of the promise too
-pub reshapes : {f : Format} → Served f → {t s new sources : List ℕ} (r : Reshaped) (new' sources' : List ℕ) → reshaped r ≡ (reshape f t s new sources).reply
+pub reshapes : {f : Format} → Served f → {t s new sources : List ℕ} (r : Reply ℕ) (new' sources' : List ℕ) → r ≡ (reshape f t s new sources).reply
     → new' ≡ (reshape f t s new sources).table → sources' ≡ (reshape f t s new sources).sources → Reshapes f t s new sources r new' sources'
 reshapes {f} served {t} {s} {new} {sources} r new' sources' er en es = record {
   answer = er;
@@ -59,25 +61,25 @@ reshapes {f} served {t} {s} {new} {sources} r new' sources' er en es = record {
       (narrow_sound f t s new sources served.small (accepted z) (omega (arith, count, le)));
 }
   where
-    count : r.lines ≡ (reshape f t s new sources).reply.rest
+    count : r.rest ≡ (reshape f t s new sources).reply.rest
     count = ap (λ (x : Reply ℕ). x.rest) er
 
     accepted : r.number ≡ 0 → (reshape f t s new sources).reply.number ≡ 0
     accepted z = sym (ap (λ (x : Reply ℕ). x.number) er) ∙ z
 
-    front : take (r.lines * row_bytes f) new' ≡ take ((reshape f t s new sources).reply.rest * row_bytes f) (reshape f t s new sources).table
+    front : take (r.rest * row_bytes f) new' ≡ take ((reshape f t s new sources).reply.rest * row_bytes f) (reshape f t s new sources).table
     front = ap₂ (λ k l. take (k * row_bytes f) l) count en
 
-    listed : take r.lines sources' ≡ take (reshape f t s new sources).reply.rest (reshape f t s new sources).sources
+    listed : take r.rest sources' ≡ take (reshape f t s new sources).reply.rest (reshape f t s new sources).sources
     listed = ap₂ (λ k l. take k l) count es
 
 -- a refusal changes nothing
-pub leaves : {f : Format} → Served f → (t s new sources : List ℕ) (r : Reshaped) (k p : ℕ) → reshaped r ≡ record { number = k; place = p; rest = 0 }
-    → reshape f t s new sources ≡ record { reply = record { number = k; place = p; rest = 0 }; table = new; sources = sources }
-    → Reshapes f t s new sources r new sources
-leaves served t s new sources r k p is e =
-    reshapes served r new sources (is ∙ sym (ap (λ (x : Reshaping). x.reply) e)) (sym (ap (λ (x : Reshaping). x.table) e))
-    (sym (ap (λ (x : Reshaping). x.sources) e))
+pub leaves : {f : Format} → Served f → (t s new sources : List ℕ) (e : Refusal)
+    → reshape f t s new sources ≡ record { reply = record { number = refusal_number e; place = refusal_place e; rest = 0 }; table = new; sources = sources }
+    → Reshapes f t s new sources (reshaped (Err e)) new sources
+leaves served t s new sources e q =
+    reshapes served (reshaped (Err e)) new sources (sym (ap (λ (x : Reshaping). x.reply) q)) (sym (ap (λ (x : Reshaping). x.table) q))
+    (sym (ap (λ (x : Reshaping). x.sources) q))
 
 -- the runs are named, and the lists are long enough for what is written
 pub runs-named : {f : Format} {t s : List ℕ} {w : Work} → Ready f t s w → {runs lists : List ℕ} → Runs most_levels w.rows w.levels runs

@@ -4,7 +4,7 @@ use mathlib.Core.Path.{◌≡◌, sym, ◌∙◌, ap}
 use mathlib.Core.List.{List}
 use Rattle.paper.specs.Format.{Format}
 use Rattle.paper.specs.Tables.{Row}
-use Rattle.paper.specs.Figures.{Figures, no_figures}
+use Rattle.paper.specs.Figures.{Figures}
 use Rattle.paper.specs.Calls.{Answer, Reply, Reshaping, reshape_rows, summarise_rows}
 use Rattle.paper.specs.Index.{tests_index}
 use Rattle.paper.proofs.Calls.{refused-given}
@@ -14,45 +14,45 @@ use Rattle.closest.specs.declared.rows.RowsRead.{RowsRead}
 use Rattle.closest.proofs.Seam.{as_refused, as_plain}
 use Rattle.reshaping.specs.Reshaped.{reshaped, summarised, Reshapes, ReshapesWith}
 use Rattle.reshaping.specs.Rows.{SummarisesRows}
-use Rattle.reshaping.specs.declared.reshape.Reshaped.{Reshaped}
+use Rattle.std.specs.Prelude.{Result, Ok, Err}
+use Rattle.paper.specs.Refusals.{refusal_number, refusal_place}
+use Rattle.paper.specs.declared.refusal.Refusal.{Refusal}
 use Rattle.reshaping.specs.declared.summarise.Summary.{Summary}
 
-module _ {tests : Answer (List Row)} {f : Format} {t levels types : List ℕ} {read : RowsRead} (s : List ℕ) where
-  -- ---- the summary; b is what the call that reads by these tests is to answer
-  module _ {b : Reply Figures} {r : Summary} (call : summarise_rows f tests s ≡ b) (reads : Reads tests f t read levels types) where
-    pub refused_summary : (read.number ≡ 0 → ⊥) → summarised r ≡ record { number = read.number; place = read.place; rest = no_figures }
-        → summarised r ≡ b
-    refused_summary ne is = is ∙ sym ((as_refused reads ne).summarises s) ∙ call
+-- ---- the summary; b is what the call that reads by these tests is to answer
+module _ {tests : Answer (List Row)} {f : Format} {t : List ℕ} {b : Reply Figures} (s : List ℕ) (call : summarise_rows f tests s ≡ b) where
+  pub refused_summary : (levels types : List ℕ) (e : Refusal) → Reads tests f t (Err e) levels types → summarised (Err e) ≡ b
+  refused_summary levels types e reads = sym ((as_refused f t levels types e reads).summarises s) ∙ call
 
-    pub summarised-rows : read.number ≡ 0 → SummarisesRows f s read levels types r → summarised r ≡ b
-    summarised-rows z is = is t (reads.read z) ∙ sym ((as_plain reads z).summarises s) ∙ call
+  pub summarised-rows : (levels types : List ℕ) (read : RowsRead) (r : Result Summary Refusal) → Reads tests f t (Ok read) levels types
+      → SummarisesRows f s read levels types r → summarised r ≡ b
+  summarised-rows levels types read r reads is = is t reads.1 ∙ sym ((as_plain f t levels types read reads).summarises s) ∙ call
 
-  -- ---- the reshape
-  pub refused-reshape : (new sources : List ℕ) {x : Reshaping} → reshape_rows f tests s new sources ≡ x → Reads tests f t read levels types
-      → (read.number ≡ 0 → ⊥)
-      → x ≡ record { reply = record { number = read.number; place = read.place; rest = 0 }; table = new; sources = sources }
-  refused-reshape new sources call reads ne = sym call ∙ (as_refused reads ne).reshapes s new sources
+-- ---- the reshape
+pub refused-reshape : {tests : Answer (List Row)} {f : Format} (t s new sources levels types : List ℕ) {x : Reshaping}
+    → reshape_rows f tests s new sources ≡ x → (e : Refusal) → Reads tests f t (Err e) levels types
+    → x ≡ record { reply = record { number = refusal_number e; place = refusal_place e; rest = 0 }; table = new; sources = sources }
+refused-reshape {f = f} t s new sources levels types call e reads = sym call ∙ (as_refused f t levels types e reads).reshapes s new sources
 
 -- ---- the reshape with an index
-module _ {f : Format} {t s last next levels types new sources : List ℕ} {read : RowsRead}
-    (reads : Reads (tests_index f t last next) f t read levels types) where
+module _ {f : Format} {t s last next new sources : List ℕ} where
   -- a refusal changes nothing
-  pub leaves-with : (read.number ≡ 0 → ⊥) → {r : Reshaped} → reshaped r ≡ record { number = read.number; place = read.place; rest = 0 }
-      → ReshapesWith f t s last next new sources r new sources
-  leaves-with ne is =
-      let q = refused-reshape s new sources (reshape_with_lem f t s last next new sources) reads ne in
+  pub leaves-with : (levels types : List ℕ) (e : Refusal) → Reads (tests_index f t last next) f t (Err e) levels types
+      → ReshapesWith f t s last next new sources (reshaped (Err e)) new sources
+  leaves-with levels types e reads =
+      let q = refused-reshape t s new sources levels types (reshape_with_lem f t s last next new sources) e reads in
       record {
-        answer = is ∙ sym (ap (λ (x : Reshaping). x.reply) q);
+        answer = sym (ap (λ (x : Reshaping). x.reply) q);
         bytes = sym (ap (λ (x : Reshaping). x.table) q);
         places = sym (ap (λ (x : Reshaping). x.sources) q);
-        plain = λ rs g. refused-given read.number read.place rs (sym (reads.refused-is ne) ∙ g);
+        plain = λ rs g. refused-given (refusal_number e) (refusal_place e) rs (sym reads ∙ g);
       }
 
   -- what the reshape without an index leaves
-  pub reshapes_with : read.number ≡ 0 → {r : Reshaped} {new' sources' : List ℕ} → Reshapes f t s new sources r new' sources'
-      → ReshapesWith f t s last next new sources r new' sources'
-  reshapes_with z is =
-      let q = reshape-plain f t s last next (reads.given_is z ∙ sym (reads.read z).given_is) new sources in
+  pub reshapes_with : (levels types : List ℕ) (read : RowsRead) → Reads (tests_index f t last next) f t (Ok read) levels types
+      → {r : Reply ℕ} {new' sources' : List ℕ} → Reshapes f t s new sources r new' sources' → ReshapesWith f t s last next new sources r new' sources'
+  reshapes_with levels types read reads is =
+      let q = reshape-plain f t s last next (reads.0 ∙ sym reads.1.given_is) new sources in
       record {
         answer = is.answer ∙ sym (ap (λ (x : Reshaping). x.reply) q);
         bytes = is.bytes ∙ sym (ap (λ (x : Reshaping). x.table) q);

@@ -33,6 +33,7 @@ use Rattle.lines.proofs.Sums.{sum_same}
 use Rattle.lines.proofs.Items.{rows_kept}
 use Rattle.lines.proofs.Counted.{of_none}
 use Rattle.reshaping.specs.Figures.{held_by, different_in, Figured}
+use Rattle.std.specs.Prelude.{Ok}
 use Rattle.reshaping.specs.Reshaped.{summarised}
 use Rattle.reshaping.specs.declared.summarise.Summary.{Summary}
 use Rattle.reshaping.proofs.Paper.{lines_are}
@@ -149,15 +150,14 @@ module _ {f : Format} {t sb : List ℕ} {w : Work} (y : Ready f t sb w) where
 
     -- the answer is the paper's
     pub summed : (x : Summary) → length b.lines ≡ 16
-        → Figured w.types w.rows w.shape.types w.shape.entries shows b.lines x → summarised x ≡ record {
+        → Figured w.types w.rows w.shape.types w.shape.entries shows b.lines x → summarised (Ok x) ≡ record {
           number = 0;
           place = 0;
           rest = figures (nodes (rows f t)) (shape_in f t sb) (lines (nodes (rows f t)) (shape_in f t sb) f.levels);
         }
     unfolding figures
     summed x long q =
-        ap₂ {C = Reply Figures} (λ n p. record { number = n; place = p; rest = (summarised x).rest }) q.accepted.0 q.accepted.1
-        ∙ ap {B = Reply Figures} (λ x. record { number = 0; place = 0; rest = x })
+        ap {B = Reply Figures} (λ x. record { number = 0; place = 0; rest = x })
         (ap₂ {C = Figures} (λ l r. record { lines = l; rows = r; copies = x.copies; different = x.different }) (q.lines_are ∙ lines_is) rows_is
         ∙ ap₂ {C = Figures} (λ c d. record { lines = places_of shown_of; rows = places_of held_of; copies = c; different = d }) copies_is all-is)
       where

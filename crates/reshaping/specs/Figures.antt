@@ -24,7 +24,6 @@ pub record Holds (g : ℕ → ℕ) (m : ℕ) (xs : List ℕ) : Type 0 where
 
 -- no refusal, and the figures of each entry; `wanted` are the entries' type numbers
 pub record Figured (types : List ℕ) (rows : ℕ) (wanted : List ℕ) (entries : ℕ) (shows lines : List ℕ) (x : Summary) : Type 0 where
-  pub accepted : (x.number ≡ 0) × (x.place ≡ 0)
   pub lines_are : x.lines ≡ lines
   pub rows_are : Holds (λ e. held_by types rows (get_or wanted e 0)) entries x.rows
   pub copies_are : Holds (λ e. get_or lines e 0 - different_in types rows (get_or wanted e 0) shows e) entries x.copies

@@ -63,8 +63,6 @@ pub fn figures_of(
         e += 1;
     }
     Summary {
-        number: 0,
-        place: 0,
         lines: lines,
         rows: held,
         copies: copies,

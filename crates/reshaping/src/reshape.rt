@@ -12,16 +12,8 @@ use indexes::test::read_indexed;
 use lines::count::count_lines;
 use lines::table::write_table;
 use paper::Format;
+use paper::refusal::Refusal;
 use shapes::work::prepare;
-
-// What reshaping answers: a refusal, or the number of lines.
-#[repr(C)]
-#[derive(Clone, Copy, Drop)]
-pub struct Reshaped {
-    pub number: usize,
-    pub place: usize,
-    pub lines: usize,
-}
 
 // The room for lines in so many bytes and so many places of a source list.
 fn room_in(bytes: usize, f: Format, places: usize) -> usize
@@ -32,16 +24,6 @@ fn room_in(bytes: usize, f: Format, places: usize) -> usize
         bytes / octets::row_bytes(f),
         tables::row::smaller(places, 4096),
     )
-}
-
-pub fn refused(number: usize, place: usize) -> Reshaped
-    ensures { reshaped result ≡ record { number = number; place = place; rest = 0 } }
-{
-    Reshaped {
-        number: number,
-        place: place,
-        lines: 0,
-    }
 }
 
 // Refusals 5 to 8, or the lines of the new table, for the rows of a table that were read and the next row of each row's type. They are written
@@ -56,19 +38,14 @@ pub fn reshape_rows(
     next: &[u16],
     new: &mut [u8],
     sources: &mut [u32],
-) -> Reshaped
+) -> Result<usize, Refusal>
     requires served { Served f × RowsIn f table.now read levels.now types.now }
     requires next_rows { NextRows read.rows types.now next.now × (read.rows ≤ length next.now) }
-    ensures { Reshapes f table.now shape.now new.old sources.old result new.new sources.new }
+    ensures { Reshapes f table.now shape.now new.old sources.old (reshaped result) new.new sources.new }
 {
     let mut meetings = [0u8; 1024];
     let mut ways = [0u8; 128];
-    let prepared = prepare(shape, f, read, levels, types, &mut meetings, &mut ways);
-    let number = prepared.number;
-    let place = prepared.place;
-    if number != 0 {
-        return refused(number, place);
-    }
+    let prepared = prepare(shape, f, read, levels, types, &mut meetings, &mut ways)?;
     let rows = prepared.rows;
     let wanted = prepared.shape;
     let mut runs = [0u16; 9216];
@@ -77,16 +54,12 @@ pub fn reshape_rows(
     let total = tally.total;
     let room = room_in(new.len(), f, sources.len());
     if room < total {
-        return refused(8, 0);
+        return Err(Refusal::TooManyLines);
     }
     let lines = write_table(
         table, f, rows, types, &runs, next, wanted, &mut lists, new, sources,
     );
-    Reshaped {
-        number: 0,
-        place: 0,
-        lines: lines,
-    }
+    Ok(lines)
 }
 
 // Refusals 1 to 4, or the reshape of the rows that were read. A refused call changes nothing.
@@ -102,18 +75,13 @@ pub fn reshape(
     f: Format,
     new: &mut [u8],
     sources: &mut [u32],
-) -> Reshaped
+) -> Result<usize, Refusal>
     requires { Served f }
-    ensures { Reshapes f table.now shape.now new.old sources.old result new.new sources.new }
+    ensures { Reshapes f table.now shape.now new.old sources.old (reshaped result) new.new sources.new }
 {
     let mut levels = [0u8; 1024];
     let mut types = [0u8; 1024];
-    let read = read_rows(table, f, &mut levels, &mut types);
-    let number = read.number;
-    let place = read.place;
-    if number != 0 {
-        return refused(number, place);
-    }
+    let read = read_rows(table, f, &mut levels, &mut types)?;
     let rows = read.rows;
     let mut next = [65535u16; 1024];
     next_rows(&types, rows, &mut next);
@@ -130,18 +98,13 @@ pub fn reshape_with_index(
     next: &[u16],
     new: &mut [u8],
     sources: &mut [u32],
-) -> Reshaped
+) -> Result<usize, Refusal>
     requires { Served f }
     ensures { let promised = ReshapesWith f table.now shape.now last.now next.now in
-        promised new.old sources.old result new.new sources.new }
+        promised new.old sources.old (reshaped result) new.new sources.new }
 {
     let mut levels = [0u8; 1024];
     let mut types = [0u8; 1024];
-    let read = read_indexed(table, f, last, next, &mut levels, &mut types);
-    let number = read.number;
-    let place = read.place;
-    if number != 0 {
-        return refused(number, place);
-    }
+    let read = read_indexed(table, f, last, next, &mut levels, &mut types)?;
     reshape_rows(table, shape, f, read, &levels, &types, next, new, sources)
 }

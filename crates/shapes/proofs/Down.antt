@@ -124,9 +124,6 @@ module _ (parents labels : List ℕ) (count : ℕ) where
   abbrev pub Walked : List ℕ → ℕ → ℕ → Type 0
   Walked l k p = (ts : List (List ℕ)) → Told ts parents labels count → (p ≡ parent_of ts (take k l)) × ((take k l ≡ []) ⊎ Has (take k l) ts)
 
-  pub walk_start : (l : List ℕ) → Walked l 0 most_types
-  walk_start l ts told = (refl, inl refl)
-
   module _ (l : List ℕ) (k p a q : ℕ) (w : Walked l k p) (lt : k < length l) (ea : a ≡ get_or l k 0) (f : Found parents labels count p a q) where
     one_more : take (suc k) l ≡ take k l ++ (a ∷ [])
     one_more = take-suc l k 0 lt ∙ ap (λ x. take k l ++ (x ∷ [])) (sym ea)
@@ -145,7 +142,3 @@ module _ (parents labels : List ℕ) (count : ℕ) where
         told.count-is
         ∙ sym (number-none ts (take size l) (λ h. found_none ts parents labels count told (take k l) p a q known e f lq
         (subst (λ v. Has v ts) (take-take (suc k) size l ls ∙ one_more) (told.above (take size l) h (suc k) (omega arith) (omega (arith, length-take size l))))))
-
-  pub walk_end : (l : List ℕ) (k p size : ℕ) → Walked l k p → k ≡ size → 1 ≤ size → size ≤ length l → Numbers parents labels count (take size l) p
-  walk_end l k p size w e pos fits ts told =
-      (w ts told).0 ∙ ap (λ m. parent_of ts (take m l)) e ∙ sym (some_number ts (take size l) (omega (arith, length-take size l)))

@@ -11,5 +11,4 @@ pub mod Tested
 pub mod Passed
 pub mod Inside
 pub mod Given
-pub mod Ends
 pub mod Prepared

@@ -1,6 +1,5 @@
 -- The reading of a shape's entries one after the other: what the arrays hold before entry i. Assumes nothing.
 use Prim.Native.Nat.{ℕ, ◌+◌, ◌*◌, ◌-◌, ◌≤◌, ◌<◌}
-use native.Mathlib.Nat.{not-suc-le-zero}
 use native.Mathlib.Omega.{arith}
 use mathlib.Core.Path.{◌≡◌, refl, sym, ◌∙◌, ap, ap₂}
 use mathlib.Core.Bool.{Bool, true, false}
@@ -28,36 +27,10 @@ pub record Read (f : Format) (s : List ℕ) (i : ℕ) (levels labels parents way
   pub parents_long : length parents ≡ most_entries
   pub ways_long : length ways ≡ way_places * most_entries
 
-pub read_none : (f : Format) (s levels labels parents ways : List ℕ) → length levels ≡ most_entries → length labels ≡ most_entries
-    → length parents ≡ most_entries → length ways ≡ way_places * most_entries → Read f s 0 levels labels parents ways
-read_none f s levels labels parents ways a b c d = record {
-  laid = record {
-    level = λ e lt. absurd (not-suc-le-zero lt);
-    label = λ e lt. absurd (not-suc-le-zero lt);
-    parent_is = λ e lt. absurd (not-suc-le-zero lt);
-    way_is = λ e lt. absurd (not-suc-le-zero lt);
-  };
-  levels_long = a;
-  labels_long = b;
-  parents_long = c;
-  ways_long = d;
-}
-
 -- what the reading of a shape of so many entries asks for
 abbrev pub Asked : Format → List ℕ → ℕ → Type 0
 Asked f s n =
     ((n ≡ whole (entry_bytes f) s) × (n ≤ most_entries) × (f.levels ≤ way_places)) × (bad_entry f (entries f s) ≡ none)
-
-pub read_all : (f : Format) (s : List ℕ) (i n : ℕ) (levels labels parents ways : List ℕ) → i ≤ n → n ≤ i → Read f s i levels labels parents ways
-    → Laid (shape f s) n (record { levels = levels; labels = labels; parents = parents }) ways
-read_all f s i n levels labels parents ways le ge read =
-    let x = read.laid in
-    record {
-      level = λ e lt. x.level e (omega arith);
-      label = λ e lt. x.label e (omega arith);
-      parent_is = λ e lt. x.parent_is e (omega arith);
-      way_is = λ e lt. x.way_is e (omega arith);
-    }
 
 -- one element more is written
 write_more : (g : ℕ → ℕ) (l : List ℕ) (i v : ℕ) → i < length l → ((e : ℕ) → e < i → get_or l e 0 ≡ g e) → v ≡ g i

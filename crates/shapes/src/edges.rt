@@ -18,11 +18,9 @@ pub fn edge_levels(meetings: &[u8], types: [u8; 16], parents: [u8; 16], entries:
     ensures { EdgeLevels meetings.now types parents entries result }
 {
     let mut edges = [0u8; 16];
-    let mut c = 0;
-    while c < entries {
+    for c in 0..entries {
         let p = octets::wide(parents[c]);
         edges[c] = meeting(meetings, types, p, c) as u8;
-        c += 1;
     }
     edges
 }
@@ -33,10 +31,8 @@ pub fn entry_ends(parents: [u8; 16], entries: usize) -> [u8; 16]
     ensures { Ends parents entries result }
 {
     let mut ends = [0u8; 16];
-    let mut c = 1;
-    while c < entries {
+    for c in 1..entries {
         ends[octets::wide(parents[c])] = (c + 1) as u8;
-        c += 1;
     }
     ends
 }

@@ -13,18 +13,10 @@ fn labels_within(entry: &[u8], f: Format, size: usize) -> bool
     requires { (entry_bytes f ≤ length entry.now) × (size ≤ f.levels) × (f.levels ≤ 255) }
     ensures { result ≡ all (λ x. between 1 x f.labels) (take size (words f.levels entry.now 4)) }
 {
-    let mut k = 0;
-    while k < size {
+    (0..size).all(|k| {
         let a = tables::row::component(entry, f, k);
-        if a < 1 {
-            return false;
-        }
-        if f.labels < a {
-            return false;
-        }
-        k += 1;
-    }
-    true
+        1 <= a && a <= f.labels
+    })
 }
 
 // May an entry of this level stand after one of level `before`, 0 where there is none before it?
@@ -33,43 +25,28 @@ fn level_kept(before: usize, level: usize) -> bool
     ensures { result ≡ level_kept before level }
 {
     if before == 0 {
-        return level == 1;
+        level == 1
+    } else {
+        2 <= level && level <= before + 1
     }
-    if level < 2 {
-        return false;
-    }
-    level <= before + 1
 }
 
 // Does an entry keep the rules after one of level `before`?
+#[tactic(auto, unfolding(paper::specs::Shapes::entry_kept, paper::specs::Shapes::entry_of))]
 fn entry_kept(entry: &[u8], f: Format, before: usize) -> bool
     requires { (length entry.now ≡ entry_bytes f) × (f.levels ≤ 255) × (before ≤ 255) }
     ensures { result ≡ entry_kept f before (entry_of f entry.now) }
 {
     let level = octets::wide(entry[0]);
     let size = octets::wide(entry[1]);
-    if level < 1 {
-        return false;
-    }
-    if f.levels < level {
-        return false;
-    }
-    if size < 1 {
-        return false;
-    }
-    if f.levels < size {
-        return false;
-    }
-    if octets::word(entry, 2) != 0 {
-        return false;
-    }
-    if !labels_within(entry, f, size) {
-        return false;
-    }
-    if !tables::row::zeros_from(entry, f, size) {
-        return false;
-    }
-    level_kept(before, level)
+    1 <= level
+        && level <= f.levels
+        && 1 <= size
+        && size <= f.levels
+        && octets::word(entry, 2) == 0
+        && labels_within(entry, f, size)
+        && tables::row::zeros_from(entry, f, size)
+        && level_kept(before, level)
 }
 
 // The first entry that breaks a rule, the number of entries for none.
@@ -79,14 +56,12 @@ pub fn bad_entry(shape: &[u8], f: Format, entries: usize) -> usize
 {
     let w = octets::entry_bytes(f);
     let mut before = 0;
-    let mut e = 0;
-    while e < entries {
+    for e in 0..entries {
         let entry = octets::record(shape, w, e);
         if !entry_kept(entry, f, before) {
             return e;
         }
         before = octets::wide(entry[0]);
-        e += 1;
     }
     entries
 }

@@ -33,12 +33,12 @@ pub fn draw(
     let edges = edge_levels(meetings, types, parents, entries);
     let ends = entry_ends(parents, entries);
     Shape {
-        entries: entries,
-        levels: levels,
-        labels: labels,
-        types: types,
-        parents: parents,
-        edges: edges,
-        ends: ends,
+        entries,
+        levels,
+        labels,
+        types,
+        parents,
+        edges,
+        ends,
     }
 }

@@ -14,10 +14,9 @@ fn put_way(ways: &mut [u8], e: usize, l: usize)
     requires { (length ways.old ≡ way_places * most_entries) × (e < 16) × (1 ≤ l) × (l ≤ 8) × (e ≡ 0 → l ≡ 1) }
     ensures { Put ways.old e l ways.new }
 {
-    let mut k = 0;
-    while k + 1 < l {
-        ways[8 * e + k] = ways[8 * (e - 1) + k];
-        k += 1;
+    if 1 < l {
+        let before = 8 * (e - 1);
+        ways.copy_within(before..before + (l - 1), 8 * e);
     }
     ways[8 * e + (l - 1)] = e as u8;
 }
@@ -27,10 +26,7 @@ fn parent_of(ways: &[u8], e: usize, l: usize) -> u8
     requires { (length ways.now ≡ way_places * most_entries) × (e < 16) × (1 ≤ l) × (l ≤ 8) }
     ensures { result ≡ last_or 0 (up (way_at ways.now e l)) }
 {
-    if l < 2 {
-        return 0;
-    }
-    ways[8 * e + (l - 2)]
+    if l < 2 { 0 } else { ways[8 * e + (l - 2)] }
 }
 
 // Each entry's level, the last label of its type, and its parent (0 for entry 0).
@@ -52,8 +48,7 @@ pub fn entry_ways(shape: &[u8], f: Format, entries: usize, ways: &mut [u8]) -> F
     let mut levels = [0u8; 16];
     let mut labels = [0u16; 16];
     let mut parents = [0u8; 16];
-    let mut e = 0;
-    while e < entries {
+    for e in 0..entries {
         let entry = octets::record(shape, w, e);
         let l = octets::wide(entry[0]);
         let size = octets::wide(entry[1]);
@@ -61,11 +56,10 @@ pub fn entry_ways(shape: &[u8], f: Format, entries: usize, ways: &mut [u8]) -> F
         labels[e] = tables::row::component(entry, f, size - 1) as u16;
         put_way(ways, e, l);
         parents[e] = parent_of(ways, e, l);
-        e += 1;
     }
     Fields {
-        levels: levels,
-        labels: labels,
-        parents: parents,
+        levels,
+        labels,
+        parents,
     }
 }

@@ -13,35 +13,30 @@ ghost use Rattle.paper.specs.Calls.{examine, look_up, adorn, judge, summarise};
 ghost use Rattle.paper.specs.Labels.{convert};
 ghost use Rattle.paper.specs.Index.{judge_with, summarise_with};
 ghost use Rattle.grammar.specs.Typed.{print_tree};
+ghost use Rattle.paper.specs.Refusals.{number_in, place_in, counted};
 ghost use Rattle.tables.specs.Reply.{examined, HandsBack};
 ghost use Rattle.adorned.specs.Lent.{told, adorned_types};
 ghost use Rattle.adorned.specs.Told.{Says, adorn_figures};
 ghost use Rattle.widths.specs.Answers.{Moves};
-ghost use Rattle.labels.specs.Answers.{Converts};
+ghost use Rattle.labels.specs.Answers.{converted, Converts};
 ghost use Rattle.typed.specs.Read.{ReadsTree};
 ghost use Rattle.spelling.specs.Printed.{Prints};
-ghost use Rattle.indexes.specs.Built.{Builds};
+ghost use Rattle.indexes.specs.Built.{built, Builds};
 ghost use Rattle.judging.specs.Judged.{judged, in_numbers};
-ghost use Rattle.reshaping.specs.Reshaped.{Reshapes, ReshapesWith, summarised};
+ghost use Rattle.reshaping.specs.Reshaped.{reshaped, Reshapes, ReshapesWith, summarised};
 
 use adorned::Adorned;
 pub use adorned::TypeSummary;
-pub use adorned::lent::AdornedTypes;
-pub use indexes::build::IndexBuilt;
 pub use judging::judge::Judged;
 pub use judging::verdict::Verdict;
 pub use labels::convert::Converted;
 pub use paper::Width;
+pub use paper::refusal::Refusal;
 pub use reading::reader;
-pub use reshaping::reshape::Reshaped;
 pub use reshaping::summarise::Summary;
-pub use spelling::print::TreePrinted;
-pub use tables::table::{Examined, Refusal};
-pub use typed::read::TreeRead;
-pub use widths::moves::Moved;
 
 // Examines a table: refusals 1 to 3, or the count of rows.
-pub fn examine(width: Width, table: &[u8]) -> Examined
+pub fn examine(width: Width, table: &[u8]) -> Result<usize, Refusal>
     ensures { examined result ≡ examine (format_of width) table.now }
 {
     tables::table::examine(table, paper::format_of(width))
@@ -54,16 +49,16 @@ pub fn look_up(width: Width, table: &[u8], row: usize) -> &[u8]
     tables::table::look_up(table, paper::format_of(width), row)
 }
 
-// The number and place of a look-up: refusals 1 to 3, then 11.
-pub fn look_up_refusal(width: Width, table: &[u8], row: usize) -> Refusal
-    ensures number_value { result.number ≡ (look_up (format_of width) table.now row).number }
-    ensures place_value { result.place ≡ (look_up (format_of width) table.now row).place }
+// Why a look-up is refused, if it is: refusals 1 to 3, then 11.
+pub fn look_up_refusal(width: Width, table: &[u8], row: usize) -> Result<(), Refusal>
+    ensures number_value { number_in result ≡ (look_up (format_of width) table.now row).number }
+    ensures place_value { place_in result ≡ (look_up (format_of width) table.now row).place }
 {
     tables::table::look_up_refusal(table, paper::format_of(width), row)
 }
 
 // What adorning finds out of a table, by value.
-fn adorned_at(width: Width, table: &[u8], lent: usize) -> Adorned
+fn adorned_at(width: Width, table: &[u8], lent: usize) -> Result<Adorned, Refusal>
     ensures { Says (adorn_figures (format_of width) table.now lent) result }
 {
     adorned::adorn_by_value(table, paper::format_of(width), lent)
@@ -71,24 +66,24 @@ fn adorned_at(width: Width, table: &[u8], lent: usize) -> Adorned
 
 // Adorns a table: refusals 1 to 4, then 10, or the count of types, with one summary a type at the front of what was lent; what lies past
 // them stays as it was.
-pub fn adorn(width: Width, table: &[u8], summaries: &mut [TypeSummary]) -> AdornedTypes
+pub fn adorn(
+    width: Width,
+    table: &[u8],
+    summaries: &mut [TypeSummary],
+) -> Result<usize, Refusal>
     ensures result_value { adorned_types result ≡ (adorn (format_of width) table.now (map told summaries.old)).reply }
     ensures summaries_after { map told summaries.new ≡ (adorn (format_of width) table.now (map told summaries.old)).summaries }
 {
-    let lent = summaries.len();
-    let a = adorned_at(width, table, lent);
-    adorned::lent::store(summaries, a.summaries, a.count);
-    AdornedTypes {
-        number: a.number,
-        place: a.place,
-        types: a.count,
-    }
+    let adorned = adorned_at(width, table, summaries.len())?;
+    let count = adorned.count;
+    adorned::lent::store(summaries, adorned.summaries, count);
+    Ok(count)
 }
 
 // Judges a table and a shape: refusals 1 to 7, or the verdict, the second answer, which is yes where no pair of entries would earn a 2, and for
 // each entry but the first how many closest rows there are along its edge: the least and the greatest number of children under a row of its parent
 // entry's type, and of parents of a row of its own. All edges, whatever the verdict; entry 0 and unused entries hold zeros.
-pub fn judge(width: Width, table: &[u8], shape: &[u8]) -> Judged
+pub fn judge(width: Width, table: &[u8], shape: &[u8]) -> Result<Judged, Refusal>
     ensures { judged result ≡ in_numbers (judge (format_of width) table.now shape.now) }
 {
     judging::judge::judge(table, shape, paper::format_of(width))
@@ -106,15 +101,15 @@ pub fn reshape(
     shape: &[u8],
     new: &mut [u8],
     sources: &mut [u32],
-) -> Reshaped
-    ensures { Reshapes (format_of width) table.now shape.now new.old sources.old result new.new sources.new }
+) -> Result<usize, Refusal>
+    ensures { Reshapes (format_of width) table.now shape.now new.old sources.old (reshaped result) new.new sources.new }
 {
     reshaping::reshape::reshape(table, shape, paper::format_of(width), new, sources)
 }
 
 // Summarises a reshape: refusals 1 to 8, with room for 4,096 lines, or for each of 16 entries its lines, source rows, copies and different
 // source rows.
-pub fn summarise(width: Width, table: &[u8], shape: &[u8]) -> Summary
+pub fn summarise(width: Width, table: &[u8], shape: &[u8]) -> Result<Summary, Refusal>
     ensures { summarised result ≡ summarise (format_of width) table.now shape.now }
 {
     reshaping::summarise::summarise(table, shape, paper::format_of(width))
@@ -122,32 +117,32 @@ pub fn summarise(width: Width, table: &[u8], shape: &[u8]) -> Summary
 
 // Widens a table of six levels: refusals 1 to 3, then 29, or the count of rows, with the table of eight levels at the front of what was
 // lent: each row has two zero components more. What lies past it stays as it was.
-pub fn widen_table(table: &[u8], new: &mut [u8]) -> Moved
-    ensures { Moves (move_table base eight table.now new.old) result new.new }
+pub fn widen_table(table: &[u8], new: &mut [u8]) -> Result<usize, Refusal>
+    ensures { Moves (move_table base eight table.now new.old) (counted result) new.new }
 {
     widths::moves::table_between(table, Width::Six, Width::Eight, new)
 }
 
 // Narrows a table of eight levels: refusals 1 to 3, then 24 with the first row deeper than six levels, then 29, or the count of rows, with
 // the table of six levels at the front of what was lent. What lies past it stays as it was.
-pub fn narrow_table(table: &[u8], new: &mut [u8]) -> Moved
-    ensures { Moves (move_table eight base table.now new.old) result new.new }
+pub fn narrow_table(table: &[u8], new: &mut [u8]) -> Result<usize, Refusal>
+    ensures { Moves (move_table eight base table.now new.old) (counted result) new.new }
 {
     widths::moves::table_between(table, Width::Eight, Width::Six, new)
 }
 
 // Widens a shape of six levels: refusals 5 and 6, then 29, or the count of entries, with the shape of eight levels at the front of what was
 // lent: each entry has two zero labels more. What lies past it stays as it was.
-pub fn widen_shape(shape: &[u8], new: &mut [u8]) -> Moved
-    ensures { Moves (move_shape base eight shape.now new.old) result new.new }
+pub fn widen_shape(shape: &[u8], new: &mut [u8]) -> Result<usize, Refusal>
+    ensures { Moves (move_shape base eight shape.now new.old) (counted result) new.new }
 {
     widths::moves::shape_between(shape, Width::Six, Width::Eight, new)
 }
 
 // Narrows a shape of eight levels: refusals 5 and 6, then 24 with the first entry whose level or type length is over six, then 29, or the
 // count of entries, with the shape of six levels at the front of what was lent. What lies past it stays as it was.
-pub fn narrow_shape(shape: &[u8], new: &mut [u8]) -> Moved
-    ensures { Moves (move_shape eight base shape.now new.old) result new.new }
+pub fn narrow_shape(shape: &[u8], new: &mut [u8]) -> Result<usize, Refusal>
+    ensures { Moves (move_shape eight base shape.now new.old) (counted result) new.new }
 {
     widths::moves::shape_between(shape, Width::Eight, Width::Six, new)
 }
@@ -163,9 +158,9 @@ pub fn convert_labels(
     pairs: &[u16],
     new_table: &mut [u8],
     new_shape: &mut [u8],
-) -> Converted
+) -> Result<Converted, Refusal>
     ensures { let asked = convert (format_of width) table.now shape.now pairs.now new_table.old new_shape.old in
-        Converts asked result new_table.new new_shape.new }
+        Converts asked (converted result) new_table.new new_shape.new }
 {
     labels::convert::convert(
         table,
@@ -182,8 +177,8 @@ pub fn convert_labels(
 // 6 with the first entry whose level is too deep; 13 with the first entry whose name matches no type of the table, or several; then 29, or the count of
 // entries, with the records of the shape at the front of what was lent. What lies past them stays as it was. No call refuses that shape with 5, 6 or
 // 7 over the same table.
-pub fn read_tree(width: Width, table: &[u8], text: &[u8], shape: &mut [u8]) -> TreeRead
-    ensures { ReadsTree (format_of width) table.now text.now shape.old result shape.new }
+pub fn read_tree(width: Width, table: &[u8], text: &[u8], shape: &mut [u8]) -> Result<usize, Refusal>
+    ensures { ReadsTree (format_of width) table.now text.now shape.old (counted result) shape.new }
 {
     typed::read::read_tree(table, text, paper::format_of(width), shape)
 }
@@ -191,8 +186,8 @@ pub fn read_tree(width: Width, table: &[u8], text: &[u8], shape: &mut [u8]) -> T
 // Prints a shape as a line of text, with whole dotted paths, each with a leading dot, and single spaces: refusals 5 and 6, then 29, or the count of bytes,
 // with the line at the front of what was lent. It has no more than 1,360 bytes, and is read back as the same shape over every table past 1 to 4
 // that holds its types.
-pub fn print_tree(width: Width, shape: &[u8], text: &mut [u8]) -> TreePrinted
-    ensures { Prints (print_tree (format_of width) shape.now text.old) result text.new }
+pub fn print_tree(width: Width, shape: &[u8], text: &mut [u8]) -> Result<usize, Refusal>
+    ensures { Prints (print_tree (format_of width) shape.now text.old) (counted result) text.new }
 {
     spelling::print::print_tree(shape, paper::format_of(width), text)
 }
@@ -200,8 +195,8 @@ pub fn print_tree(width: Width, shape: &[u8], text: &mut [u8]) -> TreePrinted
 // Builds the index of a table: refusals 1 to 3; 14 where either list has fewer places than the table has rows; or the count of rows, with each row's
 // last descendant, itself if none, and the next row of its type, 65,535 for none, at the front of what was lent; places past the rows stay as they
 // were. A table may have more than 64 types.
-pub fn build_index(width: Width, table: &[u8], last: &mut [u16], next: &mut [u16]) -> IndexBuilt
-    ensures { Builds (format_of width) table.now last.old next.old result last.new next.new }
+pub fn build_index(width: Width, table: &[u8], last: &mut [u16], next: &mut [u16]) -> Result<usize, Refusal>
+    ensures { Builds (format_of width) table.now last.old next.old (built result) last.new next.new }
 {
     indexes::build::build_index(table, paper::format_of(width), last, next)
 }
@@ -215,7 +210,7 @@ pub fn judge_with_index(
     shape: &[u8],
     last: &[u16],
     next: &[u16],
-) -> Judged
+) -> Result<Judged, Refusal>
     ensures { let asked = judge_with (format_of width) table.now shape.now last.now next.now in
         judged result ≡ in_numbers asked }
 {
@@ -233,9 +228,9 @@ pub fn reshape_with_index(
     next: &[u16],
     new: &mut [u8],
     sources: &mut [u32],
-) -> Reshaped
+) -> Result<usize, Refusal>
     ensures { let promised = ReshapesWith (format_of width) table.now shape.now last.now next.now in
-        promised new.old sources.old result new.new sources.new }
+        promised new.old sources.old (reshaped result) new.new sources.new }
 {
     reshaping::reshape::reshape_with_index(
         table,
@@ -256,7 +251,7 @@ pub fn summarise_with_index(
     shape: &[u8],
     last: &[u16],
     next: &[u16],
-) -> Summary
+) -> Result<Summary, Refusal>
     ensures { summarised result ≡ summarise_with (format_of width) table.now shape.now last.now next.now }
 {
     reshaping::summarise::summarise_with_index(table, shape, paper::format_of(width), last, next)

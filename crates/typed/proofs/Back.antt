@@ -1,6 +1,6 @@
 -- The records of entries, one after the other, and the shape that they are. Assumes nothing.
 use Prim.Native.Nat.{ℕ, suc, ◌+◌, ◌*◌, ◌≤◌, ◌<◌}
-use native.Mathlib.Nat.{mul-add, mul-one, mul-zero}
+use native.Mathlib.Nat.{mul-add, mul-one}
 use native.Mathlib.Numerals.{add-one}
 use native.Mathlib.Omega.{arith}
 use mathlib.Core.Path.{◌≡◌, refl, sym, ◌∙◌, ap, ap₂}
@@ -14,7 +14,7 @@ use borrow.Author.Tests.{eqb-true, eqb-false}
 use Rattle.paper.specs.Lists.{Has, keep, place, first_or}
 use Rattle.paper.specs.Format.{Format, most_types, entry_bytes}
 use Rattle.paper.proofs.Lists.{get_d_has}
-use Rattle.octets.proofs.Writing.{Writing, all_left, part_written, all_written}
+use Rattle.octets.proofs.Writing.{Writing, part_written, all_written}
 use Rattle.grammar.specs.Typed.{Wanted, matches, matched, entry_back, shape_back}
 use Rattle.grammar.proofs.Fitting.{entry-size}
 use Rattle.typed.specs.Matching.{sole_number, Listed}
@@ -40,9 +40,6 @@ module _ (f : Format) (parents labels : List ℕ) (count : ℕ) (levels types : 
   Putting new e = (ts : List (List ℕ)) → Listed ts parents labels count → Within f ts
       → Writing before 0 (entries_back f ts (take entries levels) (take entries types)) new (w * e)
       (entries_back f ts (drop e (take entries levels)) (drop e (take entries types)))
-
-  pub putting_start : Putting before 0
-  putting_start ts listed within = all_left before 0 (entries_back f ts (take entries levels) (take entries types)) (w * 0) (mul-zero w)
 
   module _ (new : List ℕ) (e : ℕ) (p : Putting new e) where
     pub putting_on : w ≡ entry_bytes f → e < entries → entries ≤ length levels → entries ≤ length types → get_or types e 0 < count → (r : List ℕ)

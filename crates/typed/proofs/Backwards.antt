@@ -16,7 +16,7 @@ use Rattle.octets.proofs.Writing.{Writing, all_left, part_written, all_written, 
 use Rattle.grammar.specs.Typed.{entry_back}
 use Rattle.typed.specs.Matching.{Listed}
 use Rattle.typed.specs.Entries.{Sized, EntryIs}
-use Rattle.typed.proofs.Upwards.{Stands, stands_root, stands_split, stands_up, stands_length}
+use Rattle.typed.proofs.Upwards.{Stands, stands_split, stands_up, stands_length}
 
 -- ---- what is put from the last upwards
 -- What lies before other values may as well be written first.
@@ -113,12 +113,6 @@ module _ (parents labels : List ℕ) (count level k : ℕ) where
           omega (arith, less, long),
           last_written w (join_map (bytes 2) (up v)) (bytes 2 (get_or labels q 0)) split r' (4 + 2 * (j - 1)) (omega (arith, length_numbers (up v), less, long)) er,
         )
-
-    -- a label is left, so there is a type
-    pub filling_short : 0 < j → count ≤ q → (f : Format) → EntryIs f parents labels count level k r
-    filling_short pos le f ts listed fits =
-        let (v, s, long, w) = c ts listed in
-        let z : ⊥ = omega (arith, long, ap length (stands_root ts parents labels count listed.told q v s le)) in absurd z
 
     pub filling_end : j ≡ 0 → (f : Format) → Served f → EntryIs f parents labels count level k r
     filling_end done f served ts listed fits =

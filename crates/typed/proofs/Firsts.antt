@@ -1,21 +1,21 @@
--- The first n of a list, one after the other. Assumes nothing.
+-- The first of a list's numbers that passes a test. Assumes nothing.
 use Prim.Native.Nat.{ℕ, zero, suc, ◌≤◌, ◌<◌}
 use native.Mathlib.Nat.{not-suc-le-zero, le_of_suc-le-suc}
 use native.Mathlib.Omega.{arith}
 use mathlib.Core.Path.{◌≡◌, refl, sym, ◌∙◌, ap}
 use mathlib.Core.Bool.{Bool, true, false}
 use mathlib.Core.List.{List, [], ◌∷◌}
-use lib.ListN.{length, get_or, take, drop}
-use lib.Seq.{drop-cons, get_or-take, length-take-le}
+use lib.ListN.{length, get_or, take}
+use lib.Seq.{get_or-take, length-take-le}
+use borrow.Author.Tests.{ltb-false}
+use Rattle.std.proofs.Common.{◌+◌, not, cond, nat_lt, unwrap_or, Some, None}
+use Rattle.std.specs.List.{position, position_or_len}
+use Rattle.std.proofs.lemmas.List.Recursion.{is_position_or_len}
+use Rattle.std.proofs.lemmas.List.Sums.{prefix_len-le-length}
 use Rattle.paper.specs.Lists.{place}
 
-module _ (l : List ℕ) (n : ℕ) (le : n ≤ length l) where
-  pub first_long : length (take n l) ≡ n
-  first_long = length-take-le n l le
-
-  pub first_next : (i x : ℕ) → i < n → x ≡ get_or l i 0 → drop i (take n l) ≡ x ∷ drop (suc i) (take n l)
-  first_next i x lt e =
-      drop-cons (take n l) i 0 (omega (arith, first_long)) ∙ ap (λ y. y ∷ drop (suc i) (take n l)) (get_or-take n l i 0 lt ∙ sym e)
+pub first_long : (l : List ℕ) (n : ℕ) → n ≤ length l → length (take n l) ≡ n
+first_long l n le = length-take-le n l le
 
 -- what stands before the first that passes does not pass
 before_first : (p : ℕ → Bool) (l : List ℕ) (i : ℕ) → i < length l → i < place p l → p (get_or l i 0) ≡ false
@@ -32,3 +32,19 @@ before_first p (x ∷ l) i lt le = go (p x) refl i lt le (before_first p l)
 pub none_passes : (p : ℕ → Bool) (l : List ℕ) (n : ℕ) → n ≤ length l → n ≤ place p (take n l) → (i : ℕ) → i < n → p (get_or l i 0) ≡ false
 none_passes p l n le none i lt =
     ap p (sym (get_or-take n l i 0 lt)) ∙ before_first p (take n l) i (omega (arith, first_long l n le)) (omega arith)
+
+-- the first that passes, as the library's search tells it
+place_is : (p : ℕ → Bool) (l : List ℕ) → place p l ≡ position_or_len p l
+place_is p = is_position_or_len (place p) p refl (λ x l. step (p x) (place p l))
+  where
+    step : (t : Bool) (n : ℕ) → elim t as (λ _. ℕ) [ true ↦ 0 | false ↦ suc n ] ≡ cond t 0 (1 + n)
+    step true n = refl
+    step false n = omega arith
+
+-- where a search of n numbers stops, or n, is the place of the first that passes
+pub found_or_all : (p : ℕ → Bool) (l : List ℕ) (n : ℕ) → length l ≡ n → unwrap_or (position p l) n ≡ place p l
+found_or_all p l n e = go (nat_lt (position_or_len p l) (length l)) refl ∙ sym (place_is p l)
+  where
+    go : (t : Bool) → nat_lt (position_or_len p l) (length l) ≡ t → unwrap_or (cond t (Some (position_or_len p l)) None) n ≡ position_or_len p l
+    go true q = refl
+    go false q = omega (arith, e, ltb-false (position_or_len p l) (length l) q, prefix_len-le-length (λ x. not (p x)) l)

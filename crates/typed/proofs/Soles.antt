@@ -44,9 +44,6 @@ module _ {A : Type 0} (p : A → Bool) where
       ((found ≡ most_types) × (place p xs ≡ k + place p (drop k xs)) × (length (keep p xs) ≡ length (keep p (drop k xs))))
       ⊎ ((found < most_types) × (place p xs ≡ found) × (length (keep p xs) ≡ suc (length (keep p (drop k xs)))))
 
-  pub sought_start : (xs : List A) → Sought xs most_types 0
-  sought_start xs = inl (refl, omega arith, refl)
-
   module _ (xs : List A) (found k : ℕ) (s : Sought xs found k) where
     module _ (x : A) (next : drop k xs ≡ x ∷ drop (suc k) xs) where
       after : drop (k + 1) xs ≡ drop (suc k) xs
@@ -100,9 +97,6 @@ module _ (parents labels : List ℕ) (count : ℕ) (n : Name) where
   -- whatever types are listed, those before type k are looked at
   abbrev pub Seeking : ℕ → ℕ → Type 0
   Seeking found k = (ts : List (List ℕ)) → Told ts parents labels count → Sought (matches n) ts found k
-
-  pub seeking_start : Seeking most_types 0
-  seeking_start ts told = sought_start (matches n) ts
 
   module _ (found k : ℕ) (s : Seeking found k) where
     module _ (lt : k < count) where

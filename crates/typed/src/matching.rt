@@ -21,21 +21,13 @@ fn type_matches<'a>(
     ensures { Ends parents.now labels.now count (record { whole = whole; labels = take size name.now }) k result }
 {
     let mut q = k;
-    let mut j = size;
-    while 0 < j {
-        if count <= q {
-            return false;
-        }
-        if labels[q] != name[j - 1] {
+    for j in (0..size).rev() {
+        if count <= q || labels[q] != name[j] {
             return false;
         }
         q = octets::wide(parents[q]);
-        j -= 1;
     }
-    if whole {
-        return count <= q;
-    }
-    true
+    !whole || count <= q
 }
 
 // The number of the one type that a name matches, 64 where it matches none or several. A name of more than eight labels matches none.
@@ -48,19 +40,13 @@ pub fn match_type<'a>(name: Word, parents: &'a [u8], labels: &'a [u16], count: u
     if 8 < size {
         return 64;
     }
-    let whole = name.whole;
-    let held = name.labels;
     let mut found = 64;
-    let mut k = 0;
-    while k < count {
-        if type_matches(&held, size, whole, parents, labels, count, k) {
+    for k in 0..count {
+        if type_matches(&name.labels, size, name.whole, parents, labels, count, k) {
             if found < 64 {
                 return 64;
             }
             found = k;
-            k += 1;
-        } else {
-            k += 1;
         }
     }
     found

@@ -13,15 +13,13 @@ fn type_size(parents: &[u8], count: usize, k: usize) -> usize
     ensures { (result ≤ most_kept) × Sized parents.now count k result }
 {
     let mut q = k;
-    let mut n = 0;
-    while n < 8 {
+    for n in 0..8 {
         if count <= q {
             return n;
         }
         q = octets::wide(parents[q]);
-        n += 1;
     }
-    n
+    8
 }
 
 // The record of an entry with this level and this type; its labels are put from the last upwards.
@@ -41,12 +39,10 @@ fn entry_record<'a>(
     r[0] = level;
     r[1] = size as u8;
     let mut q = k;
-    let mut j = size;
-    while 0 < j {
+    for j in (0..size).rev() {
         if count <= q {
             return r;
         }
-        j -= 1;
         octets::put_word(&mut r, 4 + 2 * j, labels[q]);
         q = octets::wide(parents[q]);
     }
@@ -71,8 +67,7 @@ pub fn put_entries<'a>(
         new.old new.new }
 {
     let w = octets::entry_bytes(f);
-    let mut e = 0;
-    while e < entries {
+    for e in 0..entries {
         let r = entry_record(
             f,
             levels[e] as u8,
@@ -81,7 +76,6 @@ pub fn put_entries<'a>(
             labels,
             count,
         );
-        octets::put(new, w * e, &r[0..w]);
-        e += 1;
+        octets::put(new, w * e, &r[..w]);
     }
 }

@@ -25,8 +25,8 @@ fn no_entry(right: bool, place: usize) -> Walked
     ensures { (result.right ≡ right) × (result.place ≡ place) × (result.entries ≡ 0) }
 {
     Walked {
-        right: right,
-        place: place,
+        right,
+        place,
         entries: 0,
         levels: [0u16; 16],
         types: [0u16; 16],
@@ -39,31 +39,23 @@ fn may_stand(b: u8, stage: usize, depth: usize) -> bool
     ensures { result ≡ may_stand b (stage_of stage) depth }
 {
     if b == b'[' {
-        return stage == 1;
+        stage == 1
+    } else if stage == 0 || stage == 2 {
+        b != b']'
+    } else {
+        0 < depth
     }
-    if stage == 0 {
-        return b != b']';
-    }
-    if stage == 2 {
-        return b != b']';
-    }
-    0 < depth
 }
 
 // What was walked, if the text may end there.
 fn ended(w: Walked, stage: usize, depth: usize, place: usize) -> Walked
     ensures { (may_end (stage_of stage) depth ≡ true → result ≡ w) × (may_end (stage_of stage) depth ≡ false → WrongAt result place) }
 {
-    if stage == 0 {
-        return no_entry(false, place);
+    if stage == 0 || stage == 2 || 0 < depth {
+        no_entry(false, place)
+    } else {
+        w
     }
-    if stage == 2 {
-        return no_entry(false, place);
-    }
-    if 0 < depth {
-        return no_entry(false, place);
-    }
-    w
 }
 
 // Where the word that begins at p ends: at the next space or bracket, or with the text.
@@ -71,23 +63,11 @@ fn word_end(text: &[u8], p: usize) -> usize
     requires { p ≤ length text.now }
     ensures { (result ≡ p + length (run (drop p text.now))) × (result ≤ length text.now) }
 {
-    let mut q = p;
-    while q < text.len() {
-        let b = text[q];
-        if b <= b']' {
-            if b == b' ' {
-                return q;
-            }
-            if b == b'[' {
-                return q;
-            }
-            if b == b']' {
-                return q;
-            }
-        }
-        q += 1;
-    }
-    q
+    let rest = &text[p..];
+    p + rest
+        .iter()
+        .position(|b| *b == b' ' || *b == b'[' || *b == b']')
+        .unwrap_or(rest.len())
 }
 
 // What was walked and the entry that a word asks for, or wrong if it spells no name. Level and type of a 17th entry and later ones are not kept: they
@@ -119,8 +99,8 @@ fn keep_word<'a>(
         right: true,
         place: 0,
         entries: entries + 1,
-        levels: levels,
-        types: types,
+        levels,
+        types,
     }
 }
 

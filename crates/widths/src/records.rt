@@ -7,27 +7,14 @@ ghost use Rattle.paper.specs.Format.{records, whole};
 ghost use Rattle.octets.specs.Served.{most_bytes};
 ghost use Rattle.widths.specs.Moves.{fitted, moved_bytes, record_deep};
 
-// Byte k of the first `from` bytes of a record, zero past them.
-fn byte_of(r: &[u8], from: usize, k: usize) -> u8
-    requires { from ≤ length r.now }
-    ensures { result ≡ get_or (take from r.now) k 0 }
-{
-    if k < from {
-        return r[k];
-    }
-    0
-}
-
 // The first `from` bytes of a record, cut or filled with zeros to `to`, put at a place.
 fn put_list(r: &[u8], from: usize, to: usize, new: &mut [u8], at: usize)
     requires { (from ≤ length r.now) × (at + to ≤ length new.old) }
     ensures { new.new ≡ sets new.old at (padded to (take from r.now)) }
 {
-    let mut k = 0;
-    while k < to {
-        new[at + k] = byte_of(r, from, k);
-        k += 1;
-    }
+    let kept = from.min(to);
+    new[at..at + kept].copy_from_slice(&r[..kept]);
+    new[at + kept..at + to].fill(0);
 }
 
 // The same, and the rest of the record behind it.
@@ -36,7 +23,7 @@ fn move_record(r: &[u8], from: usize, to: usize, new: &mut [u8], at: usize)
     ensures { new.new ≡ sets new.old at (fitted from to r.now) }
 {
     put_list(r, from, to, new, at);
-    octets::put(new, at + to, &r[from..r.len()]);
+    octets::put(new, at + to, &r[from..]);
 }
 
 // The bytes that a record of w bytes has once it is moved.
@@ -54,10 +41,8 @@ pub fn move_records(b: &[u8], w: usize, count: usize, from: usize, to: usize, ne
     ensures { new.new ≡ sets new.old 0 (join_map (fitted from to) (records w count b.now)) }
 {
     let each = moved_bytes(w, from, to);
-    let mut i = 0;
-    while i < count {
+    for i in 0..count {
         move_record(octets::record(b, w, i), from, to, new, each * i);
-        i += 1;
     }
 }
 
@@ -66,10 +51,7 @@ fn is_deep(r: &[u8], levels: usize) -> bool
     requires { 2 ≤ length r.now }
     ensures { result ≡ record_deep levels r.now }
 {
-    if levels < octets::wide(r[0]) {
-        return true;
-    }
-    levels < octets::wide(r[1])
+    levels < octets::wide(r[0]) || levels < octets::wide(r[1])
 }
 
 // The first record of w bytes that is too deep, count for none.
@@ -77,12 +59,10 @@ pub fn first_deep(b: &[u8], w: usize, count: usize, levels: usize) -> usize
     requires { (2 ≤ w) × (count ≡ whole w b.now) }
     ensures { result ≡ place (record_deep levels) (records w count b.now) }
 {
-    let mut i = 0;
-    while i < count {
+    for i in 0..count {
         if is_deep(octets::record(b, w, i), levels) {
             return i;
         }
-        i += 1;
     }
     count
 }
