@@ -41,8 +41,8 @@ module _ (f : Format) (s : List ℕ) where
 
   pub shape_passed : (n : ℕ) → shape_examined (Ok n) ≡ shape_reply f s → Shaped f s n
   shape_passed n q = record {
-    passed = shape-laws.examined-given f s 0 0 n q refl;
-    whole-entries = shape-laws.counted f s 0 0 n q refl;
+    passed = (shape-laws.tests_give f s n q).0;
+    whole-entries = (shape-laws.tests_give f s n q).1;
     kept = shape-laws.kept f s 0 0 n q refl;
     few = shape-laws.few_entries f s 0 0 n q refl;
   }

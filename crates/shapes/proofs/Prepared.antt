@@ -1,7 +1,7 @@
 -- From what was read of a table and a shape to what the walks work on. Assumes nothing.
 use Prim.Native.Nat.{ℕ, suc, ◌≤◌, ◌<◌, max}
 use native.Mathlib.Omega.{arith}
-use mathlib.Core.Path.{◌≡◌, refl, sym, ◌∙◌, ap, ap₂, subst}
+use mathlib.Core.Path.{◌≡◌, sym, ◌∙◌, ap, ap₂, subst}
 use mathlib.Core.List.{List}
 use lib.ListN.{length, get_or}
 use Rattle.paper.specs.Format.{Format, most_types}

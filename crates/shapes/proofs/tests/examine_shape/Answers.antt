@@ -13,7 +13,7 @@ use Rattle.shapes.proofs.tests.examine_shape.Goals.{then-is_empty-via-then-is_em
 
 -- the shape is not empty, not too long, and has whole entries
 some_bytes : (c : After-bad_entry-bad) → length c.args.shape.now ≡ 0 → ⊥
-some_bytes c = eqb-false (length c.args.shape.now) 0 (sym (c.if-is_empty.ensures))
+some_bytes c = eqb-false (length c.args.shape.now) 0 (sym c.if-is_empty.ensures)
 
 short : (c : After-bad_entry-bad) → length c.args.shape.now ≤ most_entries * entry_bytes c.args.f
 short c = omega (arith, c.entry_bytes-w.ensures, c.if-w-shape.false)
@@ -26,10 +26,11 @@ returns-then-is_empty c =
     let f = c.args.f in
     let s = c.args.shape.now in
     elim c.then-is_empty.branch [
-      then-is_empty-via-then-is_empty w ↦ refused_empty f s (eqb-true (length s) 0 (sym (w.if-is_empty.ensures)))
-    | then-is_empty-via-else-is_empty+then-w-shape w ↦ refused_long f s (omega (arith, c.entry_bytes-w.ensures, w.if-w-shape.true))
-    | then-is_empty-via-else-is_empty+else-w-shape+then-shape-w-ne0 w ↦
-      refused_ragged f s (subst (λ n. length s % n ≡ 0 → ⊥) c.entry_bytes-w.ensures w.if-shape-w-ne0.true) ]
+      | then-is_empty-via-then-is_empty w ↦ refused_empty f s (eqb-true (length s) 0 (sym w.if-is_empty.ensures))
+      | then-is_empty-via-else-is_empty+then-w-shape w ↦ refused_long f s (omega (arith, c.entry_bytes-w.ensures, w.if-w-shape.true))
+      | then-is_empty-via-else-is_empty+else-w-shape+then-shape-w-ne0 w ↦
+          refused_ragged f s (subst (λ n. length s % n ≡ 0 → ⊥) c.entry_bytes-w.ensures w.if-shape-w-ne0.true)
+    ]
 
 pub returns-then-bad-entries : goal.returns-then-bad-entries
 returns-then-bad-entries c =
