@@ -31,7 +31,12 @@ fn type_matches<'a>(
 }
 
 // The number of the one type that a name matches, if it matches one and no other. A name of more than eight labels matches none.
-pub fn match_type<'a>(name: Word, parents: &'a [u8], labels: &'a [u16], count: usize) -> Option<usize>
+pub fn match_type<'a>(
+    name: Word,
+    parents: &'a [u8],
+    labels: &'a [u16],
+    count: usize,
+) -> Option<usize>
     requires { (count ≤ length parents.now) × (count ≤ length labels.now) × (count ≤ most_types) }
     ensures sole { (n : Name) → Holds name n → Sole parents.now labels.now count n (unwrap_or result most_types) }
     ensures listed { IfSome result (λ k. k < count) }

@@ -1,5 +1,5 @@
 -- One type more is looked at, or the answer. Assumes nothing.
-use Prim.Native.Nat.{ℕ, ◌≤◌, ◌<◌, ◌+◌}
+use Prim.Native.Nat.{ℕ, ◌≤◌}
 use native.Mathlib.Omega.{arith}
 use mathlib.Core.Path.{sym, ◌∙◌, subst}
 use mathlib.Core.List.{List}
@@ -9,7 +9,7 @@ use Rattle.names.specs.Word.{Holds}
 use Rattle.names.specs.declared.word.Word.{Word}
 use Rattle.typed.specs.Matching.{Ends, Sole}
 use Rattle.typed.proofs.Suffix.{name_with}
-use Rattle.typed.proofs.Soles.{held_name, Seeking, seeking_past, seeking_here, seeking_twice, seeking_end, seeking_long}
+use Rattle.typed.proofs.Soles.{held_name, seeking_past, seeking_here, seeking_twice, seeking_end, seeking_long}
 use Rattle.typed.proofs.matching.match_type.Goals as goal
 use Rattle.typed.proofs.matching.match_type.Goals.{then-type_matches+else-is_some, else-type_matches}
 
