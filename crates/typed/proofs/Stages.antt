@@ -1,10 +1,9 @@
 -- Which token may stand next, by the number of the stage and the token's first byte. Assumes nothing.
-use Prim.Native.Nat.{ℕ, ◌<◌}
-use mathlib.Core.Path.{◌≡◌, refl, sym}
-use mathlib.Core.Bool.{true, true≢false}
-use borrow.Author.Tests.{eq-eqb, ne_eqb, ltb-true}
+use Prim.Native.Nat.{ℕ}
+use mathlib.Core.Path.{◌≡◌, refl}
+use borrow.Author.Tests.{eq-eqb, ne_eqb}
 use Rattle.grammar.specs.Grammar.{open_byte, close_byte}
-use Rattle.grammar.specs.Reader.{Stage, first, behind_name, behind_open, behind_close, may_name, may_open, may_close}
+use Rattle.grammar.specs.Reader.{Stage, may_name, may_open, may_close}
 use Rattle.typed.specs.Walk.{may_stand}
 
 module _ (b : ℕ) (s : Stage) (d : ℕ) where
@@ -17,10 +16,3 @@ module _ (b : ℕ) (s : Stage) (d : ℕ) where
 
     pub stands_name : (b ≡ close_byte → ⊥) → may_stand b s d ≡ may_name s d
     stands_name ne = rw (ne_eqb b open_byte no_open, ne_eqb b close_byte ne, may_stand) refl
-
--- A closing bracket stands within some.
-pub close_deep : (s : Stage) (d : ℕ) → may_close s d ≡ true → 0 < d
-close_deep first d e = absurd (true≢false (sym e))
-close_deep behind_name d e = ltb-true 0 d e
-close_deep behind_open d e = absurd (true≢false (sym e))
-close_deep behind_close d e = ltb-true 0 d e
