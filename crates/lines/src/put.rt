@@ -12,10 +12,8 @@ fn put_number(new: &mut [u8], at: usize, number: [u16; 8])
     requires { at + 16 ≤ length new.old }
     ensures { new.new ≡ sets new.old at (join_map (bytes 2) number) }
 {
-    let mut k = 0;
-    while k < 8 {
+    for k in 0..8 {
         octets::put_word(new, at + 2 * k, number[k]);
-        k += 1;
     }
 }
 
@@ -40,11 +38,7 @@ fn put_value(new: &mut [u8], at: usize, value: [u8; 8])
     requires { at + value_bytes ≤ length new.old }
     ensures { new.new ≡ sets new.old at value }
 {
-    let mut k = 0;
-    while k < 8 {
-        new[at + k] = value[k];
-        k += 1;
-    }
+    new[at..at + 8].copy_from_slice(&value);
 }
 
 // The record of a line: level, label, the upper line's number with the line's position at place `at`, and the value of source row r.

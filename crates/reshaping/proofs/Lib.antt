@@ -1,7 +1,6 @@
 pub mod Children
 pub mod Paper
 pub mod Answers
-pub mod Figured
 pub mod Padded
 pub mod Summed
 pub mod Lent

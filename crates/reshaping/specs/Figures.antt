@@ -22,7 +22,7 @@ pub record Holds (g : ℕ → ℕ) (m : ℕ) (xs : List ℕ) : Type 0 where
   pub each : (e : ℕ) → e < m → get_or xs e 0 ≡ g e
   pub rest : (e : ℕ) → m ≤ e → get_or xs e 0 ≡ 0
 
--- no refusal, and the figures of each entry; `wanted` are the entries' type numbers
+-- the figures of each entry; `wanted` are the entries' type numbers
 pub record Figured (types : List ℕ) (rows : ℕ) (wanted : List ℕ) (entries : ℕ) (shows lines : List ℕ) (x : Summary) : Type 0 where
   pub lines_are : x.lines ≡ lines
   pub rows_are : Holds (λ e. held_by types rows (get_or wanted e 0)) entries x.rows

@@ -22,20 +22,13 @@ fn entry_rows(types: &[u8], rows: usize, k: u8, shows: &[u16], e: usize) -> Entr
     let entry_at = 1024 * e;
     let mut held = 0;
     let mut different = 0;
-    let mut i = 0;
-    while i < rows {
+    for i in 0..rows {
         if types[i] == k {
             held += 1;
             different += smaller(octets::wide16(shows[entry_at + i]), 1);
-            i += 1;
-        } else {
-            i += 1;
         }
     }
-    EntryRows {
-        held: held,
-        different: different,
-    }
+    EntryRows { held, different }
 }
 
 // The summary of a reshape that is accepted, from the lines of each entry and from how often they show each row. No line is walked.
@@ -54,18 +47,16 @@ pub fn figures_of(
     let mut held = [0; 16];
     let mut copies = [0; 16];
     let mut different = [0; 16];
-    let mut e = 0;
-    while e < entries {
+    for e in 0..entries {
         let r = entry_rows(types, rows, wanted[e], shows, e);
         held[e] = r.held;
         copies[e] = lines[e] - r.different;
         different[e] = r.different;
-        e += 1;
     }
     Summary {
-        lines: lines,
+        lines,
         rows: held,
-        copies: copies,
-        different: different,
+        copies,
+        different,
     }
 }
