@@ -29,12 +29,10 @@ pub fn find(list: &[u16], n: usize, side: usize, x: usize) -> usize
     requires { (n ≤ length (pairs list.now)) × (side ≤ 1) }
     ensures { result ≡ place (has side x) (take n (pairs list.now)) }
 {
-    let mut i = 0;
-    while i < n {
+    for i in 0..n {
         if number_at(list, 2 * i + side) == x {
             return i;
         }
-        i += 1;
     }
     n
 }
@@ -56,9 +54,6 @@ pub fn convert_label(list: &[u16], x: usize) -> usize
 pub fn is_unlisted(list: &[u16], f: Format, x: usize) -> bool
     ensures { result ≡ unlisted f (pairs list.now) x }
 {
-    if x <= f.labels {
-        return false;
-    }
     let n = count_pairs(list);
-    find(list, n, 0, x) == n
+    f.labels < x && find(list, n, 0, x) == n
 }

@@ -24,12 +24,10 @@ fn has_label(r: &[u8], from: usize, n: usize, x: usize) -> bool
     requires { (from + 2 * n ≤ length r.now) × (n ≤ most_bytes) × (from ≤ most_bytes) }
     ensures { result ≡ has_label from n x r.now }
 {
-    let mut k = 0;
-    while k < n {
+    for k in 0..n {
         if label_at(r, from, n, k) == x {
             return true;
         }
-        k += 1;
     }
     false
 }
@@ -39,12 +37,10 @@ pub fn file_has(b: &[u8], w: usize, count: usize, from: usize, n: usize, x: usiz
     requires { (from + 2 * n ≤ w) × (w ≤ most_bytes) × (count ≡ whole w b.now) }
     ensures { result ≡ any (eqb x) (file_labels w count from n b.now) }
 {
-    let mut i = 0;
-    while i < count {
+    for i in 0..count {
         if has_label(octets::record(b, w, i), from, n, x) {
             return true;
         }
-        i += 1;
     }
     false
 }
@@ -54,12 +50,10 @@ fn has_unlisted(r: &[u8], from: usize, n: usize, list: &[u16], f: Format) -> boo
     requires { (from + 2 * n ≤ length r.now) × (n ≤ most_bytes) × (from ≤ most_bytes) }
     ensures { result ≡ any_unlisted f (pairs list.now) from n r.now }
 {
-    let mut k = 0;
-    while k < n {
+    for k in 0..n {
         if is_unlisted(list, f, label_at(r, from, n, k)) {
             return true;
         }
-        k += 1;
     }
     false
 }
@@ -77,12 +71,10 @@ pub fn first_unlisted(
     requires { (from + 2 * n ≤ w) × (w ≤ most_bytes) × (count ≡ whole w b.now) }
     ensures { result ≡ place (any_unlisted f (pairs list.now) from n) (records w count b.now) }
 {
-    let mut i = 0;
-    while i < count {
+    for i in 0..count {
         if has_unlisted(octets::record(b, w, i), from, n, list, f) {
             return i;
         }
-        i += 1;
     }
     count
 }
@@ -92,11 +84,9 @@ fn put_labels(r: &[u8], from: usize, n: usize, list: &[u16], new: &mut [u8], at:
     requires { (from + 2 * n ≤ length r.now) × (n ≤ most_bytes) × (from ≤ most_bytes) × (at + 2 * n ≤ length new.old) }
     ensures { new.new ≡ sets new.old at (join_map (bytes 2) (map (converted (pairs list.now)) (words n r.now from))) }
 {
-    let mut k = 0;
-    while k < n {
+    for k in 0..n {
         let label = convert_label(list, label_at(r, from, n, k));
         octets::put_word(new, at + 2 * k, label as u16);
-        k += 1;
     }
 }
 
@@ -124,9 +114,7 @@ pub fn put_records(
     requires { (from + 2 * n ≤ w) × (w ≤ most_bytes) × (count ≡ whole w b.now) × (w * count ≤ length new.old) }
     ensures { new.new ≡ sets new.old 0 (join_map (record_with (pairs list.now) from n) (records w count b.now)) }
 {
-    let mut i = 0;
-    while i < count {
+    for i in 0..count {
         put_record(octets::record(b, w, i), from, n, list, new, w * i);
-        i += 1;
     }
 }
