@@ -85,10 +85,7 @@ fn pair_kept(
     if occurs(table, rows, shape, entries, f, new) {
         return false;
     }
-    if find(list, i, 0, old) < i {
-        return false;
-    }
-    find(list, i, 1, new) == i
+    find(list, i, 0, old).is_none() && find(list, i, 1, new).is_none()
 }
 
 // The first pair to break a rule, the number of pairs for none.

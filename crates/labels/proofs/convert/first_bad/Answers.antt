@@ -1,5 +1,4 @@
 -- `convert::first_bad`: from each pair on the first break is the list's. Assumes nothing.
-use native.Mathlib.Omega.{arith}
 use mathlib.Core.Path.{sym, ◌∙◌}
 use Rattle.labels.specs.Records.{standing}
 use Rattle.labels.proofs.Kept.{breaking_start, breaking_stop, breaking_on, breaking_end}

@@ -1,6 +1,8 @@
 -- `convert::pair_kept`: each test decides one rule. Assumes nothing.
+use mathlib.Core.Path.{◌∙◌, ap}
+use mathlib.Core.Bool.{not}
 use Rattle.labels.specs.Records.{standing}
-use Rattle.labels.proofs.Listed.{counted}
+use Rattle.labels.proofs.Listed.{counted, flipped}
 use Rattle.labels.proofs.Kept.{too_small, too_large, no_label, new_too_large, new_occurs, old_twice, new_decides}
 use borrow.Author.Rules.{rules}
 use Rattle.labels.proofs.convert.pair_kept.Goals as goal
@@ -45,16 +47,18 @@ returns-then-occurs c =
     c.number_at-old.ensures.0 c.number_at-new.ensures.0 c.if-old-f.false c.if-old-gt999.false c.if-new-lt1.false
     c.if-f-new.false _ c.occurs.ensures c.if-occurs.true
 
-pub returns-then-find-i : goal.returns-then-find-i
-returns-then-find-i c =
+pub returns-then-is_none : goal.returns-then-is_none
+returns-then-is_none c =
     let a = c.args in
-    old_twice a.f (standing a.f a.table.now a.shape.now) a.list.now a.i _ _ c.requires.1
+    flipped _ _ c.is_none-then-is_none.ensures
+    ∙ new_decides a.f (standing a.f a.table.now a.shape.now) a.list.now a.i _ _ c.requires.1
     c.number_at-old.ensures.0 c.number_at-new.ensures.0 c.if-old-f.false c.if-old-gt999.false c.if-new-lt1.false
-    c.if-f-new.false _ c.occurs.ensures c.if-occurs.false _ c.find.ensures c.if-find-i.true
+    c.if-f-new.false _ c.occurs.ensures c.if-occurs.false _ c.find.ensures (c.is_none.ensures ∙ ap not c.if-is_none.true) _ c.find-then-is_none.ensures
 
-pub returns : goal.returns
-returns c =
+pub returns-else-is_none : goal.returns-else-is_none
+returns-else-is_none c =
     let a = c.args in
-    new_decides a.f (standing a.f a.table.now a.shape.now) a.list.now a.i _ _ c.requires.1
+    c.if-is_none.false
+    ∙ old_twice a.f (standing a.f a.table.now a.shape.now) a.list.now a.i _ _ c.requires.1
     c.number_at-old.ensures.0 c.number_at-new.ensures.0 c.if-old-f.false c.if-old-gt999.false c.if-new-lt1.false
-    c.if-f-new.false _ c.occurs.ensures c.if-occurs.false _ c.find.ensures c.if-find-i.false _ c.find-2.ensures
+    c.if-f-new.false _ c.occurs.ensures c.if-occurs.false _ c.find.ensures (c.is_none.ensures ∙ ap not c.if-is_none.false)
