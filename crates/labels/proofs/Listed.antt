@@ -10,12 +10,12 @@ use lib.ListN.{length, get_or, take, drop}
 use lib.Seq.{drop-cons, get_or-take, length-take-le, take_all}
 use borrow.Author.Tests.{ltb-true, ltb-false, lt-ltb, le-ltb}
 use Rattle.std.proofs.Common.{Option, Some, None, cond, is_some}
-use Rattle.std.proofs.lemmas.List.Recursion.{is_position_or_len}
 use Rattle.std.specs.List.{position, position_or_len}
 use Rattle.paper.specs.Lists.{any, place}
 use Rattle.paper.specs.Format.{Format}
 use Rattle.paper.specs.Labels.{Pair, pairs, listed, converted, unlisted}
 use Rattle.labels.specs.Pairs.{pair_at, has}
+use Rattle.labels.proofs.Ranged.{place_is}
 
 -- ---- how many
 -- The last may be a half pair.
@@ -103,13 +103,6 @@ module _ (x : ℕ) where
 
 -- What its position says of the list: an element there, or none in all of it.
 module _ {A : Type 0} (p : A → Bool) where
-  place_is : (xs : List A) → place p xs ≡ position_or_len p xs
-  place_is = is_position_or_len (place p) p refl (λ x xs. at (p x) (place p xs))
-    where
-      at : (b : Bool) (k : ℕ) → elim b as (λ _. ℕ) [ true ↦ 0 | false ↦ suc k ] ≡ cond b 0 (1 + k)
-      at true k = refl
-      at false k = omega arith
-
   module _ (xs : List A) where
     abbrev pub Told : Option ℕ → Type 0
     Told o = elim o [ Some i ↦ (i ≡ place p xs) × (i < length xs) | None ↦ length xs ≤ place p xs ]
@@ -118,22 +111,22 @@ module _ {A : Type 0} (p : A → Bool) where
     by_test b = cond b (Some (position_or_len p xs)) None
 
     pub position_found : (i : ℕ) → i ≡ place p xs → i < length xs → Some i ≡ position p xs
-    position_found i e lt = ap Some (e ∙ place_is xs) ∙ sym (ap by_test (lt-ltb (position_or_len p xs) (length xs) (omega (arith, e, place_is xs))))
+    position_found i e lt = ap Some (e ∙ place_is p xs) ∙ sym (ap by_test (lt-ltb (position_or_len p xs) (length xs) (omega (arith, e, place_is p xs))))
 
     pub position_missed : (n : ℕ) → n ≡ place p xs → length xs ≡ n → None ≡ position p xs
-    position_missed n e long = sym (ap by_test (le-ltb (position_or_len p xs) (length xs) (omega (arith, e, place_is xs))))
+    position_missed n e long = sym (ap by_test (le-ltb (position_or_len p xs) (length xs) (omega (arith, e, place_is p xs))))
 
     pub position_told : (o : Option ℕ) → o ≡ position p xs → Told o
     position_told o e = subst Told (sym e) (go (ltb (position_or_len p xs) (length xs)) refl)
       where
         go : (b : Bool) → ltb (position_or_len p xs) (length xs) ≡ b → Told (by_test b)
-        go true t = (sym (place_is xs), ltb-true (position_or_len p xs) (length xs) t)
-        go false t = omega (arith, place_is xs, ltb-false (position_or_len p xs) (length xs) t)
+        go true t = (sym (place_is p xs), ltb-true (position_or_len p xs) (length xs) t)
+        go false t = omega (arith, place_is p xs, ltb-false (position_or_len p xs) (length xs) t)
 
     -- There is one exactly if an element passes.
     pub position_any : (o : Option ℕ) → o ≡ position p xs → is_some o ≡ any p xs
     position_any o e =
-        ap is_some e ∙ go (ltb (position_or_len p xs) (length xs)) ∙ ap (λ k. ltb k (length xs)) (sym (place_is xs)) ∙ sym (place_any p xs)
+        ap is_some e ∙ go (ltb (position_or_len p xs) (length xs)) ∙ ap (λ k. ltb k (length xs)) (sym (place_is p xs)) ∙ sym (place_any p xs)
       where
         go : (b : Bool) → is_some (by_test b) ≡ b
         go true = refl

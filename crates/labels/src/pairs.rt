@@ -29,12 +29,7 @@ pub fn find(list: &[u16], n: usize, side: usize, x: usize) -> Option<usize>
     requires { (n ≤ length (pairs list.now)) × (side ≤ 1) }
     ensures { result ≡ position (has side x) (take n (pairs list.now)) }
 {
-    for i in 0..n {
-        if number_at(list, 2 * i + side) == x {
-            return Some(i);
-        }
-    }
-    None
+    (0..n).position(|i| number_at(list, 2 * i + side) == x)
 }
 
 // What a label becomes.

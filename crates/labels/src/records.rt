@@ -24,12 +24,7 @@ fn has_label(r: &[u8], from: usize, n: usize, x: usize) -> bool
     requires { (from + 2 * n ≤ length r.now) × (n ≤ most_bytes) × (from ≤ most_bytes) }
     ensures { result ≡ has_label from n x r.now }
 {
-    for k in 0..n {
-        if label_at(r, from, n, k) == x {
-            return true;
-        }
-    }
-    false
+    (0..n).any(|k| label_at(r, from, n, k) == x)
 }
 
 // Does one of the records of w bytes?
@@ -37,12 +32,7 @@ pub fn file_has(b: &[u8], w: usize, count: usize, from: usize, n: usize, x: usiz
     requires { (from + 2 * n ≤ w) × (w ≤ most_bytes) × (count ≡ whole w b.now) }
     ensures { result ≡ any (eqb x) (file_labels w count from n b.now) }
 {
-    for i in 0..count {
-        if has_label(octets::record(b, w, i), from, n, x) {
-            return true;
-        }
-    }
-    false
+    (0..count).any(|i| has_label(octets::record(b, w, i), from, n, x))
 }
 
 // Has a record a label that is too large and not in the list?
@@ -50,12 +40,7 @@ fn has_unlisted(r: &[u8], from: usize, n: usize, list: &[u16], f: Format) -> boo
     requires { (from + 2 * n ≤ length r.now) × (n ≤ most_bytes) × (from ≤ most_bytes) }
     ensures { result ≡ any_unlisted f (pairs list.now) from n r.now }
 {
-    for k in 0..n {
-        if is_unlisted(list, f, label_at(r, from, n, k)) {
-            return true;
-        }
-    }
-    false
+    (0..n).any(|k| is_unlisted(list, f, label_at(r, from, n, k)))
 }
 
 // The first record of w bytes that has, count for none.
@@ -71,12 +56,9 @@ pub fn first_unlisted(
     requires { (from + 2 * n ≤ w) × (w ≤ most_bytes) × (count ≡ whole w b.now) }
     ensures { result ≡ place (any_unlisted f (pairs list.now) from n) (records w count b.now) }
 {
-    for i in 0..count {
-        if has_unlisted(octets::record(b, w, i), from, n, list, f) {
-            return i;
-        }
-    }
-    count
+    (0..count)
+        .position(|i| has_unlisted(octets::record(b, w, i), from, n, list, f))
+        .unwrap_or(count)
 }
 
 // What the labels of a record become, put at a place.

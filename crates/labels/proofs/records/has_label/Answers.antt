@@ -1,28 +1,21 @@
--- `records::has_label`: from each label on there is one exactly if the record has one. Assumes nothing.
-use mathlib.Core.Path.{sym, ◌∙◌}
+-- `records::has_label`: a label of the record is looked for place by place. Assumes nothing.
+use native.Mathlib.Omega.{arith}
+use mathlib.Core.Path.{◌≡◌, refl, sym, ◌∙◌}
 use lib.Dec.{eqb}
-use borrow.Author.Tests.{eq-eqb, ne_eqb}
+use lib.ListN.{get_or}
+use Rattle.std.proofs.Common.{rules, tests}
+use Rattle.std.proofs.lemmas.Iterator.{YieldsList-from_range}
+use Rattle.std.proofs.lemmas.Iterator.Search.{any_from_yields_List}
 use Rattle.paper.specs.Format.{words}
 use Rattle.paper.proofs.Tables.{length-words}
-use Rattle.tables.proofs.Walks.{looking_found, looking_on, looking_none}
+use Rattle.labels.proofs.Ranged.{any_ranged}
 use Rattle.labels.proofs.Standing.{next_word}
 use Rattle.labels.proofs.records.has_label.Goals as goal
-
-pub returns-then-label_at-x : goal.returns-then-label_at-x
-returns-then-label_at-x c =
-    let a = c.args in
-    let lt = c.loop-k-test.true in
-    looking_found (eqb a.x) (words a.n a.r.now a.from) a.n c.loop-k.k c.loop-k.invariant lt _
-    (next_word a.n a.r.now a.from c.loop-k.k lt) (eq-eqb _ _ (sym (sym c.label_at.ensures.0 ∙ c.if-label_at-x.true)))
-
-pub loop-k-preserved : goal.loop-k-preserved
-loop-k-preserved c =
-    let a = c.args in
-    let lt = c.loop-k-test.true in
-    looking_on (eqb a.x) (words a.n a.r.now a.from) a.n c.loop-k.k c.loop-k.invariant lt _
-    (next_word a.n a.r.now a.from c.loop-k.k lt) (ne_eqb _ _ (λ e. c.if-label_at-x.false (c.label_at.ensures.0 ∙ sym e)))
 
 pub returns : goal.returns
 returns c =
     let a = c.args in
-    looking_none (eqb a.x) (words a.n a.r.now a.from) a.n c.loop-k.k c.loop-k.invariant (length-words a.n a.r.now a.from) c.loop-k-test.false
+    let labels = words a.n a.r.now a.from in
+    let found = any_from_yields_List (λ k. eqb a.x (get_or labels k 0)) _ _ c.any.result c.any.ensures.ran (YieldsList-from_range 0 a.n a.n refl (omega arith))
+    (λ x b q k. search (rules, tests)) in
+    found ∙ any_ranged (eqb a.x) _ labels (λ k lt. (_, next_word a.n a.r.now a.from k (omega (arith, lt, length-words a.n a.r.now a.from)), refl)) a.n (sym (length-words a.n a.r.now a.from))

@@ -1,30 +1,22 @@
--- `records::has_unlisted`: from each label on there is one exactly if the record has one. Assumes nothing.
-use mathlib.Core.Path.{sym, ◌∙◌, ap}
+-- `records::has_unlisted`: a label of the record is looked for place by place. Assumes nothing.
+use native.Mathlib.Omega.{arith}
+use mathlib.Core.Path.{refl, sym, ◌∙◌}
+use lib.ListN.{get_or}
+use Rattle.std.proofs.Common.{rules, tests}
+use Rattle.std.proofs.lemmas.Iterator.{YieldsList-from_range}
+use Rattle.std.proofs.lemmas.Iterator.Search.{any_from_yields_List}
 use Rattle.paper.specs.Format.{words}
 use Rattle.paper.specs.Labels.{pairs, unlisted}
 use Rattle.paper.proofs.Tables.{length-words}
-use Rattle.tables.proofs.Walks.{looking_found, looking_on, looking_none}
+use Rattle.labels.proofs.Ranged.{any_ranged}
 use Rattle.labels.proofs.Standing.{next_word}
 use Rattle.labels.proofs.records.has_unlisted.Goals as goal
-
-pub returns-then-is_unlisted : goal.returns-then-is_unlisted
-returns-then-is_unlisted c =
-    let a = c.args in
-    let lt = c.loop-k-test.true in
-    looking_found (unlisted a.f (pairs a.list.now)) (words a.n a.r.now a.from) a.n c.loop-k.k c.loop-k.invariant lt _
-    (next_word a.n a.r.now a.from c.loop-k.k lt)
-    (sym (c.is_unlisted.ensures ∙ ap (unlisted a.f (pairs a.list.now)) c.label_at.ensures.0) ∙ c.if-is_unlisted.true)
-
-pub loop-k-preserved : goal.loop-k-preserved
-loop-k-preserved c =
-    let a = c.args in
-    let lt = c.loop-k-test.true in
-    looking_on (unlisted a.f (pairs a.list.now)) (words a.n a.r.now a.from) a.n c.loop-k.k c.loop-k.invariant lt _
-    (next_word a.n a.r.now a.from c.loop-k.k lt)
-    (sym (c.is_unlisted.ensures ∙ ap (unlisted a.f (pairs a.list.now)) c.label_at.ensures.0) ∙ c.if-is_unlisted.false)
 
 pub returns : goal.returns
 returns c =
     let a = c.args in
-    looking_none (unlisted a.f (pairs a.list.now)) (words a.n a.r.now a.from) a.n c.loop-k.k c.loop-k.invariant
-    (length-words a.n a.r.now a.from) c.loop-k-test.false
+    let labels = words a.n a.r.now a.from in
+    let long = length-words a.n a.r.now a.from in
+    let found = any_from_yields_List (λ k. unlisted a.f (pairs a.list.now) (get_or labels k 0)) _ _ c.any.result c.any.ensures.ran
+    (YieldsList-from_range 0 a.n a.n refl (omega arith)) (λ x b q k. search (rules, tests)) in
+    found ∙ any_ranged (unlisted a.f (pairs a.list.now)) _ labels (λ k lt. (_, next_word a.n a.r.now a.from k (omega (arith, lt, long)), refl)) a.n (sym long)
