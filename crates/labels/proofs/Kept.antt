@@ -6,23 +6,26 @@ use mathlib.Core.Path.{◌≡◌, refl, sym, ◌∙◌, ap, ap₂}
 use mathlib.Core.Bool.{Bool, true, false, not, ◌&&◌}
 use mathlib.Core.List.{List, [], ◌∷◌, ◌++◌}
 use mathlib.Core.Option.{Option, some}
-use lib.Dec.{eqb, leb, ltb}
+use lib.Dec.{eqb, leb}
 use lib.ListN.{length, get_or, take, drop, drop_of_length-le}
 use lib.Seq.{take-suc}
-use borrow.Author.Tests.{lt-ltb, le-ltb, lt-leb, le-leb}
-use Rattle.paper.specs.Lists.{any, place}
+use borrow.Author.Tests.{lt-leb, le-leb}
+use Rattle.std.proofs.Common.{is_some}
+use Rattle.std.proofs.Common as std
+use Rattle.std.specs.List.{position}
+use Rattle.paper.specs.Lists.{any}
 use Rattle.paper.specs.Format.{Format}
 use Rattle.paper.specs.Labels.{most_old, Pair, pairs, listed, taken, pair_kept, bad_pair_from, bad_pair}
 use Rattle.tables.specs.Place.{place_of}
 use Rattle.tables.proofs.Rows.{some-place, none-place}
 use Rattle.labels.specs.Pairs.{pair_at, has}
-use Rattle.labels.proofs.Listed.{first-pairs, place_any, place_most, at_end, next_pair, pair_at_lem}
+use Rattle.labels.proofs.Listed.{position_any, next_pair, pair_at_lem}
 
 -- ---- one pair
 abbrev tested : Bool → Bool → Bool → Bool → Bool → Bool → Bool → Bool
 tested a b c d e g h = (a && b) && (c && d) && not e && not g && not h
 
-module _ (f : Format) (ls l : List ℕ) (i old new : ℕ) (lt : i < length (pairs l)) (eo : old ≡ get_or l (2 * i) 0) (en : new ≡ get_or l (2 * i + 1) 0) where
+module _ (f : Format) (ls l : List ℕ) (i old new : ℕ) (lt : i < length (pairs l)) (eold : old ≡ get_or l (2 * i) 0) (enew : new ≡ get_or l (2 * i + 1) 0) where
   abbrev before : List Pair
   before = take i (pairs l)
 
@@ -34,12 +37,8 @@ module _ (f : Format) (ls l : List ℕ) (i old new : ℕ) (lt : i < length (pair
       → any (eqb new) ls ≡ e → listed before old ≡ g → taken before new ≡ h → kept ≡ tested a b c d e g h
   unfolding pair_kept
   kept_is a b c d e g h ea eb ec ed ee eg eh =
-      ap₂ (λ (x y : ℕ). pair_kept f ls before (record { old = x; new = y })) (sym eo) (sym en)
+      ap₂ (λ (x y : ℕ). pair_kept f ls before (record { old = x; new = y })) (sym eold) (sym enew)
       ∙ (λ k. tested (ea k) (eb k) (ec k) (ed k) (ee k) (eg k) (eh k))
-
-  -- what `find` tells of the pairs before it
-  found : (side x k : ℕ) → k ≡ place (has side x) before → any (has side x) before ≡ ltb k i
-  found side x k e = place_any (has side x) before ∙ ap₂ ltb (sym e) (first-pairs l i (omega arith))
 
   pub too_small : old ≤ f.labels → false ≡ kept
   too_small le = sym (kept_is _ _ _ _ _ _ _ (lt-leb (suc f.labels) old (omega arith)) refl refl refl refl refl refl)
@@ -72,17 +71,16 @@ module _ (f : Format) (ls l : List ℕ) (i old new : ℕ) (lt : i < length (pair
           pub new_occurs : occurs ≡ true → false ≡ kept
           new_occurs e = sym (kept_is _ _ _ _ _ _ _ first_holds second_holds third_holds fourth_holds (sym eq ∙ e) refl refl)
 
-          module _ (fresh : occurs ≡ false) (k : ℕ) (ek : k ≡ place (has 0 old) before) where
-            pub old_twice : k < i → false ≡ kept
-            old_twice less =
-                sym (kept_is _ _ _ _ _ _ _ first_holds second_holds third_holds fourth_holds (sym eq ∙ fresh) (found 0 old k ek ∙ lt-ltb k i less) refl)
+          module _ (fresh : occurs ≡ false) (o : std.Option ℕ) (eo : o ≡ position (has 0 old) before) where
+            pub old_twice : is_some o ≡ true → false ≡ kept
+            old_twice e =
+                sym (kept_is _ _ _ _ _ _ _ first_holds second_holds third_holds fourth_holds (sym eq ∙ fresh) (sym (position_any (has 0 old) before o eo) ∙ e) refl)
 
             -- The last rule decides.
-            pub new_decides : i ≤ k → (j : ℕ) → j ≡ place (has 1 new) before → eqb j i ≡ kept
-            new_decides more j ej =
-                at_end j i (omega (arith, ej, place_most (has 1 new) before, first-pairs l i (omega arith)))
-                ∙ sym (kept_is _ _ _ _ _ _ _ first_holds second_holds third_holds fourth_holds (sym eq ∙ fresh) (found 0 old k ek ∙ le-ltb k i more)
-                (found 1 new j ej))
+            pub new_decides : is_some o ≡ false → (q : std.Option ℕ) → q ≡ position (has 1 new) before → not (is_some q) ≡ kept
+            new_decides e q eq' =
+                sym (kept_is _ _ _ _ _ _ _ first_holds second_holds third_holds fourth_holds (sym eq ∙ fresh) (sym (position_any (has 0 old) before o eo) ∙ e)
+                (sym (position_any (has 1 new) before q eq')))
 
 -- ---- the walk: pairs before i keep the rules, and from i on the first break is the list's
 module _ (f : Format) (ls l : List ℕ) where

@@ -1,4 +1,5 @@
 pub mod Listed
+pub mod Ranged
 pub mod Standing
 pub mod Zeros
 pub mod Written

@@ -51,10 +51,8 @@ fn occurs(table: &[u8], rows: usize, shape: &[u8], entries: usize, f: Format, x:
     requires { Counted f table.now shape.now rows entries }
     ensures { result ≡ any (eqb x) (standing f table.now shape.now) }
 {
-    if file_has(table, octets::row_bytes(f), rows, 2, 1, x) {
-        return true;
-    }
-    file_has(shape, octets::entry_bytes(f), entries, 4, f.levels, x)
+    file_has(table, octets::row_bytes(f), rows, 2, 1, x)
+        || file_has(shape, octets::entry_bytes(f), entries, 4, f.levels, x)
 }
 
 // Does pair i keep the rules after those before it? The new label of a half pair reads zero, which is too small.
@@ -87,10 +85,7 @@ fn pair_kept(
     if occurs(table, rows, shape, entries, f, new) {
         return false;
     }
-    if find(list, i, 0, old) < i {
-        return false;
-    }
-    find(list, i, 1, new) == i
+    find(list, i, 0, old).is_none() && find(list, i, 1, new).is_none()
 }
 
 // The first pair to break a rule, the number of pairs for none.
@@ -106,12 +101,10 @@ fn first_bad(
     ensures { bad_pair f (standing f table.now shape.now) (pairs list.now) ≡ place_of result (length (pairs list.now)) }
 {
     let n = count_pairs(list);
-    let mut i = 0;
-    while i < n {
+    for i in 0..n {
         if !pair_kept(table, rows, shape, entries, f, list, i) {
             return i;
         }
-        i += 1;
     }
     n
 }

@@ -1,6 +1,6 @@
 // The list of pairs: which pair has a label, and what a label becomes.
 ghost use Rattle.std.specs.Prelude.{◌≡◌, ◌<◌, ◌≤◌, length, get_or, take};
-ghost use Rattle.paper.specs.Lists.{place};
+ghost use Rattle.std.specs.List.{position};
 ghost use Rattle.paper.specs.Labels.{pairs, converted, unlisted};
 ghost use Rattle.labels.specs.Pairs.{has};
 
@@ -24,19 +24,12 @@ pub fn count_pairs(list: &[u16]) -> usize
     numbers / 2 + numbers % 2
 }
 
-// The first of the first n pairs that has x as its old label (side 0) or as its new one (side 1); n for none.
-pub fn find(list: &[u16], n: usize, side: usize, x: usize) -> usize
+// The first of the first n pairs that has x as its old label (side 0) or as its new one (side 1).
+pub fn find(list: &[u16], n: usize, side: usize, x: usize) -> Option<usize>
     requires { (n ≤ length (pairs list.now)) × (side ≤ 1) }
-    ensures { result ≡ place (has side x) (take n (pairs list.now)) }
+    ensures { result ≡ position (has side x) (take n (pairs list.now)) }
 {
-    let mut i = 0;
-    while i < n {
-        if number_at(list, 2 * i + side) == x {
-            return i;
-        }
-        i += 1;
-    }
-    n
+    (0..n).position(|i| number_at(list, 2 * i + side) == x)
 }
 
 // What a label becomes.
@@ -44,21 +37,15 @@ pub fn convert_label(list: &[u16], x: usize) -> usize
     requires { x < 65536 }
     ensures { (result ≡ converted (pairs list.now) x) × (result < 65536) }
 {
-    let n = count_pairs(list);
-    let i = find(list, n, 0, x);
-    if i < n {
-        return number_at(list, 2 * i + 1);
+    match find(list, count_pairs(list), 0, x) {
+        Some(i) => number_at(list, 2 * i + 1),
+        None => x,
     }
-    x
 }
 
 // Is a label above the largest, and not in the list?
 pub fn is_unlisted(list: &[u16], f: Format, x: usize) -> bool
     ensures { result ≡ unlisted f (pairs list.now) x }
 {
-    if x <= f.labels {
-        return false;
-    }
-    let n = count_pairs(list);
-    find(list, n, 0, x) == n
+    f.labels < x && find(list, count_pairs(list), 0, x).is_none()
 }

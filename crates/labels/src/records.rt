@@ -24,14 +24,7 @@ fn has_label(r: &[u8], from: usize, n: usize, x: usize) -> bool
     requires { (from + 2 * n ≤ length r.now) × (n ≤ most_bytes) × (from ≤ most_bytes) }
     ensures { result ≡ has_label from n x r.now }
 {
-    let mut k = 0;
-    while k < n {
-        if label_at(r, from, n, k) == x {
-            return true;
-        }
-        k += 1;
-    }
-    false
+    (0..n).any(|k| label_at(r, from, n, k) == x)
 }
 
 // Does one of the records of w bytes?
@@ -39,14 +32,7 @@ pub fn file_has(b: &[u8], w: usize, count: usize, from: usize, n: usize, x: usiz
     requires { (from + 2 * n ≤ w) × (w ≤ most_bytes) × (count ≡ whole w b.now) }
     ensures { result ≡ any (eqb x) (file_labels w count from n b.now) }
 {
-    let mut i = 0;
-    while i < count {
-        if has_label(octets::record(b, w, i), from, n, x) {
-            return true;
-        }
-        i += 1;
-    }
-    false
+    (0..count).any(|i| has_label(octets::record(b, w, i), from, n, x))
 }
 
 // Has a record a label that is too large and not in the list?
@@ -54,14 +40,7 @@ fn has_unlisted(r: &[u8], from: usize, n: usize, list: &[u16], f: Format) -> boo
     requires { (from + 2 * n ≤ length r.now) × (n ≤ most_bytes) × (from ≤ most_bytes) }
     ensures { result ≡ any_unlisted f (pairs list.now) from n r.now }
 {
-    let mut k = 0;
-    while k < n {
-        if is_unlisted(list, f, label_at(r, from, n, k)) {
-            return true;
-        }
-        k += 1;
-    }
-    false
+    (0..n).any(|k| is_unlisted(list, f, label_at(r, from, n, k)))
 }
 
 // The first record of w bytes that has, count for none.
@@ -77,14 +56,9 @@ pub fn first_unlisted(
     requires { (from + 2 * n ≤ w) × (w ≤ most_bytes) × (count ≡ whole w b.now) }
     ensures { result ≡ place (any_unlisted f (pairs list.now) from n) (records w count b.now) }
 {
-    let mut i = 0;
-    while i < count {
-        if has_unlisted(octets::record(b, w, i), from, n, list, f) {
-            return i;
-        }
-        i += 1;
-    }
-    count
+    (0..count)
+        .position(|i| has_unlisted(octets::record(b, w, i), from, n, list, f))
+        .unwrap_or(count)
 }
 
 // What the labels of a record become, put at a place.
@@ -92,11 +66,9 @@ fn put_labels(r: &[u8], from: usize, n: usize, list: &[u16], new: &mut [u8], at:
     requires { (from + 2 * n ≤ length r.now) × (n ≤ most_bytes) × (from ≤ most_bytes) × (at + 2 * n ≤ length new.old) }
     ensures { new.new ≡ sets new.old at (join_map (bytes 2) (map (converted (pairs list.now)) (words n r.now from))) }
 {
-    let mut k = 0;
-    while k < n {
+    for k in 0..n {
         let label = convert_label(list, label_at(r, from, n, k));
         octets::put_word(new, at + 2 * k, label as u16);
-        k += 1;
     }
 }
 
@@ -124,9 +96,7 @@ pub fn put_records(
     requires { (from + 2 * n ≤ w) × (w ≤ most_bytes) × (count ≡ whole w b.now) × (w * count ≤ length new.old) }
     ensures { new.new ≡ sets new.old 0 (join_map (record_with (pairs list.now) from n) (records w count b.now)) }
 {
-    let mut i = 0;
-    while i < count {
+    for i in 0..count {
         put_record(octets::record(b, w, i), from, n, list, new, w * i);
-        i += 1;
     }
 }
