@@ -20,7 +20,7 @@ reshaped r = reply_of 0 (λ lines. lines) r
 
 -- the figures of 16 entries
 abbrev pub figures_of : Summary → Figures
-figures_of r = record { lines = r.rest; rows = r.rows; copies = r.copies; different = r.different }
+figures_of r = record { lines = r.lines; rows = r.rows; copies = r.copies; different = r.different }
 
 -- number, place, and the figures
 abbrev pub summarised : Result Summary Refusal → Reply Figures
