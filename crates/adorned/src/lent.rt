@@ -17,9 +17,5 @@ pub fn store(summaries: &mut [TypeSummary], all: [TypeSummary; 64], count: usize
     requires { (count ≤ length summaries.old) × (count ≤ 64) }
     ensures { summaries.new ≡ take count all ++ drop count summaries.old }
 {
-    let mut k = 0;
-    while k < count {
-        summaries[k] = all[k];
-        k += 1;
-    }
+    summaries[..count].copy_from_slice(&all[..count]);
 }

@@ -49,27 +49,17 @@ fn children_range(types: &[u8], rows: usize, p: usize, k: usize) -> Range
     let mut seen = false;
     let mut counts = 0;
     let mut c = 0;
-    let mut i = 0;
-    while i < rows {
-        let x = octets::wide(types[i]);
+    for t in &types[..rows] {
+        let x = octets::wide(*t);
         if x == p {
             if seen {
                 r = with_count(r, counts, c);
                 counts += 1;
-                c = 0;
-                i += 1;
-            } else {
-                seen = true;
-                c = 0;
-                i += 1;
             }
-        } else {
-            if x == k {
-                c += 1;
-                i += 1;
-            } else {
-                i += 1;
-            }
+            seen = true;
+            c = 0;
+        } else if x == k {
+            c += 1;
         }
     }
     if seen {
@@ -97,10 +87,8 @@ fn type_levels(levels: &[u8], types: &[u8], rows: usize) -> [u8; 64]
     ensures { TypeLevels rows levels.now types.now result }
 {
     let mut found = [0u8; 64];
-    let mut i = 0;
-    while i < rows {
+    for i in 0..rows {
         found[octets::wide(types[i])] = levels[i];
-        i += 1;
     }
     found
 }
@@ -118,21 +106,18 @@ fn summary_of(
     ensures { Summarises rows types.now k parent label level result }
 {
     let c = closest::count_rows(types, rows, k);
-    if parent == 64 {
-        return TypeSummary {
-            parent: parent,
-            label: label,
-            level: level,
-            rows: c,
+    let r = if parent == 64 {
+        Range {
             least: c,
             greatest: c,
-        };
-    }
-    let r = children_range(types, rows, parent, k);
+        }
+    } else {
+        children_range(types, rows, parent, k)
+    };
     TypeSummary {
-        parent: parent,
-        label: label,
-        level: level,
+        parent,
+        label,
+        level,
         rows: c,
         least: r.least,
         greatest: r.greatest,
@@ -173,17 +158,13 @@ fn summaries_of(read: RowsRead, levels: &[u8], types: &[u8]) -> [TypeSummary; 64
     requires { Rows read.rows levels.now types.now × (read.count ≤ most_types) }
     ensures { SummariesOf read levels.now types.now result }
 {
-    let rows = read.rows;
-    let count = read.count;
-    let depths = type_levels(levels, types, rows);
+    let depths = type_levels(levels, types, read.rows);
     let mut all = no_summaries();
-    let mut k = 0;
-    while k < count {
+    for k in 0..read.count {
         let p = octets::wide(read.parents[k]);
         let a = octets::wide16(read.labels[k]);
         let l = octets::wide(depths[k]);
-        all[k] = summary_of(types, rows, k, p, a, l);
-        k += 1;
+        all[k] = summary_of(types, read.rows, k, p, a, l);
     }
     all
 }

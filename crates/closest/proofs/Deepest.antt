@@ -9,7 +9,7 @@ use mathlib.Core.Bool.{Bool, true, false, true≢false}
 use mathlib.Core.List.{List}
 use lib.Dec.{eqb, leb}
 use lib.ListN.{get_or, replicate}
-use borrow.Author.Tests.{eqb-true, eqb-false, eq-eqb, ne_eqb, leb-true, leb-false}
+use borrow.Author.Tests.{eqb-true, eqb-false, eq-eqb, leb-true, leb-false}
 use Rattle.paper.specs.Lists.{Has}
 use Rattle.paper.specs.Format.{Format}
 use Rattle.paper.specs.Tables as Tables
@@ -22,12 +22,6 @@ use Rattle.closest.specs.Runs.{Levelled}
 use Rattle.closest.specs.Deepest.{Deepest, onward, nearest, deepest, types_meet}
 use Rattle.closest.proofs.Meets.{here, kind_at, is-node, place_in}
 use Rattle.closest.proofs.Levels.{level_most, meet_self, meet-level, meet_on}
-
-pub onward_own : (k a l m : ℕ) → k ≡ a → onward k a l m ≡ l
-onward_own k a l m e = rw (eq-eqb k a e, onward) refl
-
-pub onward_other : (k a l m : ℕ) → (k ≡ a → ⊥) → onward k a l m ≡ min m (l - 1)
-onward_other k a l m ne = rw (ne_eqb k a ne, onward) (ap (min m) (omega arith))
 
 -- m is how deep the last of the first i rows meets the rows of type a among them
 pub record Near (f : Format) (t types : List ℕ) (a i m : ℕ) : Type 0 where

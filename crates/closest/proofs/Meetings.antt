@@ -1,16 +1,13 @@
 -- The walk that finds how deep wanted types meet the others: each row's level, and a row's turn place by place. Assumes nothing.
 use Prim.Native.Nat.{ℕ, suc, ◌+◌, ◌*◌, ◌≤◌, ◌<◌, max}
-use native.Mathlib.Nat.{not-suc-le-zero}
 use native.Mathlib.Omega.{arith}
 use native.Mathlib.Numerals.{add-one}
 use mathlib.Core.Path.{◌≡◌, refl, sym, ◌∙◌, ap, ap₂, subst}
-use mathlib.Core.Logic.{◌⊎◌, ⊎_elim, inl, inr}
+use mathlib.Core.Logic.{◌⊎◌, inl, inr}
 use mathlib.Core.Bool.{Bool, true, false}
 use mathlib.Core.List.{List}
 use lib.Dec.{eqb, ltb}
-use lib.ListN.{length, get_or, set}
-use lib.Seq.{get_or-set_same, get_or-set_other}
-use borrow.Author.Count.{below_more}
+use lib.ListN.{length, get_or}
 use borrow.Author.Tests.{eqb-true, eqb-false, ltb-true, ltb-false}
 use Rattle.paper.specs.Format.{Format, most_rows, most_types, most_entries, row_bytes, byte, whole}
 use Rattle.paper.proofs.Calls.{count-rows}
@@ -48,18 +45,6 @@ module _ (f : Format) (rows : ℕ) (t : List ℕ) (sound : SoundRows f rows t) (
       at j lt = filled.at j (omega arith)
 
 -- ---- a type's places, deepened one after the other
-pub deepened_none : (at : ℕ) (near before : List ℕ) → Deepened 0 at near before before
-deepened_none at near before = record { deeper = λ e lt. absurd (not-suc-le-zero lt); others = λ j out. refl }
-
-pub deepened_more : {e at : ℕ} {near before after : List ℕ} (v : ℕ) → Deepened e at near before after → at + e < length after
-    → v ≡ max (get_or after (at + e) 0) (get_or near e 0) → Deepened (e + 1) at near before (set after (at + e) v)
-deepened_more {e} {at} {near} {before} {after} v d lt q = record {
-  deeper = below_more (λ j. get_or (set after (at + e) v) (at + j) 0 ≡ max (get_or before (at + j) 0) (get_or near j 0)) e
-      (λ j le. get_or-set_other after (at + e) (at + j) v 0 (λ z. omega arith) ∙ d.deeper j le)
-      (get_or-set_same after (at + e) v 0 lt ∙ q ∙ ap (λ x. max x (get_or near e 0)) (d.others (at + e) (inr (omega arith))));
-  others = λ j out. get_or-set_other after (at + e) j v 0 (λ z. ⊎_elim (λ low. omega arith) (λ high. omega arith) out)
-      ∙ d.others j (⊎_elim (λ low. inl low) (λ high. inr (omega arith)) out);
-}
 
 -- ---- the walk along the rows
 -- after i rows: how deep the last of them meets the wanted types, and how deep the rows of each type do

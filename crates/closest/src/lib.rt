@@ -14,15 +14,8 @@ pub fn count_rows(types: &[u8], rows: usize, k: usize) -> usize
     requires { rows ≤ length types.now }
     ensures { (result ≡ length (keep (λ x. eqb x k) (take rows types.now))) × (result ≤ rows) }
 {
-    let mut c = 0;
-    let mut i = 0;
-    while i < rows {
-        if octets::wide(types[i]) == k {
-            c += 1;
-            i += 1;
-        } else {
-            i += 1;
-        }
-    }
-    c
+    types[..rows]
+        .iter()
+        .filter(|t| octets::wide(**t) == k)
+        .count()
 }

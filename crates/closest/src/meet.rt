@@ -12,11 +12,9 @@ pub fn row_levels(table: &[u8], f: Format, rows: usize, levels: &mut [u8])
     ensures { LevelsOf f rows table.now levels.new }
 {
     let w = octets::row_bytes(f);
-    let mut i = 0;
-    while i < rows {
+    for i in 0..rows {
         let row = octets::record(table, w, i);
         levels[i] = row[0];
-        i += 1;
     }
 }
 
@@ -28,11 +26,9 @@ fn onward(near: [u8; 16], wanted: [u8; 16], k: u8, l: u8) -> [u8; 16]
 {
     let up = l - 1;
     let mut on = near;
-    let mut e = 0;
-    while e < 16 {
+    for e in 0..16 {
         let on_the_way = if near[e] < up { near[e] } else { up };
         on[e] = if wanted[e] == k { l } else { on_the_way };
-        e += 1;
     }
     on
 }
@@ -42,11 +38,9 @@ fn deepen(deepest: &mut [u8], at: usize, near: [u8; 16])
     requires { at + most_entries ≤ length deepest.old }
     ensures { Deepened most_entries at near deepest.old deepest.new }
 {
-    let mut e = 0;
-    while e < 16 {
+    for e in 0..16 {
         let d = deepest[at + e];
         deepest[at + e] = if d < near[e] { near[e] } else { d };
-        e += 1;
     }
 }
 
@@ -57,12 +51,10 @@ pub fn meetings(levels: &[u8], types: &[u8], rows: usize, wanted: [u8; 16], deep
     ensures { Meetings rows levels.now types.now wanted deepest.new }
 {
     let mut near = [0u8; 16];
-    let mut i = 0;
-    while i < rows {
+    for i in 0..rows {
         let k = types[i];
         let next = onward(near, wanted, k, levels[i]);
         near = next;
         deepen(deepest, 16 * octets::wide(k), near);
-        i += 1;
     }
 }

@@ -39,8 +39,10 @@ pub record Found (parents labels : List ℕ) (count p a r : ℕ) : Type 0 where
   pub found : r < count → (get_or parents r 0 ≡ p) × (get_or labels r 0 ≡ a)
   pub passed : (k : ℕ) → k < r → get_or parents k 0 ≡ p → get_or labels k 0 ≡ a → ⊥
 
--- r is one of the count listed types with this parent and label, count for none
-pub record FoundNear (parents labels : List ℕ) (count p a r : ℕ) : Type 0 where
-  pub within : r ≤ count
-  pub found : r < count → (get_or parents r 0 ≡ p) × (get_or labels r 0 ≡ a)
-  pub none : count ≤ r → (k : ℕ) → k < count → get_or parents k 0 ≡ p → get_or labels k 0 ≡ a → ⊥
+-- k is one of the count listed types, with this parent and label
+abbrev pub FoundNear : List ℕ → List ℕ → ℕ → ℕ → ℕ → ℕ → Type 0
+FoundNear parents labels count p a k = (k < count) × (get_or parents k 0 ≡ p) × (get_or labels k 0 ≡ a)
+
+-- none of the count listed types has this parent and label
+abbrev pub NotListed : List ℕ → List ℕ → ℕ → ℕ → ℕ → Type 0
+NotListed parents labels count p a = (k : ℕ) → k < count → get_or parents k 0 ≡ p → get_or labels k 0 ≡ a → ⊥

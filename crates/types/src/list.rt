@@ -1,10 +1,10 @@
 // The type list of a sound table, in one pass.
-ghost use Rattle.std.specs.Prelude.{◌≡◌, ◌+◌, ◌*◌, ◌≤◌, ◌<◌, length};
+ghost use Rattle.std.specs.Prelude.{◌≡◌, ◌+◌, ◌*◌, ◌≤◌, ◌<◌, length, MatchOption};
 ghost use Rattle.std.proofs.Math.Option.{none};
 ghost use Rattle.paper.specs.Format.{most_rows, row_bytes, whole};
 ghost use Rattle.paper.specs.Tables as Tables;
 ghost use Rattle.paper.specs.Tables.{bad_row};
-ghost use Rattle.types.specs.Types.{Lists, Found, FoundNear};
+ghost use Rattle.types.specs.Types.{Lists, Found, FoundNear, NotListed};
 
 use paper::Format;
 
@@ -22,21 +22,15 @@ pub fn find_type(parents: &[u8], labels: &[u16], count: usize, p: u8, a: u16) ->
     requires { (count ≤ length parents.now) × (count ≤ length labels.now) }
     ensures { Found parents.now labels.now count p a result }
 {
-    let mut k = 0;
-    while k < count {
-        if parents[k] == p {
-            if labels[k] == a {
-                return k;
-            }
-            k += 1;
-        } else {
-            k += 1;
+    for k in 0..count {
+        if parents[k] == p && labels[k] == a {
+            return k;
         }
     }
     count
 }
 
-// A listed type with this parent and label, count for none. It is looked for at two guesses first.
+// A listed type with this parent and label. It is looked for at two guesses first.
 fn find_near(
     parents: &[u8],
     labels: &[u16],
@@ -45,25 +39,18 @@ fn find_near(
     a: u16,
     guess: usize,
     other: usize,
-) -> usize
+) -> Option<usize>
     requires { (count ≤ length parents.now) × (count ≤ length labels.now) }
-    ensures { FoundNear parents.now labels.now count p a result }
+    ensures { MatchOption result (NotListed parents.now labels.now count p a) (FoundNear parents.now labels.now count p a) }
 {
-    if guess < count {
-        if parents[guess] == p {
-            if labels[guess] == a {
-                return guess;
-            }
-        }
+    if guess < count && parents[guess] == p && labels[guess] == a {
+        return Some(guess);
     }
-    if other < count {
-        if parents[other] == p {
-            if labels[other] == a {
-                return other;
-            }
-        }
+    if other < count && parents[other] == p && labels[other] == a {
+        return Some(other);
     }
-    find_type(parents, labels, count, p, a)
+    let k = find_type(parents, labels, count, p, a);
+    if k < count { Some(k) } else { None }
 }
 
 // The type list of a table that keeps the row rules, and each row's type number in the lent list. What came last after a row of the same
@@ -83,8 +70,7 @@ pub fn list_types(table: &[u8], f: Format, rows: usize, types: &mut [u8]) -> Typ
     let mut last = 64;
     let mut near = [0u8; 512];
     let mut count = 0;
-    let mut i = 0;
-    while i < rows {
+    for i in 0..rows {
         let row = octets::record(table, octets::row_bytes(f), i);
         let l = octets::wide(row[0]);
         let a = octets::word(row, 2) as u16;
@@ -92,37 +78,37 @@ pub fn list_types(table: &[u8], f: Format, rows: usize, types: &mut [u8]) -> Typ
         let at = (8 * octets::wide(p) + octets::wide16(a)) % 512;
         let guess = octets::wide(after[last]);
         let other = octets::wide(near[at]);
-        let k = find_near(&parents, &labels, count, p, a, guess, other);
-        if k < count {
-            types[i] = k as u8;
-            stack[l] = k as u8;
-            after[last] = k as u8;
-            last = k;
-            i += 1;
-        } else {
-            if count == 64 {
-                return Types {
-                    count: 64,
-                    over: i,
-                    parents: parents,
-                    labels: labels,
-                };
+        match find_near(&parents, &labels, count, p, a, guess, other) {
+            Some(k) => {
+                types[i] = k as u8;
+                stack[l] = k as u8;
+                after[last] = k as u8;
+                last = k;
             }
-            parents[count] = p;
-            labels[count] = a;
-            types[i] = count as u8;
-            stack[l] = count as u8;
-            after[last] = count as u8;
-            near[at] = count as u8;
-            last = count;
-            count += 1;
-            i += 1;
+            None => {
+                if count == 64 {
+                    return Types {
+                        count: 64,
+                        over: i,
+                        parents,
+                        labels,
+                    };
+                }
+                parents[count] = p;
+                labels[count] = a;
+                types[i] = count as u8;
+                stack[l] = count as u8;
+                after[last] = count as u8;
+                near[at] = count as u8;
+                last = count;
+                count += 1;
+            }
         }
     }
     Types {
-        count: count,
+        count,
         over: rows,
-        parents: parents,
-        labels: labels,
+        parents,
+        labels,
     }
 }
