@@ -11,8 +11,7 @@ use Rattle.paper.specs.Lists.{count}
 use Rattle.paper.proofs.Lists.{both, all-has, has-count}
 use Rattle.grammar.specs.Names.{names, named, name_of}
 use borrow.Author.Rules.{rules}
-use Rattle.names.proofs.names.name_length.Statement.{statement}
-use Rattle.names.proofs.names.name_length.Tie as tie
+use Rattle.names.proofs.names.name_length.Goals as goal
 
 -- what the table holds
 abbrev held : ℕ → ℕ
@@ -23,13 +22,10 @@ held k = get_or (map length names) k 0
 right : ℕ → Bool
 right k = eqb (held k) (length (name_of k)) && leb (held k) 9
 
-returns : tie.Need-returns
+pub returns : goal.returns
 unfolding names name_of right
 returns c =
-    let k = c.before.args.k in
+    let k = c.args.k in
     let h = both (eqb (held k) (length (name_of k))) (leb (held k) 9) (all-has right k (count 0 named) refl (has-count 0 named k (search rules) (search rules))) in
     let told = c.wide.ensures.0 in
     (told ∙ eqb-true (held k) (length (name_of k)) h.0, omega (arith, told, leb-true (held k) 9 h.1))
-
-pub name_length_spec : {M : Type 1} → statement M
-name_length_spec = tie.close (tie.spec (λ c. search rules) (λ c κs. search rules) returns)

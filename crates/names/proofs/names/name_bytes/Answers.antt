@@ -9,8 +9,7 @@ use Rattle.paper.proofs.Lists.{same_eq, all-has, has-count}
 use Rattle.grammar.specs.Text.{space}
 use Rattle.grammar.specs.Names.{names, named, name_of}
 use borrow.Author.Rules.{rules}
-use Rattle.names.proofs.names.name_bytes.Statement.{statement}
-use Rattle.names.proofs.names.name_bytes.Tie as tie
+use Rattle.names.proofs.names.name_bytes.Goals as goal
 
 -- what the table holds
 abbrev held : ℕ → List ℕ
@@ -21,11 +20,8 @@ held k = get_or (map (λ n. take 9 (n ++ replicate 9 space)) names) k []
 right : ℕ → Bool
 right k = same (take (length (name_of k)) (held k)) (name_of k)
 
-returns : tie.Need-returns
+pub returns : goal.returns
 unfolding names name_of right
 returns c =
-    let k = c.before.args.k in
+    let k = c.args.k in
     same_eq (take (length (name_of k)) (held k)) (name_of k) (all-has right k (count 0 named) refl (has-count 0 named k (search rules) (search rules)))
-
-pub name_bytes_spec : {M : Type 1} → statement M
-name_bytes_spec = tie.close (tie.spec (λ c. search rules) (λ c. search rules) returns)
