@@ -19,11 +19,9 @@ fn put_names(out: &mut [u8], at: usize, entry: &[u8], n: usize) -> usize
     ensures { Put out.old at (names_text (words n entry.now 4)) out.new result × (result ≤ at + 168) }
 {
     let mut p = at;
-    let mut k = 0;
-    while k < n {
+    for k in 0..n {
         let gap = put_byte(out, p, b' ');
         p = put_name(out, gap, octets::word(entry, 4 + 2 * k));
-        k += 1;
     }
     p
 }

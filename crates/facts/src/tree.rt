@@ -12,13 +12,7 @@ use names::put::{put_byte, put_bytes};
 fn shown(b: u8) -> u8
     ensures { result ≡ shown b }
 {
-    if b < 32 {
-        return b'?';
-    }
-    if 126 < b {
-        return b'?';
-    }
-    b
+    if b < 32 || 126 < b { b'?' } else { b }
 }
 
 // A text as it is shown.
@@ -27,10 +21,8 @@ fn put_shown(out: &mut [u8], at: usize, text: &[u8]) -> usize
     ensures { Put out.old at (map shown text.now) out.new result × (result ≡ at + length text.now) }
 {
     let mut p = at;
-    let mut i = 0;
-    while i < text.len() {
-        p = put_byte(out, p, shown(text[i]));
-        i += 1;
+    for x in text {
+        p = put_byte(out, p, shown(*x));
     }
     p
 }
@@ -40,13 +32,8 @@ fn put_spaces(out: &mut [u8], at: usize, n: usize) -> usize
     requires { at + n ≤ length out.old }
     ensures { Put out.old at (replicate n space) out.new result × (result ≡ at + n) }
 {
-    let mut p = at;
-    let mut i = 0;
-    while i < n {
-        p = put_byte(out, p, b' ');
-        i += 1;
-    }
-    p
+    out[at..at + n].fill(b' ');
+    at + n
 }
 
 // The text as it is shown, and below it a mark at the place, at the front of the buffer.

@@ -2,11 +2,13 @@
 use Prim.Native.Nat.{ℕ, ◌+◌, ◌*◌, ◌%◌, ◌≤◌, ◌<◌}
 use native.Mathlib.Omega.{arith}
 use mathlib.Core.Path.{◌≡◌, refl, sym, ◌∙◌, ap, ap₂}
-use mathlib.Core.Bool.{true, false, true≢false}
+use mathlib.Core.Bool.{Bool, true, false, true≢false}
 use mathlib.Core.List.{List, [], ◌∷◌, map}
-use lib.Dec.{eqb, leb}
+use lib.Dec.{eqb, leb, ltb}
 use lib.ListN.{length, get_or}
-use borrow.Author.Tests.{eqb-true, leb-true}
+use borrow.Author.Tests.{eqb-true, leb-true, lt-ltb}
+use Rattle.std.specs.Prelude.{Option, unwrap_or}
+use Rattle.std.specs.Bool.{then_some}
 use Rattle.paper.specs.Lists.{first_or, place, count, same}
 use Rattle.paper.proofs.Lists.{same_eq, eq_same}
 use Rattle.grammar.specs.Names.{names, named, name_of}
@@ -34,6 +36,12 @@ found_right k lt = eqb-true (found k) k (each_name (λ k. eqb (found k) k) refl 
 pub guessed_by : (first size r : ℕ) → r ≡ get_or guesses (sum first size) 0 → Guessed first size r
 unfolding found
 guessed_by first size r is k lt first-is size_is = is ∙ ap₂ (λ a b. get_or guesses (sum a b) 0) (sym first-is) (sym size_is) ∙ found_right k lt
+
+-- what is found below the number of names is kept, and every name's place is below it
+pub below_named : (first size r : ℕ) (o : Option ℕ) → Guessed first size r → o ≡ then_some (ltb r named) r → Guessed first size (unwrap_or o named)
+below_named first size r o g e k lt first-is size_is =
+    let is : r ≡ k = g k lt first-is size_is in
+    rw (e ∙ ap (λ t. then_some t r) (lt-ltb r named (omega arith))) is
 
 -- the first of a list
 pub first_of_lem : (l : List ℕ) → get_or l 0 0 ≡ first_or 0 l
@@ -64,16 +72,17 @@ module _ (part : List ℕ) where
     guess_right : (j : ℕ) → j < named → name_of j ≡ part → k ≡ j
     guess_right j lt q = guessed j lt (ap (first_or 0) q) (ap length q)
 
-    pub no_guess : named ≤ k → NamedBy part 0
-    no_guess le = none_named (λ j lt q. let z : ⊥ = omega (arith, guess_right j lt q, lt) in z)
-
-    pub other_part : same (name_of k) part ≡ false → NamedBy part 0
+    other_part : same (name_of k) part ≡ false → NamedBy part 0
     other_part e =
         none_named (λ j lt q. true≢false (sym (eq_same (ap name_of (guess_right j lt q) ∙ q)) ∙ e))
 
-    pub named_part : k < named → same (name_of k) part ≡ true → NamedBy part (k + 1)
+    named_part : k < named → same (name_of k) part ≡ true → NamedBy part (k + 1)
     named_part lt e = record {
       few = omega arith;
       name_is = λ _. ap name_of (omega arith) ∙ same_eq (name_of k) part e;
       name_none = λ z. absurd (let n : ⊥ = omega (arith, z) in n);
     }
+
+    pub guessed_part : k < named → (t : Bool) → t ≡ same (name_of k) part → (o : Option ℕ) → o ≡ then_some t (k + 1) → NamedBy part (unwrap_or o 0)
+    guessed_part lt true is o e = rw e (named_part lt (sym is))
+    guessed_part lt false is o e = rw e (other_part (sym is))

@@ -1,6 +1,6 @@
 -- A number read digit by digit. Assumes nothing.
 use Prim.Native.Nat.{ℕ, ◌+◌, ◌*◌, ◌-◌, ◌^◌, ◌≤◌, ◌<◌}
-use native.Mathlib.Nat.{pow-suc, one-le-pow, pow-le-pow_right}
+use native.Mathlib.Nat.{pow-suc, one-le-pow}
 use native.Mathlib.Numerals.{add-one}
 use native.Mathlib.Omega.{arith}
 use mathlib.Core.Path.{◌≡◌, refl, sym, ◌∙◌, ap, ap₂, subst}
@@ -49,10 +49,6 @@ pub none_passed : (w : List ℕ) → Passed w 0 0
 none_passed w = record { some = λ lt. lt; digits = λ lt. absurd (let z : ⊥ = omega arith in z); small = one-le-pow 0 10 (omega arith) }
 
 module _ {w : List ℕ} {i v : ℕ} (p : Passed w i v) where
-  -- it is far below what a number holds
-  pub far_below : i < most_digits → v < 10000
-  far_below lt = omega (arith, p.small, pow-le-pow_right {n = 10} (omega arith) {i = i} {j = 4} (omega arith))
-
   none_before : v ≡ 0 → i ≡ 0
   none_before e = go (ltb 0 i) refl
     where

@@ -52,10 +52,7 @@ pub fn put_name(out: &mut [u8], at: usize, label: usize) -> usize
     requires { at + 20 ≤ length out.old }
     ensures { Put out.old at (name_text label) out.new result × (result ≤ at + 20) }
 {
-    if label < 1 {
-        return put_number(out, at, label);
-    }
-    if 20 < label {
+    if label < 1 || 20 < label {
         return put_number(out, at, label);
     }
     let k = label - 1;

@@ -1,8 +1,8 @@
 // The words of a typed tree: a part is a label's name or its number, and a name is parts with single dots between them.
-ghost use Rattle.std.specs.Prelude.{◌≡◌, ◌≤◌, ◌<◌, length};
+ghost use Rattle.std.specs.Prelude.{◌≡◌, ◌≤◌, ◌<◌, length, unwrap_or, IfSome};
 ghost use Rattle.paper.specs.Lists.{same};
 ghost use Rattle.octets.specs.Served.{Served};
-ghost use Rattle.grammar.specs.Names.{name_of};
+ghost use Rattle.grammar.specs.Names.{named, name_of};
 ghost use Rattle.grammar.specs.Reader.{label_of};
 ghost use Rattle.names.specs.Word.{longest_name, Guessed, NamedBy, NumberOf, PartEnds, first_at, SpellsNone, Reads};
 
@@ -24,80 +24,60 @@ fn is_name(part: &[u8], k: usize) -> bool
     ensures { result ≡ same (name_of k) part.now }
 {
     let n = name_length(k);
-    if part.len() != n {
-        return false;
-    }
     let name = name_bytes(k);
-    let mut i = 0;
-    while i < n {
-        if part[i] != name[i] {
-            return false;
-        }
-        i += 1;
-    }
-    true
+    part == &name[..n]
 }
 
-// The name that a part may be, less one, told by its first byte and its length, and 20 for none: of the twenty names no two agree in this sum.
+// The name that a part may be, less one, told by its first byte and its length, and 20 where there is none: of the twenty names no two agree in this sum.
 const GUESSES: [u8; 64] = [
     20, 20, 20, 4, 20, 16, 15, 8, 20, 20, 3, 18, 19, 20, 20, 20, 20, 20, 20, 20, 20, 2, 5, 20, 20,
     20, 13, 12, 20, 20, 20, 20, 20, 20, 20, 20, 6, 20, 9, 20, 20, 20, 1, 20, 20, 0, 20, 20, 20, 20,
     20, 14, 11, 20, 17, 10, 20, 20, 20, 20, 7, 20, 20, 20,
 ];
 
-// The one name, less one, that has this first byte and this length, 20 for none.
-fn guess(first: u8, size: usize) -> usize
+// The one name, less one, that has this first byte and this length.
+fn guess(first: u8, size: usize) -> Option<usize>
     requires { size ≤ longest_name }
-    ensures { Guessed first size result }
+    ensures guessed { Guessed first size (unwrap_or result named) }
+    ensures below { IfSome result (λ k. k < named) }
 {
     let sum = octets::wide(first) + 21 * size;
-    octets::wide(GUESSES[sum % 64])
+    let k = octets::wide(GUESSES[sum % 64]);
+    (k < 20).then_some(k)
 }
 
-// The label that has the part as its name, 0 for none.
-fn by_name(part: &[u8]) -> usize
-    ensures { NamedBy part.now result }
+// The label that has the part as its name.
+fn by_name(part: &[u8]) -> Option<usize>
+    ensures named { NamedBy part.now (unwrap_or result 0) }
+    ensures above_0 { IfSome result (λ l. 0 < l) }
 {
-    if part.len() == 0 {
-        return 0;
+    if part.is_empty() || 9 < part.len() {
+        return None;
     }
-    if 9 < part.len() {
-        return 0;
-    }
-    let k = guess(part[0], part.len());
-    if 20 <= k {
-        return 0;
-    }
-    if is_name(part, k) {
-        return k + 1;
-    }
-    0
+    let k = guess(part[0], part.len())?;
+    is_name(part, k).then_some(k + 1)
 }
 
-// The number of at most five digits that the part spells without leading zeros, 0 for none.
-fn by_number(part: &[u8]) -> usize
-    ensures { NumberOf part.now result }
+// The number above 0 of at most five digits that the part spells without leading zeros.
+fn by_number(part: &[u8]) -> Option<usize>
+    ensures number { NumberOf part.now (unwrap_or result 0) }
+    ensures above_0 { IfSome result (λ v. 0 < v) }
 {
-    if 5 < part.len() {
-        return 0;
+    if part.is_empty() || 5 < part.len() {
+        return None;
     }
     let mut v = 0;
-    let mut i = 0;
-    while i < part.len() {
-        let b = octets::wide(part[i]);
-        if b < 48 {
-            return 0;
-        }
-        if 57 < b {
-            return 0;
+    for x in part {
+        let b = octets::wide(*x);
+        if b < 48 || 57 < b {
+            return None;
         }
         v = 10 * v + (b - 48);
         if v == 0 {
-            return 0;
+            return None;
         }
-        i += 1;
     }
-    v
+    Some(v)
 }
 
 // The label of a part, 0 for none: one of the twenty names, or a number from 21 to the largest label.
@@ -105,21 +85,11 @@ pub fn label_of(part: &[u8], f: Format) -> usize
     requires { Served f }
     ensures { result ≡ label_of f part.now }
 {
-    let named = by_name(part);
-    if named != 0 {
-        if f.labels < named {
-            return 0;
-        }
-        return named;
+    if let Some(named) = by_name(part) {
+        return if f.labels < named { 0 } else { named };
     }
-    let v = by_number(part);
-    if v <= 20 {
-        return 0;
-    }
-    if f.labels < v {
-        return 0;
-    }
-    v
+    let v = by_number(part).unwrap_or(0);
+    if 20 < v && v <= f.labels { v } else { 0 }
 }
 
 // Where the part that begins at p ends: at the next dot, or with the word.
@@ -127,27 +97,23 @@ fn part_end(word: &[u8], p: usize) -> usize
     requires { p ≤ length word.now }
     ensures { PartEnds word.now p result }
 {
-    let mut q = p;
-    while q < word.len() {
+    for q in p..word.len() {
         if word[q] == b'.' {
             return q;
         }
-        q += 1;
     }
-    q
+    word.len()
 }
 
 // Where the first part begins: behind a leading dot.
 fn first_at(word: &[u8]) -> usize
     ensures { result ≡ first_at word.now }
 {
-    if word.len() == 0 {
-        return 0;
+    if !word.is_empty() && word[0] == b'.' {
+        1
+    } else {
+        0
     }
-    if word[0] == b'.' {
-        return 1;
-    }
-    0
 }
 
 // What is read of a word that spells no name.
@@ -183,11 +149,10 @@ pub fn read_word(word: &[u8], f: Format) -> Word
         size += 1;
         p = end + 1;
     }
-    let whole = start == 1;
     Word {
         spells: true,
-        whole: whole,
-        size: size,
-        labels: labels,
+        whole: start == 1,
+        size,
+        labels,
     }
 }

@@ -71,11 +71,7 @@ pub fn put(out: &mut [u8], at: usize, text: &[u8])
     requires { at + length text.now ≤ length out.old }
     ensures { out.new ≡ sets out.old at text.now }
 {
-    let mut k = 0;
-    while k < text.len() {
-        out[at + k] = text[k];
-        k += 1;
-    }
+    out[at..at + text.len()].copy_from_slice(text);
 }
 
 // A 16-bit number, least byte first.

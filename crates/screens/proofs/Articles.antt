@@ -1,16 +1,15 @@
 -- Which names begin with a vowel. Assumes nothing.
 use Prim.Native.Nat.{ℕ, zero, suc, ◌+◌, ◌/◌, ◌%◌, ◌≤◌, ◌<◌}
 use native.Mathlib.Omega.{arith}
-use mathlib.Core.Path.{◌≡◌, refl, sym, ◌∙◌, ap}
-use mathlib.Core.Logic.{inl, inr}
-use mathlib.Core.Bool.{Bool, true, false, not}
+use mathlib.Core.Path.{◌≡◌, refl, sym, ◌∙◌, ap, ap₂}
+use mathlib.Core.Bool.{Bool, true, false, not, ◌||◌}
 use mathlib.Core.List.{List, [], ◌∷◌, ◌++◌}
 use lib.Dec.{eqb, ltb}
 use lib.ListN.{length, get_or, take}
-use borrow.Author.Tests.{eq-eqb, ne_eqb, ltb-true, not-true}
-use types.Run.{OneOf}
+use borrow.Author.Tests.{eq-eqb, ne_eqb, eqb-true, eqb-false, ltb-true, not-true}
+use Rattle.std.specs.List.{list_any}
 use Rattle.paper.specs.Lists.{any, first_or, count}
-use Rattle.paper.proofs.Lists.{or_left, or_right, all-has, has-count}
+use Rattle.paper.proofs.Lists.{all-has, has-count}
 use Rattle.grammar.specs.Text.{ascii, digit, digits_in, decimal}
 use Rattle.grammar.specs.Names.{names, named, name_of, name_text}
 use Rattle.names.proofs.Naming.{has_name}
@@ -19,28 +18,23 @@ use Rattle.screens.specs.Screens.{vowel, article}
 -- A wrong definition is refused first by the sample that it breaks, so the samples stand before the laws.
 
 -- ---- a byte
--- A byte that is one of some is found among them.
-found : (ks : List ℕ) (b : ℕ) → OneOf ks b → any (eqb b) ks ≡ true
-found [] b h = absurd h
-found (k ∷ []) b e = or_left false (eq-eqb b k e)
-found (k ∷ j ∷ ks) b (inl e) = or_left (any (eqb b) (j ∷ ks)) (eq-eqb b k e)
-found (k ∷ j ∷ ks) b (inr h) = or_right (eqb b k) (found (j ∷ ks) b h)
+-- A comparison may be turned around.
+turned : (x y : ℕ) → eqb x y ≡ eqb y x
+turned x y = go (eqb x y) refl
+  where
+    go : (t : Bool) → eqb x y ≡ t → eqb x y ≡ eqb y x
+    go true e = e ∙ sym (eq-eqb y x (sym (eqb-true x y e)))
+    go false e = e ∙ sym (ne_eqb y x (λ q. eqb-false x y e (sym q)))
 
--- A byte that is none of them is not.
-missed : (ks : List ℕ) (b : ℕ) → (OneOf ks b → ⊥) → any (eqb b) ks ≡ false
-missed [] b out = refl
-missed (k ∷ []) b out = rw (ne_eqb b k out) refl
-missed (k ∷ j ∷ ks) b out = rw (ne_eqb b k (λ e. out (inl e))) (missed (j ∷ ks) b (λ h. out (inr h)))
+-- What is found among some bytes is one of them.
+found : (b : ℕ) (ks : List ℕ) → list_any (λ k. eqb k b) ks ≡ any (eqb b) ks
+found b [] = refl
+found b (k ∷ ks) = ap₂ (λ s t. s || t) (turned k b) (found b ks)
 
--- One of the five is a vowel.
-pub a_vowel : (b : ℕ) → OneOf (ascii "aeiou") b → true ≡ vowel b
+-- Among the five it is a vowel.
+pub among_vowels : (b : ℕ) (r : Bool) → r ≡ list_any (λ k. eqb k b) (ascii "aeiou") → r ≡ vowel b
 unfolding vowel
-a_vowel b h = sym (found (ascii "aeiou") b h)
-
--- None of them is no vowel.
-pub no_vowel : (b : ℕ) → (OneOf (ascii "aeiou") b → ⊥) → false ≡ vowel b
-unfolding vowel
-no_vowel b out = sym (missed (ascii "aeiou") b out)
+among_vowels b r e = e ∙ found b (ascii "aeiou")
 
 -- ---- a number
 -- the text begins with a digit

@@ -1,24 +1,16 @@
 -- Whole lines: their room, and the line of a type by its level. Assumes nothing.
-use Prim.Native.Nat.{ℕ, ◌≤◌}
-use native.Mathlib.Omega.{arith}
+use Prim.Native.Nat.{ℕ}
 use mathlib.Core.Path.{◌≡◌, refl, sym, ap}
 use mathlib.Core.List.{List, ◌++◌, append-nil}
-use lib.ListN.{length}
 use borrow.Author.Tests.{eq-eqb, ne_eqb}
-use Rattle.io.specs.Counts.{IsPrefixLen}
-use Rattle.io.proofs.Counting.{prefix_len_of_le}
 use Rattle.paper.specs.Adorned.{Summary}
 use Rattle.grammar.specs.Text.{ascii}
 use Rattle.listing.specs.Listing.{lined}
 use Rattle.names.specs.Put.{Put}
-use Rattle.names.proofs.Putting.{as_long, put_then}
+use Rattle.names.proofs.Putting.{put_then}
 use Rattle.screens.specs.Screens.{rows_text, under_text, type_text}
 
 -- A wrong definition is refused first by the sample that it breaks, so the samples stand before the laws.
-
--- A line that ends within the buffer stands in its first bytes.
-pub fits : {l : List ℕ} {at : ℕ} {line l' : List ℕ} {r : ℕ} → Put l at line l' r → r ≤ length l → Put l at line l' r × IsPrefixLen r l'
-fits {l' = l'} {r = r} p le = (p, prefix_len_of_le r l' (omega (arith, as_long p)))
 
 -- ---- counts
 -- A text, a comma and a space, and another text, put one after the other.

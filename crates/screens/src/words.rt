@@ -17,10 +17,7 @@ pub fn put_counted(out: &mut [u8], at: usize, n: usize, one: &[u8], more: &[u8])
 {
     let number = put_number(out, at, n);
     let gap = put_byte(out, number, b' ');
-    if n == 1 {
-        return put_bytes(out, gap, one);
-    }
-    put_bytes(out, gap, more)
+    put_bytes(out, gap, if n == 1 { one } else { more })
 }
 
 // Two spaces for each level below the first.
@@ -29,10 +26,8 @@ pub fn put_indent(out: &mut [u8], at: usize, level: usize) -> usize
     ensures { Put out.old at (indent level) out.new result × (result ≤ at + 14) }
 {
     let mut p = at;
-    let mut l = 1;
-    while l < level {
+    for _l in 1..level {
         p = put_bytes(out, p, b"  ");
-        l += 1;
     }
     p
 }
@@ -41,20 +36,14 @@ pub fn put_indent(out: &mut [u8], at: usize, level: usize) -> usize
 fn is_vowel(b: u8) -> bool
     ensures { result ≡ vowel b }
 {
-    match b {
-        b'a' | b'e' | b'i' | b'o' | b'u' => true,
-        _ => false,
-    }
+    b"aeiou".contains(&b)
 }
 
 // Whether a label's name begins with one of them; a number begins with a digit.
 fn vowel_first(label: usize) -> bool
     ensures { result ≡ vowel (first_or 0 (name_text label)) }
 {
-    if label < 1 {
-        return false;
-    }
-    if 20 < label {
+    if label < 1 || 20 < label {
         return false;
     }
     let name = name_bytes(label - 1);
@@ -67,9 +56,10 @@ fn put_article(out: &mut [u8], at: usize, label: usize) -> usize
     ensures { Put out.old at (article (name_text label)) out.new result × (result ≤ at + 2) }
 {
     if vowel_first(label) {
-        return put_bytes(out, at, b"an");
+        put_bytes(out, at, b"an")
+    } else {
+        put_bytes(out, at, b"a")
     }
-    put_bytes(out, at, b"a")
 }
 
 // A label's name with its article before it.

@@ -16,11 +16,9 @@ fn put_path(out: &mut [u8], at: usize, entry: &[u8], f: Format, n: usize) -> usi
     ensures { Put out.old at (path_text (take n (words f.levels entry.now 4))) out.new result × (result ≤ at + 80) }
 {
     let mut p = at;
-    let mut k = 0;
-    while k < n {
+    for k in 0..n {
         let gap = put_byte(out, p, b'.');
         p = put_name(out, gap, component(entry, f, k));
-        k += 1;
     }
     p
 }
@@ -34,10 +32,8 @@ fn put_brackets(out: &mut [u8], at: usize, l: usize, m: usize) -> usize
         return put_bytes(out, at, b" [");
     }
     let mut p = at;
-    let mut k = m;
-    while k < l {
+    for _k in m..l {
         p = put_bytes(out, p, b" ]");
-        k += 1;
     }
     p
 }
@@ -51,15 +47,13 @@ pub fn put_line(out: &mut [u8; 1536], shape: &[u8], f: Format, entries: usize) -
     let first = octets::record(shape, w, 0);
     let mut p = put_path(out, 0, first, f, octets::wide(first[1]));
     let mut level = octets::wide(first[0]);
-    let mut e = 1;
-    while e < entries {
+    for e in 1..entries {
         let entry = octets::record(shape, w, e);
         let next = octets::wide(entry[0]);
         let behind = put_brackets(out, p, level, next);
         let gap = put_byte(out, behind, b' ');
         p = put_path(out, gap, entry, f, octets::wide(entry[1]));
         level = next;
-        e += 1;
     }
     put_brackets(out, p, level, 1)
 }

@@ -21,8 +21,8 @@ fn refused(number: usize, place: usize) -> TreePrinted
     ensures { result ≡ record { number = number; place = place; bytes = 0 } }
 {
     TreePrinted {
-        number: number,
-        place: place,
+        number,
+        place,
         bytes: 0,
     }
 }
@@ -33,14 +33,11 @@ pub fn print_tree(shape: &[u8], f: Format, text: &mut [u8]) -> TreePrinted
     ensures { Prints (print_tree f shape.now text.old) result text.new }
 {
     let examined = examine_shape(shape, f);
-    let number = examined.number;
-    let place = examined.place;
-    let entries = examined.entries;
-    if number != 0 {
-        return refused(number, place);
+    if examined.number != 0 {
+        return refused(examined.number, examined.place);
     }
     let mut line = [0u8; 1536];
-    let n = put_line(&mut line, shape, f, entries);
+    let n = put_line(&mut line, shape, f, examined.entries);
     if text.len() < n {
         return refused(29, 0);
     }
