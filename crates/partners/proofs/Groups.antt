@@ -1,7 +1,6 @@
 -- The places of two groups of eight, and of one group as it is filled. Assumes nothing.
 use Prim.Native.Nat.{ℕ, ◌+◌, ◌-◌, ◌≤◌, ◌<◌}
 use native.Mathlib.Omega.{arith}
-use native.Mathlib.Nat.{not-suc-le-zero}
 use mathlib.Core.Path.{◌≡◌, refl, sym, ◌∙◌, ap, subst}
 use mathlib.Core.Logic.{inl, inr, ⊎_elim}
 use mathlib.Core.Bool.{Bool, true, false, ◌&&◌, ◌||◌}
@@ -96,9 +95,6 @@ pub record Filling (s : Shape) (first i : ℕ) (bounds over own : List ℕ) : Ty
   pub each : (e : ℕ) → e < i → Walking s (first + e) (get_or bounds e 0) (get_or over e 0) (get_or own e 0)
 
 module _ (s : Shape) (first : ℕ) where
-  pub filling_none : (bounds over own : List ℕ) → length bounds ≡ places → length over ≡ places → length own ≡ places → Filling s first 0 bounds over own
-  filling_none bounds over own p q r = record { bounds_long = p; over_long = q; own_long = r; each = λ e lt. absurd (not-suc-le-zero lt) }
-
   pub filling_more : {i : ℕ} {bounds over own : List ℕ} → i < places → Filling s first i bounds over own
       → (bound a b : ℕ) → Walking s (first + i) bound a b → Filling s first (i + 1) (set bounds i bound) (set over i a) (set own i b)
   filling_more {i} {bounds} {over} {own} lt f bound a b w = record {
@@ -135,27 +131,6 @@ pub record Halves (low high : List ℕ) (i : ℕ) (all : List ℕ) : Type 0 wher
   pub above : (e : ℕ) → e < i → get_or all (e + 8) 0 ≡ or_zero (get_or high e 0)
 
 module _ (low high : List ℕ) where
-  pub halves_none : (all : List ℕ) → length all ≡ most_entries → Halves low high 0 all
-  halves_none all long = record { long = long; below = λ e lt. absurd (not-suc-le-zero lt); above = λ e lt. absurd (not-suc-le-zero lt) }
-
-  pub halves_more : {i : ℕ} {all : List ℕ} → i < places → Halves low high i all → {x y : ℕ} → x ≡ or_zero (get_or low i 0) → y ≡ or_zero (get_or high i 0)
-      → Halves low high (i + 1) (set (set all i x) (i + 8) y)
-  halves_more {i} {all} lt h {x} {y} p q = record {
-    long = length-set first (i + 8) y ∙ held;
-    below = below_more (λ e. get_or (set first (i + 8) y) e 0 ≡ or_zero (get_or low e 0)) i
-        (λ e le. get_or-set_other first (i + 8) e y 0 (λ z. omega arith) ∙ get_or-set_other all i e x 0 (λ z. omega arith) ∙ h.below e le)
-        (get_or-set_other first (i + 8) i y 0 (λ z. omega arith) ∙ get_or-set_same all i x 0 (omega (arith, h.long)) ∙ p);
-    above = below_more (λ e. get_or (set first (i + 8) y) (e + 8) 0 ≡ or_zero (get_or high e 0)) i
-        (λ e le. get_or-set_other first (i + 8) (e + 8) y 0 (λ z. omega arith) ∙ get_or-set_other all i (e + 8) x 0 (λ z. omega arith) ∙ h.above e le)
-        (get_or-set_same first (i + 8) y 0 (omega (arith, held)) ∙ q);
-  }
-    where
-      first : List ℕ
-      first = set all i x
-
-      held : length first ≡ most_entries
-      held = length-set all i x ∙ h.long
-
   pub halves_spread : {all : List ℕ} → Halves low high places all → Spread low high all
   halves_spread {all} h c lt = go (leb 8 c) refl
     where

@@ -13,10 +13,7 @@ use shapes::shape::Shape;
 pub fn run_bound(l: u8) -> u8
     ensures { Bound l result }
 {
-    if l == 0 {
-        return 255;
-    }
-    l
+    if l == 0 { 255 } else { l }
 }
 
 // The first row of the run of level l around a row.
@@ -25,14 +22,12 @@ fn run_start(levels: &[u8], l: u8, row: usize) -> usize
     ensures { result ≡ start_of levels.now l row }
 {
     let bound = run_bound(l);
-    let mut i = row;
-    while 0 < i {
+    for i in (1..row + 1).rev() {
         if levels[i] <= bound {
             return i;
         }
-        i -= 1;
     }
-    i
+    0
 }
 
 // Eight edges as they are walked at once: the level up to which a row begins a run, the types of the parents and those of the children.
@@ -53,26 +48,19 @@ fn group_from(shape: Shape, first: usize) -> Group
     let mut bounds = [0u16; 8];
     let mut over = [0u16; 8];
     let mut own = [0u16; 8];
-    let mut e = 0;
-    while e < 8 {
+    for e in 0..8 {
         let c = first + e;
         if (0 < c) & (c < shape.entries) {
             bounds[e] = run_bound(shape.edges[c]) as u16;
             over[e] = shape.types[octets::wide(shape.parents[c])] as u16;
             own[e] = shape.types[c] as u16;
-            e += 1;
         } else {
             bounds[e] = 0;
             over[e] = 65535;
             own[e] = 65535;
-            e += 1;
         }
     }
-    Group {
-        bounds: bounds,
-        over: over,
-        own: own,
-    }
+    Group { bounds, over, own }
 }
 
 // What is found of these edges. No row is walked where none of the entries has an edge.
@@ -84,31 +72,23 @@ fn walk_group(levels: &[u8], types: &[u8], rows: usize, shape: Shape, first: usi
         return nothing();
     }
     let group = group_from(shape, first);
-    let bounds = group.bounds;
-    let over = group.over;
-    let own = group.own;
-    walk_eight(levels, types, rows, bounds, over, own)
+    walk_eight(levels, types, rows, group.bounds, group.over, group.own)
 }
 
 // The place of entry c in the two groups of eight.
+#[tactic(auto, unfolding(crate::specs::Edges::of_entry))]
 fn of_entry(low: [u16; 8], high: [u16; 8], c: usize) -> usize
     requires { c < 16 }
     ensures { (result ≡ of_entry low high c) × (result ≤ no_number) }
 {
-    if 8 <= c {
-        return octets::wide16(high[c - 8]);
-    }
-    octets::wide16(low[c])
+    octets::wide16(if c < 8 { low[c] } else { high[c - 8] })
 }
 
 // A number as it is told: 0 for the least of no numbers.
 fn told(x: u16) -> usize
     ensures { result ≡ or_zero x }
 {
-    if x == 65535 {
-        return 0;
-    }
-    octets::wide16(x)
+    if x == 65535 { 0 } else { octets::wide16(x) }
 }
 
 // Each entry's place of the two groups, as it is told.
@@ -116,11 +96,9 @@ fn spread(low: [u16; 8], high: [u16; 8]) -> [usize; 16]
     ensures { Spread low high result }
 {
     let mut all = [0usize; 16];
-    let mut e = 0;
-    while e < 8 {
+    for e in 0..8 {
         all[e] = told(low[e]);
         all[e + 8] = told(high[e]);
-        e += 1;
     }
     all
 }
@@ -130,14 +108,12 @@ fn first_alone(low: [u16; 8], high: [u16; 8], entries: usize) -> usize
     requires { (1 ≤ entries) × (entries ≤ 16) }
     ensures { FirstAlone low high entries result }
 {
-    let mut c = 1;
-    while c < entries {
+    for c in 1..entries {
         if of_entry(low, high, c) != 65535 {
             return c;
         }
-        c += 1;
     }
-    c
+    entries
 }
 
 // The first row of the run, of entry c's edge, that ends at the entry's place; 0 past the last entry.
@@ -171,28 +147,13 @@ pub fn walk_edges(levels: &[u8], types: &[u8], rows: usize, shape: Shape) -> Edg
 {
     let low = walk_group(levels, types, rows, shape, 0);
     let high = walk_group(levels, types, rows, shape, 8);
-    let low_fewest_children = low.least_children;
-    let high_fewest_children = high.least_children;
-    let least_children = spread(low_fewest_children, high_fewest_children);
-    let low_most_children = low.greatest_children;
-    let high_most_children = high.greatest_children;
-    let greatest_children = spread(low_most_children, high_most_children);
-    let low_fewest_parents = low.least_parents;
-    let high_fewest_parents = high.least_parents;
-    let least_parents = spread(low_fewest_parents, high_fewest_parents);
-    let low_most_parents = low.greatest_parents;
-    let high_most_parents = high.greatest_parents;
-    let greatest_parents = spread(low_most_parents, high_most_parents);
-    let low_lone = low.lone;
-    let high_lone = high.lone;
-    let met = first_alone(low_lone, high_lone, shape.entries);
-    let from = lone_start(levels, shape, low_lone, high_lone, met);
+    let met = first_alone(low.lone, high.lone, shape.entries);
     Edges {
-        least_children: least_children,
-        greatest_children: greatest_children,
-        least_parents: least_parents,
-        greatest_parents: greatest_parents,
-        met: met,
-        from: from,
+        least_children: spread(low.least_children, high.least_children),
+        greatest_children: spread(low.greatest_children, high.greatest_children),
+        least_parents: spread(low.least_parents, high.least_parents),
+        greatest_parents: spread(low.greatest_parents, high.greatest_parents),
+        met,
+        from: lone_start(levels, shape, low.lone, high.lone, met),
     }
 }

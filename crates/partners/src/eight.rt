@@ -27,60 +27,60 @@ pub fn nothing() -> Eight
     }
 }
 
+// What is put at each place for the three numbers that stand there. A closure here only chooses between numbers, with no other effect, so that
+// the eight places are done at once.
+fn each<F: Fn(u16, u16, u16) -> u16>(a: [u16; 8], b: [u16; 8], c: [u16; 8], put: F) -> [u16; 8]
+    requires { (e : ℕ) → e < places → F.pre put (get_or a e 0) (get_or b e 0) (get_or c e 0) }
+    ensures { (e : ℕ) → e < places → F.post put (get_or a e 0) (get_or b e 0) (get_or c e 0) (get_or result e 0) }
+{
+    let mut all = a;
+    for e in 0..8 {
+        all[e] = put(a[e], b[e], c[e]);
+    }
+    all
+}
+
 // How many rows were counted in the runs that a row of this level ends, 0 for those that go on.
 fn ended(counts: [u16; 8], bounds: [u16; 8], level: u16) -> [u16; 8]
     ensures { Eights (λ e. ended (get_or bounds e 0) level (get_or counts e 0)) result }
 {
-    let mut gone = counts;
-    let mut e = 0;
-    while e < 8 {
-        gone[e] = if level <= bounds[e] { counts[e] } else { 0 };
-        e += 1;
-    }
-    gone
+    each(
+        counts,
+        bounds,
+        counts,
+        |count, bound, _| if level <= bound { count } else { 0 },
+    )
 }
 
 // The lesser of the two, where any row has this number.
 fn fewest(least: [u16; 8], numbers: [u16; 8], counts: [u16; 8]) -> [u16; 8]
     ensures { Eights (λ e. fewer (get_or least e 0) (get_or numbers e 0) (get_or counts e 0)) result }
 {
-    let mut low = least;
-    let mut e = 0;
-    while e < 8 {
-        let n = if counts[e] == 0 { 65535 } else { numbers[e] };
-        low[e] = if n < least[e] { n } else { least[e] };
-        e += 1;
-    }
-    low
+    each(least, numbers, counts, |m, number, count| {
+        let n = if count == 0 { 65535 } else { number };
+        if n < m { n } else { m }
+    })
 }
 
 // The greater of the two, where any row has this number.
 fn greatest(most: [u16; 8], numbers: [u16; 8], counts: [u16; 8]) -> [u16; 8]
     ensures { Eights (λ e. more (get_or most e 0) (get_or numbers e 0) (get_or counts e 0)) result }
 {
-    let mut high = most;
-    let mut e = 0;
-    while e < 8 {
-        let n = if counts[e] == 0 { 0 } else { numbers[e] };
-        high[e] = if most[e] < n { n } else { most[e] };
-        e += 1;
-    }
-    high
+    each(most, numbers, counts, |m, number, count| {
+        let n = if count == 0 { 0 } else { number };
+        if m < n { n } else { m }
+    })
 }
 
 // The first end of a run that has children and no parents, of which row i is one where the run that it ends is such.
 fn first_end(lone: [u16; 8], parents: [u16; 8], children: [u16; 8], i: u16) -> [u16; 8]
     ensures { Eights (λ e. first_end (get_or lone e 0) (get_or parents e 0) (get_or children e 0) i) result }
 {
-    let mut first = lone;
-    let mut e = 0;
-    while e < 8 {
-        let n = if children[e] == 0 { 65535 } else { i };
-        let end = if parents[e] == 0 { n } else { 65535 };
-        first[e] = if end < lone[e] { end } else { lone[e] };
-        e += 1;
-    }
-    first
+    each(lone, parents, children, |m, over, own| {
+        let n = if own == 0 { 65535 } else { i };
+        let end = if over == 0 { n } else { 65535 };
+        if end < m { end } else { m }
+    })
 }
 
 // The rows counted after a row of this type and level: a run that it begins is counted from it on.
@@ -88,15 +88,11 @@ fn count_on(counts: [u16; 8], wanted: [u16; 8], bounds: [u16; 8], k: u16, level:
     requires { (e : ℕ) → e < places → get_or counts e 0 < 65535 }
     ensures { Eights (λ e. onward (get_or bounds e 0) level (get_or wanted e 0) k (get_or counts e 0)) result }
 {
-    let mut on = counts;
-    let mut e = 0;
-    while e < 8 {
-        let before = if level <= bounds[e] { 0 } else { counts[e] };
-        let own = if wanted[e] == k { 1 } else { 0 };
-        on[e] = before + own;
-        e += 1;
-    }
-    on
+    each(counts, wanted, bounds, |count, sought, bound| {
+        let before = if level <= bound { 0 } else { count };
+        let own = if sought == k { 1 } else { 0 };
+        before + own
+    })
 }
 
 // The runs that row i, of this level, ends: each row of the parent's type in one has all its rows of the child's type, and the other way
@@ -113,22 +109,12 @@ fn close(
 {
     let with_parents = ended(parents, bounds, level);
     let with_children = ended(children, bounds, level);
-    let fewest_before = found.least_children;
-    let fewest_children = fewest(fewest_before, children, with_parents);
-    let most_before = found.greatest_children;
-    let most_children = greatest(most_before, children, with_parents);
-    let few_parents = found.least_parents;
-    let fewest_parents = fewest(few_parents, parents, with_children);
-    let many_parents = found.greatest_parents;
-    let most_parents = greatest(many_parents, parents, with_children);
-    let lone_before = found.lone;
-    let lone = first_end(lone_before, parents, with_children, i);
     Eight {
-        least_children: fewest_children,
-        greatest_children: most_children,
-        least_parents: fewest_parents,
-        greatest_parents: most_parents,
-        lone: lone,
+        least_children: fewest(found.least_children, children, with_parents),
+        greatest_children: greatest(found.greatest_children, children, with_parents),
+        least_parents: fewest(found.least_parents, parents, with_children),
+        greatest_parents: greatest(found.greatest_parents, parents, with_children),
+        lone: first_end(found.lone, parents, with_children, i),
     }
 }
 
@@ -145,14 +131,10 @@ fn add_own(counts: [u16; 8], wanted: [u16; 8], k: u16) -> [u16; 8]
     requires { (e : ℕ) → e < places → get_or counts e 0 < 65535 }
     ensures { Eights (λ e. get_or counts e 0 + single (get_or wanted e 0) k) result }
 {
-    let mut on = counts;
-    let mut e = 0;
-    while e < 8 {
-        let own = if wanted[e] == k { 1 } else { 0 };
-        on[e] = counts[e] + own;
-        e += 1;
-    }
-    on
+    each(counts, wanted, counts, |count, sought, _| {
+        let own = if sought == k { 1 } else { 0 };
+        count + own
+    })
 }
 
 // The greatest of the eight bounds: a deeper row begins no run.
@@ -160,10 +142,8 @@ fn deepest(bounds: [u16; 8]) -> u16
     ensures { Within bounds result }
 {
     let mut most = 0;
-    let mut e = 0;
-    while e < 8 {
-        most = if most < bounds[e] { bounds[e] } else { most };
-        e += 1;
+    for bound in bounds {
+        most = most.max(bound);
     }
     most
 }
@@ -183,19 +163,24 @@ fn count_deep(
 {
     let mut parents = at.parents;
     let mut children = at.children;
-    let mut i = at.row;
-    while i < rows && bound < levels[i] as u16 {
-        let k = types[i] as u16;
+    for row in at.row..rows {
+        if levels[row] as u16 <= bound {
+            return Counts {
+                parents,
+                children,
+                row,
+            };
+        }
+        let k = types[row] as u16;
         let more_parents = add_own(parents, over, k);
         parents = more_parents;
         let more_children = add_own(children, own, k);
         children = more_children;
-        i += 1;
     }
     Counts {
-        parents: parents,
-        children: children,
-        row: i,
+        parents,
+        children,
+        row: rows,
     }
 }
 
@@ -204,10 +189,7 @@ fn level_at(levels: &[u8], rows: usize, i: usize) -> u16
     requires { rows ≤ length levels.now }
     ensures { LevelAt levels.now rows i result }
 {
-    if i < rows {
-        return levels[i] as u16;
-    }
-    0
+    if i < rows { levels[i] as u16 } else { 0 }
 }
 
 // Eight edges, of whose runs each begins at the rows up to its bound, between the types `over`, of the parents, and `own`, of the children:
@@ -237,13 +219,10 @@ pub fn walk_eight(
         }
         found = closed;
         let k = types[i] as u16;
-        let with_parents = count_on(parents, over, bounds, k, level);
-        let with_children = count_on(children, own, bounds, k, level);
-        let row = i + 1;
         let begun = Counts {
-            parents: with_parents,
-            children: with_children,
-            row: row,
+            parents: count_on(parents, over, bounds, k, level),
+            children: count_on(children, own, bounds, k, level),
+            row: i + 1,
         };
         let next = count_deep(levels, types, rows, begun, over, own, bound);
         parents = next.parents;

@@ -1,0 +1,5 @@
+use Rattle.std.proofs.Common.{rules}
+use Rattle.partners.proofs.eight.ended.Goals as goal
+
+pub returns : goal.returns
+returns c e lt = let w = c.each.ensures e lt in search rules
