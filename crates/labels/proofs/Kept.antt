@@ -1,24 +1,25 @@
 -- The rules of a pair one by one, and the walk that looks for the first pair to break one. Assumes nothing.
-use Prim.Native.Nat.{ℕ, suc, ◌+◌, ◌*◌, ◌≤◌, ◌<◌}
+use Prim.Native.Nat.{ℕ, zero, suc, ◌+◌, ◌*◌, ◌≤◌, ◌<◌}
 use native.Mathlib.Numerals.{add-one}
 use native.Mathlib.Omega.{arith}
-use mathlib.Core.Path.{◌≡◌, refl, sym, ◌∙◌, ap, ap₂}
-use mathlib.Core.Bool.{Bool, true, false, not, ◌&&◌}
+use mathlib.Core.Path.{◌≡◌, refl, sym, ◌∙◌, ap, ap₂, subst}
+use mathlib.Core.Bool.{Bool, true, false, not, ◌&&◌, cond}
 use mathlib.Core.List.{List, [], ◌∷◌, ◌++◌}
 use mathlib.Core.Option.{Option, some}
 use lib.Dec.{eqb, leb}
 use lib.ListN.{length, get_or, take, drop, drop_of_length-le}
 use lib.Seq.{take-suc}
 use borrow.Author.Tests.{lt-leb, le-leb}
-use Rattle.std.proofs.Common.{is_some}
+use Rattle.std.proofs.Common.{is_some, unwrap_or}
 use Rattle.std.proofs.Common as std
-use Rattle.std.specs.List.{position}
+use Rattle.std.specs.List.{position, position_or_len, range_with_len}
 use Rattle.paper.specs.Lists.{any}
 use Rattle.paper.specs.Format.{Format}
 use Rattle.paper.specs.Labels.{most_old, Pair, pairs, listed, taken, pair_kept, bad_pair_from, bad_pair}
 use Rattle.tables.specs.Place.{place_of}
 use Rattle.tables.proofs.Rows.{some-place, none-place}
 use Rattle.labels.specs.Pairs.{pair_at, has}
+use Rattle.labels.proofs.Ranged.{or_number}
 use Rattle.labels.proofs.Listed.{position_any, next_pair, pair_at_lem}
 
 -- ---- one pair
@@ -55,7 +56,7 @@ module _ (f : Format) (ls l : List ℕ) (i old new : ℕ) (lt : i < length (pair
       second_holds = le-leb old most_old within
 
       pub no_label : new < 1 → false ≡ kept
-      no_label zero = sym (kept_is _ _ _ _ _ _ _ first_holds second_holds (lt-leb 1 new zero) refl refl refl refl)
+      no_label missing = sym (kept_is _ _ _ _ _ _ _ first_holds second_holds (lt-leb 1 new missing) refl refl refl refl)
 
       module _ (some_label : 1 ≤ new) where
         third_holds : leb 1 new ≡ true
@@ -126,3 +127,33 @@ module _ (f : Format) (ls l : List ℕ) where
         (sym breaking.1
         ∙ ap (bad_pair_from f ls i (take i all-pairs)) (drop_of_length-le all-pairs {i = i} (omega (arith, en, le))))
         ∙ ap (λ k. place_of k (length all-pairs)) (sym en)
+
+  -- whether a pair breaks a rule
+  abbrev pub breaks : ℕ → Bool
+  breaks i = not (pair_kept f ls (take i (pairs l)) (pair_at l i))
+
+  breaks_from : (i n : ℕ) → i + n ≡ length (pairs l) → Breaking i
+      → bad_pair f ls (pairs l) ≡ place_of (i + position_or_len breaks (range_with_len i n)) (length (pairs l))
+  breaks_from i zero e breaking = breaking_end i breaking (i + 0) (omega (arith, e)) (omega arith)
+  breaks_from i (suc n) e breaking =
+      go (pair_kept f ls (take i (pairs l)) (pair_at l i)) refl
+      (λ (t : pair_kept f ls (take i (pairs l)) (pair_at l i) ≡ true).
+      breaks_from (i + 1) n (omega (arith, e)) (breaking_on i breaking (length (pairs l)) refl (omega (arith, e)) t))
+    where
+      later : ℕ
+      later = position_or_len breaks (range_with_len (i + 1) n)
+
+      is_at : ℕ → Type 0
+      is_at k = bad_pair f ls (pairs l) ≡ place_of k (length (pairs l))
+
+      go : (kept : Bool) → pair_kept f ls (take i (pairs l)) (pair_at l i) ≡ kept
+          → (pair_kept f ls (take i (pairs l)) (pair_at l i) ≡ true → is_at (i + 1 + later)) → is_at (i + cond (not (not kept)) (1 + later) 0)
+      go true t rest = subst is_at (omega arith) (rest t)
+      go false t rest = subst is_at (omega arith) (breaking_stop i breaking (length (pairs l)) refl (omega (arith, e)) t)
+
+  -- The first pair to break one, and else their number, is that of the list.
+  pub first_break_is : (n : ℕ) → n ≡ length (pairs l) → (r : std.Option ℕ) → r ≡ position breaks (range_with_len 0 n)
+      → bad_pair f ls (pairs l) ≡ place_of (unwrap_or r n) (length (pairs l))
+  first_break_is n e r er =
+      breaks_from 0 n (omega (arith, e)) breaking_start
+      ∙ ap (λ k. place_of k (length (pairs l))) (omega arith ∙ sym (ap (λ o. unwrap_or o n) er ∙ or_number breaks n))

@@ -72,3 +72,15 @@ module _ {A : Type 0} (p : A → Bool) where
             go : (b : Bool) → ltb (position_or_len p xs) (length xs) ≡ b → unwrap_or (cond b (Some (position_or_len p xs)) None) n ≡ place p xs
             go true t = sym (place_is xs)
             go false t = omega (arith, long, place_is xs, place_most xs, ltb-false (position_or_len p xs) (length xs) t)
+
+-- the place of the first number of a range that passes, and else their number
+pub or_number : (q : ℕ → Bool) (n : ℕ) → unwrap_or (position q (range_with_len 0 n)) n ≡ position_or_len q (range_with_len 0 n)
+or_number q n = go (ltb k (length (range_with_len 0 n))) refl
+  where
+    k : ℕ
+    k = position_or_len q (range_with_len 0 n)
+
+    go : (b : Bool) → ltb k (length (range_with_len 0 n)) ≡ b → unwrap_or (cond b (Some k) None) n ≡ k
+    go true t = refl
+    go false t =
+        omega (arith, length-range_with_len 0 n, place_is q (range_with_len 0 n), place_most q (range_with_len 0 n), ltb-false k (length (range_with_len 0 n)) t)

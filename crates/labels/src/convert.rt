@@ -101,12 +101,9 @@ fn first_bad(
     ensures { bad_pair f (standing f table.now shape.now) (pairs list.now) ≡ place_of result (length (pairs list.now)) }
 {
     let n = count_pairs(list);
-    for i in 0..n {
-        if !pair_kept(table, rows, shape, entries, f, list, i) {
-            return i;
-        }
-    }
-    n
+    (0..n)
+        .position(|i| !pair_kept(table, rows, shape, entries, f, list, i))
+        .unwrap_or(n)
 }
 
 // A table and a shape that pass their tests. Both lengths are tested before the first byte is written.

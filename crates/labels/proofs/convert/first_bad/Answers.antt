@@ -1,25 +1,21 @@
--- `convert::first_bad`: from each pair on the first break is the list's. Assumes nothing.
-use mathlib.Core.Path.{sym, ◌∙◌}
+-- `convert::first_bad`: a pair that breaks a rule is looked for. Assumes nothing.
+use native.Mathlib.Omega.{arith}
+use mathlib.Core.Path.{refl, ◌∙◌, ap, sym}
+use lib.ListN.{length}
+use Rattle.std.proofs.Common.{rules, tests}
+use Rattle.std.proofs.lemmas.Iterator.{YieldsList-from_range}
+use Rattle.std.proofs.lemmas.Iterator.Search.{position_from_yields_List}
+use Rattle.paper.specs.Labels.{pairs}
+use Rattle.tables.specs.Place.{place_of}
 use Rattle.labels.specs.Records.{standing}
-use Rattle.labels.proofs.Kept.{breaking_start, breaking_stop, breaking_on, breaking_end}
+use Rattle.labels.proofs.Kept.{breaks, first_break_is}
 use Rattle.labels.proofs.convert.first_bad.Goals as goal
-
-pub loop-i-init : goal.loop-i-init
-loop-i-init c = let a = c.args in breaking_start a.f (standing a.f a.table.now a.shape.now) a.list.now
-
-pub returns-then-not-pair_kept : goal.returns-then-not-pair_kept
-returns-then-not-pair_kept c =
-    let a = c.args in
-    breaking_stop a.f (standing a.f a.table.now a.shape.now) a.list.now c.loop-i.i c.loop-i.invariant _ c.count_pairs-n.ensures
-    c.loop-i-test.true (sym c.pair_kept.ensures ∙ c.if-not-pair_kept.true)
-
-pub loop-i-preserved : goal.loop-i-preserved
-loop-i-preserved c =
-    let a = c.args in
-    breaking_on a.f (standing a.f a.table.now a.shape.now) a.list.now c.loop-i.i c.loop-i.invariant _ c.count_pairs-n.ensures
-    c.loop-i-test.true (sym c.pair_kept.ensures ∙ c.if-not-pair_kept.false)
 
 pub returns : goal.returns
 returns c =
     let a = c.args in
-    breaking_end a.f (standing a.f a.table.now a.shape.now) a.list.now c.loop-i.i c.loop-i.invariant _ c.count_pairs-n.ensures c.loop-i-test.false
+    let labels = standing a.f a.table.now a.shape.now in
+    let n = c.count_pairs-n.result in
+    let found = position_from_yields_List (breaks a.f labels a.list.now) _ _ c.position.result c.position.ensures.ran
+    (YieldsList-from_range 0 n n refl (omega arith)) (λ x b q k. search (rules, tests)) in
+    first_break_is a.f labels a.list.now n c.count_pairs-n.ensures _ found ∙ ap (λ k. place_of k (length (pairs a.list.now))) (sym c.unwrap_or.ensures)

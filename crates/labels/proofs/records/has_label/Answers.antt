@@ -1,6 +1,6 @@
 -- `records::has_label`: a label of the record is looked for place by place. Assumes nothing.
 use native.Mathlib.Omega.{arith}
-use mathlib.Core.Path.{◌≡◌, refl, sym, ◌∙◌}
+use mathlib.Core.Path.{refl, sym, ◌∙◌}
 use lib.Dec.{eqb}
 use lib.ListN.{get_or}
 use Rattle.std.proofs.Common.{rules, tests}
