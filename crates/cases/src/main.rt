@@ -53,11 +53,12 @@ pub mod moved;
 pub mod print;
 pub mod trees;
 
-ghost use Rattle.std.specs.Prelude.{◌≡◌, ◌+◌, ◌<◌, length};
+ghost use Rattle.std.specs.Prelude.{◌≡◌, length};
 
 use ask::{Ask, asked};
 use moved::File;
 use print::OUTPUT;
+use tables::row::smaller;
 
 // The channel of standard input.
 const INPUT: i32 = 0;
@@ -99,13 +100,10 @@ fn print_case(
 }
 
 // Puts bytes into what is held, from a place on, as far as it reaches.
-fn put(held: &mut [u8], at: usize, part: &[u8])
-    requires { (at < 65536) × (length part.now < 256) }
-{
-    let mut i = 0;
-    while i < part.len() && at + i < held.len() {
-        held[at + i] = part[i];
-        i += 1;
+fn put(held: &mut [u8], at: usize, part: &[u8]) {
+    if at < held.len() {
+        let n = smaller(part.len(), held.len() - at);
+        held[at..at + n].copy_from_slice(&part[..n]);
     }
 }
 
@@ -126,12 +124,10 @@ fn read_change(held: &mut [u8]) -> bool {
 }
 
 fn read_changes(held: &mut [u8], count: usize) -> bool {
-    let mut i = 0;
-    while i < count {
+    for _ in 0..count {
         if !read_change(held) {
             return false;
         }
-        i += 1;
     }
     true
 }
@@ -170,20 +166,17 @@ fn print_held(held: &[u8], head: &[u8]) -> bool
 // Reads a case and prints its line, or answers false where there is no whole one that fits what is held.
 fn run_case(held: &mut [u8]) -> bool {
     let mut head = [0u8; 40];
-    if io::read_full(INPUT, &mut head) < 40 {
-        return false;
-    }
-    if !read_changes(held, octets::word(&head, 0)) {
-        return false;
-    }
-    print_held(held, &head)
+    io::read_full(INPUT, &mut head) == 40
+        && read_changes(held, octets::word(&head, 0))
+        && print_held(held, &head)
 }
 
-// A proved loop has to end, and nothing says that the input does: the loop counts down from a number that no run uses up.
+// A proved loop has to end, and nothing says that the input does: the loop goes as far as a number that no run uses up.
 fn main() {
     let mut held = io::large_buffer();
-    let mut cases = u64::MAX;
-    while cases > 0 && run_case(&mut held) {
-        cases -= 1;
+    for _ in 0..u64::MAX {
+        if !run_case(&mut held) {
+            break;
+        }
     }
 }
