@@ -59,10 +59,7 @@ pub fn first_deep(b: &[u8], w: usize, count: usize, levels: usize) -> usize
     requires { (2 ≤ w) × (count ≡ whole w b.now) }
     ensures { result ≡ place (record_deep levels) (records w count b.now) }
 {
-    for i in 0..count {
-        if is_deep(octets::record(b, w, i), levels) {
-            return i;
-        }
-    }
-    count
+    (0..count)
+        .find(|i| is_deep(octets::record(b, w, *i), levels))
+        .unwrap_or(count)
 }

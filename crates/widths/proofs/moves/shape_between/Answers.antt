@@ -1,0 +1,6 @@
+-- `moves::shape_between`: both formats are served. Assumes nothing.
+use Rattle.octets.proofs.Laws.{format_served}
+use Rattle.widths.proofs.moves.shape_between.Goals as goal
+
+pub move_shape-requires : goal.move_shape-requires
+move_shape-requires c = (format_served _ c.args.from c.format_of.ensures, format_served _ c.args.to c.format_of-2.ensures)
