@@ -43,13 +43,13 @@ module _ (lent-table lent-shape : List ℕ) where
   }
 
   converts_refused : (a : Answer Given) (k p : ℕ) → a ≡ refused k p
-      → Converts (left a) (record { number = k; place = p; rows = 0; entries = 0 }) lent-table lent-shape
+      → Converts (left a) (record { number = k; place = p; rest = none_converted }) lent-table lent-shape
   converts_refused a k p e = (sym (ap (λ x. (left x).reply) e), sym (ap (λ x. (left x).table) e), sym (ap (λ x. (left x).shape) e))
 
   converts_given : (a : Answer Given) (n m : ℕ) (t u : List ℕ) → a ≡ given (record { rows = n; entries = m }, t, u)
       → length t ≤ length lent-table → length u ≤ length lent-shape
       → (new-table new-shape : List ℕ) → new-table ≡ sets lent-table 0 t → new-shape ≡ sets lent-shape 0 u
-      → Converts (left a) (record { number = 0; place = 0; rows = n; entries = m }) new-table new-shape
+      → Converts (left a) (record { number = 0; place = 0; rest = record { rows = n; entries = m } }) new-table new-shape
   converts_given a n m t u e room-table room-shape new-table new-shape et eu = (
     sym (ap (λ x. (left x).reply) e),
     et ∙ front_written lent-table t room-table ∙ sym (ap (λ x. (left x).table) e),
@@ -65,7 +65,7 @@ module _ (f : Format) (b s l lent-table lent-shape : List ℕ) where
   answer = converting f b s ps (length lent-table) (length lent-shape)
 
   pub call-refused : (k p : ℕ) → converting f b s (pairs l) (length lent-table) (length lent-shape) ≡ refused k p
-      → Converts (convert f b s l lent-table lent-shape) (record { number = k; place = p; rows = 0; entries = 0 }) lent-table lent-shape
+      → Converts (convert f b s l lent-table lent-shape) (record { number = k; place = p; rest = none_converted }) lent-table lent-shape
   unfolding convert
   call-refused k p e = converts_refused lent-table lent-shape answer k p e
 
@@ -87,11 +87,11 @@ module _ (f : Format) (b s l lent-table lent-shape : List ℕ) where
   in_order_lem x y ex ey = ap₂ (λ (x : Answer (List Row)) (y : Answer (List Entry)). x >>= (λ rs. y >>= (λ es. follows rs es))) ex ey
 
   pub table-refused : (k p : ℕ) → tests1_3 (old_range f) b ≡ refused k p
-      → Converts (convert f b s l lent-table lent-shape) (record { number = k; place = p; rows = 0; entries = 0 }) lent-table lent-shape
+      → Converts (convert f b s l lent-table lent-shape) (record { number = k; place = p; rest = none_converted }) lent-table lent-shape
   table-refused k p e = call-refused k p (in_order_lem (refused k p) (tests5_6 (old_range f) s) e refl)
 
   pub shape-refused : (rs : List Row) → tests1_3 (old_range f) b ≡ given rs → (k p : ℕ) → tests5_6 (old_range f) s ≡ refused k p
-      → Converts (convert f b s l lent-table lent-shape) (record { number = k; place = p; rows = 0; entries = 0 }) lent-table lent-shape
+      → Converts (convert f b s l lent-table lent-shape) (record { number = k; place = p; rest = none_converted }) lent-table lent-shape
   shape-refused rs t k p e = call-refused k p (in_order_lem (given rs) (refused k p) t e)
 
   -- ---- of two files that pass their tests
@@ -149,7 +149,7 @@ module _ (f : Format) (b s l lent-table lent-shape : List ℕ) where
 
     module _ (pair : ℕ) (first : bad_pair f (standing f b s) (pairs l) ≡ place_of pair (length (pairs l))) where
       pub refused_25 : pair < length (pairs l)
-          → Converts (convert f b s l lent-table lent-shape) (record { number = 25; place = pair; rows = 0; entries = 0 }) lent-table lent-shape
+          → Converts (convert f b s l lent-table lent-shape) (record { number = 25; place = pair; rest = none_converted }) lent-table lent-shape
       refused_25 lt = call-refused 25 pair (answer_is _ _ _ _ (pairs-place pair first ∙ place-some pair (length ps) lt) refl refl refl)
 
       module _ (right : length (pairs l) ≤ pair) (row : ℕ)
@@ -158,7 +158,7 @@ module _ (f : Format) (b s l lent-table lent-shape : List ℕ) where
         no_pair = pairs-place pair first ∙ place_none pair (length ps) right
 
         pub refused-row : row < n
-            → Converts (convert f b s l lent-table lent-shape) (record { number = 26; place = row; rows = 0; entries = 0 }) lent-table lent-shape
+            → Converts (convert f b s l lent-table lent-shape) (record { number = 26; place = row; rest = none_converted }) lent-table lent-shape
         refused-row lt = call-refused 26 row (answer_is _ _ _ _ no_pair (row_first ∙ place-some row n lt) refl refl)
 
         module _ (rows-listed : n ≤ row) (entry : ℕ)
@@ -167,7 +167,7 @@ module _ (f : Format) (b s l lent-table lent-shape : List ℕ) where
           no_row_lem = row_first ∙ place_none row n rows-listed
 
           pub refused-entry : entry < m
-              → Converts (convert f b s l lent-table lent-shape) (record { number = 26; place = entry; rows = 0; entries = 0 }) lent-table lent-shape
+              → Converts (convert f b s l lent-table lent-shape) (record { number = 26; place = entry; rest = none_converted }) lent-table lent-shape
           refused-entry lt = call-refused 26 entry (answer_is _ _ _ _ no_pair no_row_lem (entry_IsFirst ∙ place-some entry m lt) refl)
 
           module _ (entries-listed : m ≤ entry) where
@@ -175,17 +175,17 @@ module _ (f : Format) (b s l lent-table lent-shape : List ℕ) where
             no_entry = entry_IsFirst ∙ place_none entry m entries-listed
 
             too_short_lem : short ≡ true
-                → Converts (convert f b s l lent-table lent-shape) (record { number = 29; place = 0; rows = 0; entries = 0 }) lent-table lent-shape
+                → Converts (convert f b s l lent-table lent-shape) (record { number = 29; place = 0; rest = none_converted }) lent-table lent-shape
             too_short_lem e = call-refused 29 0 (answer_is _ _ _ _ no_pair no_row_lem no_entry e)
 
             pub refused-table : length lent-table < length b
-                → Converts (convert f b s l lent-table lent-shape) (record { number = 29; place = 0; rows = 0; entries = 0 }) lent-table lent-shape
+                → Converts (convert f b s l lent-table lent-shape) (record { number = 29; place = 0; rest = none_converted }) lent-table lent-shape
             refused-table lt =
                 too_short_lem (or_left (ltb (length lent-shape) (length (shape_with f ps s)))
                 (lt-ltb (length lent-table) (length (table_with f ps b)) (omega (arith, lt, table-length))))
 
             pub refused-shape : length lent-shape < length s
-                → Converts (convert f b s l lent-table lent-shape) (record { number = 29; place = 0; rows = 0; entries = 0 }) lent-table lent-shape
+                → Converts (convert f b s l lent-table lent-shape) (record { number = 29; place = 0; rest = none_converted }) lent-table lent-shape
             refused-shape lt =
                 too_short_lem (or_right (ltb (length lent-table) (length (table_with f ps b)))
                 (lt-ltb (length lent-shape) (length (shape_with f ps s)) (omega (arith, lt, shape-length))))
@@ -193,7 +193,7 @@ module _ (f : Format) (b s l lent-table lent-shape : List ℕ) where
             pub accepted : length b ≤ length lent-table → length s ≤ length lent-shape → (w v : ℕ) → w ≡ row_bytes f → v ≡ entry_bytes f
                 → (new-table new-shape : List ℕ) → new-table ≡ sets lent-table 0 (join_map (record_with (pairs l) label_at 1) (records w n b))
                 → new-shape ≡ sets lent-shape 0 (join_map (record_with (pairs l) head_bytes f.levels) (records v m s))
-                → Converts (convert f b s l lent-table lent-shape) (record { number = 0; place = 0; rows = n; entries = m }) new-table new-shape
+                → Converts (convert f b s l lent-table lent-shape) (record { number = 0; place = 0; rest = record { rows = n; entries = m } }) new-table new-shape
             unfolding convert records_with
             accepted room-table room-shape w v ew ev new-table new-shape et eu =
                 let rows-counted = passed.counted.rows-counted in
