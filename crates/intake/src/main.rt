@@ -6,7 +6,6 @@
 #![tactic(auto)]
 
 use billing::history::print_worded;
-use check::same;
 use printing::folder::print_screen;
 use printing::out::{Written, report_whole};
 use printing::screen::screen_named;
@@ -37,10 +36,10 @@ fn print_here(rt: &(impl Env + Files + Print), word: &[u8]) -> Written {
 
 // What the word asks for: the total of a history, or a screen.
 fn print_asked(rt: &(impl Env + Files + Print), word: &[u8]) -> Written {
-    if same(word, b"total") {
-        return print_worded(rt, 2, words::count(rt), REPORT);
+    match word {
+        b"total" => print_worded(rt, 2, words::count(rt), REPORT),
+        _ => print_here(rt, word),
     }
-    print_here(rt, word)
 }
 
 fn main(rt: HostRuntime) {

@@ -25,8 +25,7 @@ pub fn without_end(text: &[u8]) -> usize
     ensures { IsPrefixLen result text.now }
 {
     match text {
-        [line @ .., b'\r', b'\n'] => line.len(),
-        [line @ .., b'\n'] => line.len(),
+        [line @ .., b'\r', b'\n'] | [line @ .., b'\n'] => line.len(),
         _ => text.len(),
     }
 }
