@@ -111,50 +111,50 @@ module _ (f : Format) (ts : List (List ℕ)) (es : List Wanted) (lent : List ℕ
       too_deep e is = sym (shaped_is false _ _ _ not-many (deep-first ∙ sym is) refl refl)
 
       module _ (shallow : none ≡ deep) (count : ℕ) (count-is : count ≡ length ts) (count-few : count ≤ most_types) where
-          not-deep : first_place (λ (e : Wanted). ltb f.levels e.level) es ≡ none
-          not-deep = deep-first ∙ sym shallow
+        not-deep : first_place (λ (e : Wanted). ltb f.levels e.level) es ≡ none
+        not-deep = deep-first ∙ sym shallow
 
-          -- the first entry whose name matches no type or several
-          abbrev alone : Option ℕ
-          alone = place_of (place (leb count) (take w.entries w.types)) w.entries
+        -- the first entry whose name matches no type or several
+        abbrev alone : Option ℕ
+        alone = place_of (place (leb count) (take w.entries w.types)) w.entries
 
-          alone-first : first_place (λ (e : Wanted). not (eqb (length (matched ts e)) 1)) es ≡ alone
-          unfolding place_of
-          alone-first =
-              ap₂ place_of
-              (sym (place_same (leb count) (λ (e : Wanted). not (eqb (length (matched ts e)) 1)) (λ (e : Wanted). sole_number ts e.name) es
-              (λ e h. number-none ts count count-is count-few e))
-              ∙ sym (ap (place (leb count)) all_types))
-              (sym of.count-is)
+        alone-first : first_place (λ (e : Wanted). not (eqb (length (matched ts e)) 1)) es ≡ alone
+        unfolding place_of
+        alone-first =
+            ap₂ place_of
+            (sym (place_same (leb count) (λ (e : Wanted). not (eqb (length (matched ts e)) 1)) (λ (e : Wanted). sole_number ts e.name) es
+            (λ e h. number-none ts count count-is count-few e))
+            ∙ sym (ap (place (leb count)) all_types))
+            (sym of.count-is)
 
-          pub unmatched : (e : ℕ) → some e ≡ alone → reading_of (record { number = 13; place = e; rest = 0 }) lent ≡ shaped_as f ts es lent
-          unmatched e is = sym (shaped_is false _ _ _ not-many not-deep (alone-first ∙ sym is) refl)
+        pub unmatched : (e : ℕ) → some e ≡ alone → reading_of (record { number = 13; place = e; rest = 0 }) lent ≡ shaped_as f ts es lent
+        unmatched e is = sym (shaped_is false _ _ _ not-many not-deep (alone-first ∙ sym is) refl)
 
-          module _ (matching : none ≡ alone) where
-            all-matched : first_place (λ (e : Wanted). not (eqb (length (matched ts e)) 1)) es ≡ none
-            all-matched = alone-first ∙ sym matching
+        module _ (matching : none ≡ alone) where
+          all-matched : first_place (λ (e : Wanted). not (eqb (length (matched ts e)) 1)) es ≡ none
+          all-matched = alone-first ∙ sym matching
 
-            pub no_room : length lent < entry_bytes f * w.entries
-                → reading_of (record { number = 29; place = 0; rest = 0 }) lent ≡ shaped_as f ts es lent
-            no_room lt =
-                sym (shaped_is false _ _ true not-many not-deep all-matched
-                (lt-ltb (length lent) (length (shape_back f ts es)) (omega (arith, lt, shape-length f ts es, ap (λ n. entry_bytes f * n) of.count-is))))
+          pub no_room : length lent < entry_bytes f * w.entries
+              → reading_of (record { number = 29; place = 0; rest = 0 }) lent ≡ shaped_as f ts es lent
+          no_room lt =
+              sym (shaped_is false _ _ true not-many not-deep all-matched
+              (lt-ltb (length lent) (length (shape_back f ts es)) (omega (arith, lt, shape-length f ts es, ap (λ n. entry_bytes f * n) of.count-is))))
 
-            -- what the records of the entries are
-            written : entries_back f ts (take w.entries w.levels) (take w.entries w.types) ≡ shape_back f ts es
-            written =
-                ap₂ (entries_back f ts) all_levels all_types
-                ∙ shape_back_lem ts (omega (arith, count-is, count-few)) f es (λ e h.
-                let passes : leb count (sole_number ts e.name) ≡ false =
-                number-none ts count count-is count-few e ∙ first-none (λ (e : Wanted). not (eqb (length (matched ts e)) 1)) es all-matched e h in
-                omega (arith, leb-false count (sole_number ts e.name) passes, count-is))
+          -- what the records of the entries are
+          written : entries_back f ts (take w.entries w.levels) (take w.entries w.types) ≡ shape_back f ts es
+          written =
+              ap₂ (entries_back f ts) all_levels all_types
+              ∙ shape_back_lem ts (omega (arith, count-is, count-few)) f es (λ e h.
+              let passes : leb count (sole_number ts e.name) ≡ false =
+              number-none ts count count-is count-few e ∙ first-none (λ (e : Wanted). not (eqb (length (matched ts e)) 1)) es all-matched e h in
+              omega (arith, leb-false count (sole_number ts e.name) passes, count-is))
 
-            pub shaped : entry_bytes f * w.entries ≤ length lent → (new : List ℕ)
-                → new ≡ sets lent 0 (entries_back f ts (take w.entries w.levels) (take w.entries w.types))
-                → reading_of (record { number = 0; place = 0; rest = w.entries }) new ≡ shaped_as f ts es lent
-            shaped room new put =
-                let fits : length (shape_back f ts es) ≤ length lent =
-                omega (arith, room, shape-length f ts es, ap (λ n. entry_bytes f * n) of.count-is) in
-                ap₂ (λ n (s : List ℕ). reading_of (record { number = 0; place = 0; rest = n }) s) of.count-is
-                (put ∙ ap (sets lent 0) written ∙ front_written lent (shape_back f ts es) fits)
-                ∙ sym (shaped_is false _ _ false not-many not-deep all-matched (le-ltb (length lent) (length (shape_back f ts es)) fits))
+          pub shaped : entry_bytes f * w.entries ≤ length lent → (new : List ℕ)
+              → new ≡ sets lent 0 (entries_back f ts (take w.entries w.levels) (take w.entries w.types))
+              → reading_of (record { number = 0; place = 0; rest = w.entries }) new ≡ shaped_as f ts es lent
+          shaped room new put =
+              let fits : length (shape_back f ts es) ≤ length lent =
+              omega (arith, room, shape-length f ts es, ap (λ n. entry_bytes f * n) of.count-is) in
+              ap₂ (λ n (s : List ℕ). reading_of (record { number = 0; place = 0; rest = n }) s) of.count-is
+              (put ∙ ap (sets lent 0) written ∙ front_written lent (shape_back f ts es) fits)
+              ∙ sym (shaped_is false _ _ false not-many not-deep all-matched (le-ltb (length lent) (length (shape_back f ts es)) fits))

@@ -152,7 +152,7 @@ module _ (f : Format) (text parents labels : List ℕ) (count : ℕ) where
             going_word =
                 let more = kept.one_more in
                 record {
-                                so_far = es ++ (entry ∷ []);
+                  so_far = es ++ (entry ∷ []);
                   counted = omega (arith, more, g.counted, length-append es (entry ∷ []));
                   levels_kept = ap (λ n. take n w'.levels) more
                       ∙ kept_entry (λ (e : Wanted). e.level) w.levels w'.levels es w.entries entry g.counted

@@ -2,7 +2,6 @@
 use Rattle.paper.specs.Widths.{move_shape}
 use Rattle.octets.proofs.Laws.{format_served}
 use Rattle.widths.proofs.Between.{between}
-use borrow.Author.Rules.{rules}
 use Rattle.widths.proofs.moves.shape_between.Goals as goal
 
 pub move_shape-requires : goal.move_shape-requires

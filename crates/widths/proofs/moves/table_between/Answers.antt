@@ -2,7 +2,6 @@
 use Rattle.paper.specs.Widths.{move_table}
 use Rattle.octets.proofs.Laws.{format_served}
 use Rattle.widths.proofs.Between.{between}
-use borrow.Author.Rules.{rules}
 use Rattle.widths.proofs.moves.table_between.Goals as goal
 
 pub move_table-requires : goal.move_table-requires
