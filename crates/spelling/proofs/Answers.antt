@@ -45,18 +45,18 @@ module _ (f : Format) (s lent : List ℕ) where
   unfolding printing
   in_order_lem x e = ap (λ (y : Answer (List Entry)). y >>= follows) e
 
-  pub shape-refused : (k p : ℕ) → tests5_6 f s ≡ refused k p → Prints (print_tree f s lent) (record { number = k; place = p; bytes = 0 }) lent
+  pub shape-refused : (k p : ℕ) → tests5_6 f s ≡ refused k p → Prints (print_tree f s lent) (record { number = k; place = p; rest = 0 }) lent
   shape-refused k p e = answered (refused k p) (in_order_lem (refused k p) e)
 
   module _ (passes : tests5_6 f s ≡ given (entries f s)) (n : ℕ) (long : n ≡ length (shape_line f s)) where
     tested : (short : Bool) → ltb (length lent) (length (shape_line f s)) ≡ short → printing f s (length lent) ≡ line_tested short (shape_line f s)
     tested short e = in_order_lem (given (entries f s)) passes ∙ ap (λ b. line_tested b (shape_line f s)) e
 
-    pub too_short_lem : length lent < n → Prints (print_tree f s lent) (record { number = 29; place = 0; bytes = 0 }) lent
+    pub too_short_lem : length lent < n → Prints (print_tree f s lent) (record { number = 29; place = 0; rest = 0 }) lent
     too_short_lem lt = answered (refused 29 0) (tested true (lt-ltb (length lent) (length (shape_line f s)) (omega (arith, lt, long))))
 
     pub printed : n ≤ length lent → (text : List ℕ) → text ≡ sets lent 0 (shape_line f s)
-        → Prints (print_tree f s lent) (record { number = 0; place = 0; bytes = n }) text
+        → Prints (print_tree f s lent) (record { number = 0; place = 0; rest = n }) text
     printed fits text e =
         let room : length (shape_line f s) ≤ length lent = omega (arith, fits, long) in
         let (told, left) = answered (given (shape_line f s)) (tested false (le-ltb (length lent) (length (shape_line f s)) room)) in

@@ -1,14 +1,10 @@
--- Any two answers that the contract allows are equal, and so is every lent byte. Assumes nothing.
+-- Any two replies that the contract allows are equal, and so is every lent byte. Assumes nothing.
 use Prim.Native.Nat.{ℕ}
-use mathlib.Core.Path.{◌≡◌, sym, ◌∙◌, ap}
+use mathlib.Core.Path.{◌≡◌, sym, ◌∙◌}
 use mathlib.Core.List.{List}
 use Rattle.paper.specs.Calls.{Reply}
 use Rattle.grammar.specs.Typed.{Printing}
 use Rattle.spelling.specs.Printed.{Prints}
-use Rattle.spelling.specs.declared.print.TreePrinted.{TreePrinted}
 
-pub prints_unique : (p : Printing) (r q : TreePrinted) (t₁ t₂ : List ℕ) → Prints p r t₁ → Prints p q t₂ → (r ≡ q) × (t₁ ≡ t₂)
-prints_unique p r q t₁ t₂ a b = (
-  ap {B = TreePrinted} (λ (x : Reply ℕ). record { number = x.number; place = x.place; bytes = x.rest }) (a.0 ∙ sym b.0),
-  a.1 ∙ sym b.1,
-)
+pub prints_unique : (p : Printing) (r q : Reply ℕ) (t₁ t₂ : List ℕ) → Prints p r t₁ → Prints p q t₂ → (r ≡ q) × (t₁ ≡ t₂)
+prints_unique p r q t₁ t₂ a b = (a.0 ∙ sym b.0, a.1 ∙ sym b.1)

@@ -8,7 +8,7 @@ use lib.ListN.{length}
 use borrow.Author.Tests.{lt-ltb}
 use Rattle.paper.specs.Format.{Format}
 use Rattle.paper.specs.Tables.{Row, rows, types}
-use Rattle.paper.specs.Calls.{Answer, refused, given, ◌>>=◌, tests1_4}
+use Rattle.paper.specs.Calls.{Answer, refused, given, ◌>>=◌, Reply, tests1_4}
 use Rattle.octets.specs.Served.{Served}
 use Rattle.closest.specs.Rows.{RowsIn}
 use Rattle.closest.specs.declared.rows.RowsRead.{RowsRead}
@@ -20,9 +20,8 @@ use Rattle.grammar.proofs.Named.{names-read}
 use Rattle.grammar.proofs.Right.{said_right}
 use Rattle.typed.specs.Entries.{Within}
 use Rattle.typed.specs.Matching.{Listed}
-use Rattle.typed.specs.Read.{ReadsTree, reading_of}
+use Rattle.typed.specs.Read.{ReadsTree}
 use Rattle.typed.specs.Shaped.{shaped_as}
-use Rattle.typed.specs.declared.read.TreeRead.{TreeRead}
 use Rattle.typed.proofs.Shaped.{Given, left}
 
 -- a text that is too long
@@ -49,15 +48,16 @@ module _ (f : Format) (labelled : 0 < f.labels) (b text lent : List ℕ) where
     answer = e ∙ sym (λ i. tabled (et i) (es i));
   }
 
-  module _ {k p : ℕ} (r : TreeRead) (is : r ≡ record { number = k; place = p; entries = 0 }) where
-    as_refused : reading_of r lent ≡ reading_of (record { number = k; place = p; entries = 0 }) lent
-    as_refused = ap (λ x. reading_of x lent) is
+  -- number and place, and no entry
+  abbrev refusal : ℕ → ℕ → Reply ℕ
+  refusal k p = record { number = k; place = p; rest = 0 }
 
-    pub table-refused : tests1_4 f b ≡ refused k p → ReadsTree f b text lent r lent
-    table-refused e = read_is _ (refused k p) _ e refl as_refused
+  module _ {k p : ℕ} where
+    pub table-refused : tests1_4 f b ≡ refused k p → ReadsTree f b text lent (refusal k p) lent
+    table-refused e = read_is _ (refused k p) _ e refl refl
 
-    pub text_refused : tests1_4 f b ≡ given (rows f b) → said_of f text ≡ refused k p → ReadsTree f b text lent r lent
-    text_refused table e = read_is _ (given (rows f b)) (refused k p) table e as_refused
+    pub text_refused : tests1_4 f b ≡ given (rows f b) → said_of f text ≡ refused k p → ReadsTree f b text lent (refusal k p) lent
+    text_refused table e = read_is _ (given (rows f b)) (refused k p) table e refl
 
   pub text_shaped : tests1_4 f b ≡ given (rows f b) → (es : List Wanted) → said_of f text ≡ given es → (x : Reading)
       → x ≡ shaped_as f (types (rows f b)) es lent → ReadTree f b text lent x

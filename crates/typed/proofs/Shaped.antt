@@ -6,7 +6,7 @@ use native.Mathlib.Numerals.{add-one}
 use mathlib.Core.Path.{◌≡◌, refl, sym, ◌∙◌, ap, ap₂}
 use mathlib.Core.Bool.{Bool, true, false, not}
 use mathlib.Core.List.{List, [], ◌∷◌}
-use mathlib.Core.Option.{Option, none}
+use mathlib.Core.Option.{Option, none, some}
 use lib.Dec.{eqb, leb, ltb}
 use lib.ListN.{length, take, length-append, length-map}
 use lib.Seq.{sets, take_all}
@@ -17,7 +17,6 @@ use Rattle.paper.specs.Calls.{Answer, given, ◌>>=◌, refuse, refuse_at, reply
 use Rattle.paper.proofs.Kept.{place_same, first-none}
 use Rattle.octets.proofs.Writing.{front_written}
 use Rattle.tables.specs.Place.{place_of}
-use Rattle.shapes.proofs.Examined.{place-some, place_none}
 use Rattle.grammar.proofs.Fitting.{entry-size}
 use Rattle.grammar.specs.Typed.{Wanted, matches, matched, entry_back, shape_back, shaping, Reading}
 use Rattle.typed.specs.Matching.{sole_number}
@@ -79,7 +78,7 @@ module _ (f : Format) (ts : List (List ℕ)) (es : List Wanted) (lent : List ℕ
   shaped_is many deep unmatched short em ed eu es = λ i. left lent (tested (em i) (ed i) (eu i) (es i))
 
   module _ (w : Walked) (of : Of ts es w) where
-    pub too_many : most_entries < w.entries → reading_of (record { number = 5; place = 0; entries = 0 }) lent ≡ shaped_as f ts es lent
+    pub too_many : most_entries < w.entries → reading_of (record { number = 5; place = 0; rest = 0 }) lent ≡ shaped_as f ts es lent
     too_many lt = sym (shaped_is true _ _ _ (lt-ltb most_entries (length es) (omega (arith, lt, of.count-is))) refl refl refl)
 
     module _ (few : w.entries ≤ most_entries) where
@@ -96,60 +95,66 @@ module _ (f : Format) (ts : List (List ℕ)) (es : List Wanted) (lent : List ℕ
           of.types_are
           ∙ take_all most_entries (numbers_of ts es) (omega (arith, few, of.count-is, length-map es (λ (e : Wanted). sole_number ts e.name)))
 
-      module _ (deep : ℕ) (deep_is : deep ≡ place (leb (f.levels + 1)) (take w.entries w.levels)) where
-        deep-first : first_place (λ (e : Wanted). ltb f.levels e.level) es ≡ place_of deep w.entries
+      -- the first entry that is too deep, where there is one
+      abbrev pub deep : Option ℕ
+      deep = place_of (place (leb (f.levels + 1)) (take w.entries w.levels)) w.entries
+
+      deep-first : first_place (λ (e : Wanted). ltb f.levels e.level) es ≡ deep
+      unfolding place_of
+      deep-first =
+          ap₂ place_of
+          (sym (place_same (leb (suc f.levels)) (λ (e : Wanted). ltb f.levels e.level) (λ (e : Wanted). e.level) es (λ e h. refl))
+          ∙ sym (ap₂ (λ b l. place (leb b) l) (add-one f.levels) all_levels))
+          (sym of.count-is)
+
+      pub too_deep : (e : ℕ) → some e ≡ deep → reading_of (record { number = 6; place = e; rest = 0 }) lent ≡ shaped_as f ts es lent
+      too_deep e is = sym (shaped_is false _ _ _ not-many (deep-first ∙ sym is) refl refl)
+
+      module _ (shallow : none ≡ deep) (count : ℕ) (count-is : count ≡ length ts) (count-few : count ≤ most_types) where
+        not-deep : first_place (λ (e : Wanted). ltb f.levels e.level) es ≡ none
+        not-deep = deep-first ∙ sym shallow
+
+        -- the first entry whose name matches no type or several
+        abbrev alone : Option ℕ
+        alone = place_of (place (leb count) (take w.entries w.types)) w.entries
+
+        alone-first : first_place (λ (e : Wanted). not (eqb (length (matched ts e)) 1)) es ≡ alone
         unfolding place_of
-        deep-first =
+        alone-first =
             ap₂ place_of
-            (sym (place_same (leb (suc f.levels)) (λ (e : Wanted). ltb f.levels e.level) (λ (e : Wanted). e.level) es (λ e h. refl))
-            ∙ sym (deep_is ∙ ap₂ (λ b l. place (leb b) l) (add-one f.levels) all_levels))
+            (sym (place_same (leb count) (λ (e : Wanted). not (eqb (length (matched ts e)) 1)) (λ (e : Wanted). sole_number ts e.name) es
+            (λ e h. number-none ts count count-is count-few e))
+            ∙ sym (ap (place (leb count)) all_types))
             (sym of.count-is)
 
-        pub too_deep : deep < w.entries → reading_of (record { number = 6; place = deep; entries = 0 }) lent ≡ shaped_as f ts es lent
-        too_deep lt = sym (shaped_is false _ _ _ not-many (deep-first ∙ place-some deep w.entries lt) refl refl)
+        pub unmatched : (e : ℕ) → some e ≡ alone → reading_of (record { number = 13; place = e; rest = 0 }) lent ≡ shaped_as f ts es lent
+        unmatched e is = sym (shaped_is false _ _ _ not-many not-deep (alone-first ∙ sym is) refl)
 
-        module _ (shallow : w.entries ≤ deep) (count : ℕ) (count-is : count ≡ length ts) (count-few : count ≤ most_types)
-            (alone : ℕ) (alone-is : alone ≡ place (leb count) (take w.entries w.types)) where
-          not-deep : first_place (λ (e : Wanted). ltb f.levels e.level) es ≡ none
-          not-deep = deep-first ∙ place_none deep w.entries shallow
+        module _ (matching : none ≡ alone) where
+          all-matched : first_place (λ (e : Wanted). not (eqb (length (matched ts e)) 1)) es ≡ none
+          all-matched = alone-first ∙ sym matching
 
-          alone-first : first_place (λ (e : Wanted). not (eqb (length (matched ts e)) 1)) es ≡ place_of alone w.entries
-          unfolding place_of
-          alone-first =
-              ap₂ place_of
-              (sym (place_same (leb count) (λ (e : Wanted). not (eqb (length (matched ts e)) 1)) (λ (e : Wanted). sole_number ts e.name) es
-              (λ e h. number-none ts count count-is count-few e))
-              ∙ sym (alone-is ∙ ap (place (leb count)) all_types))
-              (sym of.count-is)
+          pub no_room : length lent < entry_bytes f * w.entries
+              → reading_of (record { number = 29; place = 0; rest = 0 }) lent ≡ shaped_as f ts es lent
+          no_room lt =
+              sym (shaped_is false _ _ true not-many not-deep all-matched
+              (lt-ltb (length lent) (length (shape_back f ts es)) (omega (arith, lt, shape-length f ts es, ap (λ n. entry_bytes f * n) of.count-is))))
 
-          pub unmatched : alone < w.entries → reading_of (record { number = 13; place = alone; entries = 0 }) lent ≡ shaped_as f ts es lent
-          unmatched lt = sym (shaped_is false _ _ _ not-many not-deep (alone-first ∙ place-some alone w.entries lt) refl)
+          -- what the records of the entries are
+          written : entries_back f ts (take w.entries w.levels) (take w.entries w.types) ≡ shape_back f ts es
+          written =
+              ap₂ (entries_back f ts) all_levels all_types
+              ∙ shape_back_lem ts (omega (arith, count-is, count-few)) f es (λ e h.
+              let passes : leb count (sole_number ts e.name) ≡ false =
+              number-none ts count count-is count-few e ∙ first-none (λ (e : Wanted). not (eqb (length (matched ts e)) 1)) es all-matched e h in
+              omega (arith, leb-false count (sole_number ts e.name) passes, count-is))
 
-          module _ (matching : w.entries ≤ alone) where
-            all-matched : first_place (λ (e : Wanted). not (eqb (length (matched ts e)) 1)) es ≡ none
-            all-matched = alone-first ∙ place_none alone w.entries matching
-
-            pub no_room : length lent < entry_bytes f * w.entries
-                → reading_of (record { number = 29; place = 0; entries = 0 }) lent ≡ shaped_as f ts es lent
-            no_room lt =
-                sym (shaped_is false _ _ true not-many not-deep all-matched
-                (lt-ltb (length lent) (length (shape_back f ts es)) (omega (arith, lt, shape-length f ts es, ap (λ n. entry_bytes f * n) of.count-is))))
-
-            -- what the records of the entries are
-            written : entries_back f ts (take w.entries w.levels) (take w.entries w.types) ≡ shape_back f ts es
-            written =
-                ap₂ (entries_back f ts) all_levels all_types
-                ∙ shape_back_lem ts (omega (arith, count-is, count-few)) f es (λ e h.
-                let passes : leb count (sole_number ts e.name) ≡ false =
-                number-none ts count count-is count-few e ∙ first-none (λ (e : Wanted). not (eqb (length (matched ts e)) 1)) es all-matched e h in
-                omega (arith, leb-false count (sole_number ts e.name) passes, count-is))
-
-            pub shaped : entry_bytes f * w.entries ≤ length lent → (new : List ℕ)
-                → new ≡ sets lent 0 (entries_back f ts (take w.entries w.levels) (take w.entries w.types))
-                → reading_of (record { number = 0; place = 0; entries = w.entries }) new ≡ shaped_as f ts es lent
-            shaped room new put =
-                let fits : length (shape_back f ts es) ≤ length lent =
-                omega (arith, room, shape-length f ts es, ap (λ n. entry_bytes f * n) of.count-is) in
-                ap₂ (λ n (s : List ℕ). reading_of (record { number = 0; place = 0; entries = n }) s) of.count-is
-                (put ∙ ap (sets lent 0) written ∙ front_written lent (shape_back f ts es) fits)
-                ∙ sym (shaped_is false _ _ false not-many not-deep all-matched (le-ltb (length lent) (length (shape_back f ts es)) fits))
+          pub shaped : entry_bytes f * w.entries ≤ length lent → (new : List ℕ)
+              → new ≡ sets lent 0 (entries_back f ts (take w.entries w.levels) (take w.entries w.types))
+              → reading_of (record { number = 0; place = 0; rest = w.entries }) new ≡ shaped_as f ts es lent
+          shaped room new put =
+              let fits : length (shape_back f ts es) ≤ length lent =
+              omega (arith, room, shape-length f ts es, ap (λ n. entry_bytes f * n) of.count-is) in
+              ap₂ (λ n (s : List ℕ). reading_of (record { number = 0; place = 0; rest = n }) s) of.count-is
+              (put ∙ ap (sets lent 0) written ∙ front_written lent (shape_back f ts es) fits)
+              ∙ sym (shaped_is false _ _ false not-many not-deep all-matched (le-ltb (length lent) (length (shape_back f ts es)) fits))

@@ -3,20 +3,24 @@ use Prim.Native.Nat.{ℕ, suc, pred, ◌+◌, ◌-◌, ◌≤◌, ◌<◌}
 use native.Mathlib.Numerals.{add-one}
 use native.Mathlib.Omega.{arith}
 use mathlib.Core.Path.{◌≡◌, refl, sym, ◌∙◌, ap, subst}
-use mathlib.Core.Bool.{Bool, true, false, true≢false}
+use mathlib.Core.Bool.{Bool, true, false}
+use mathlib.Core.Option.{none}
 use mathlib.Core.List.{List, [], ◌∷◌, ◌++◌, map, append-nil}
 use borrow.Author.Tests.{le-ltb}
 use lib.ListN.{length, get_or, take, drop, set, length-set, length-map, length-append}
 use lib.Seq.{take-nil}
+use Rattle.std.specs.Prelude.{Result, Ok, Err}
 use Rattle.paper.specs.Format.{Format, most_entries}
+use Rattle.paper.specs.declared.refusal.Refusal.{Refusal}
+use Rattle.paper.specs.declared.refusal.Refusal.TheVariants.{NoTree}
 use Rattle.paper.specs.Calls.{Answer, refused, given}
 use Rattle.paper.proofs.Lists.{map_append}
 use Rattle.grammar.specs.Text.{space}
 use Rattle.grammar.specs.Grammar.{opening, closing, word, open_byte, close_byte, plain, run, token_at, Placed, tokens_from}
 use Rattle.grammar.specs.Typed.{Wanted, most_text}
-use Rattle.grammar.specs.Reader.{first, behind_name, behind_open, behind_close, may_name, may_open, may_close, may_end, wrong, walk, said_of}
+use Rattle.grammar.specs.Reader.{first, behind_name, behind_open, behind_close, may_name, may_open, may_close, may_end, wrong, walk, said_of, name_of_word}
 use Rattle.typed.specs.Matching.{sole_number, Listed}
-use Rattle.typed.specs.Walk.{stage_of, may_stand, levels_of, numbers_of, WrongAt, Kept, Walks}
+use Rattle.typed.specs.Walk.{stage_of, may_stand, levels_of, numbers_of, Kept, Asks, Walks}
 use Rattle.typed.specs.declared.walk.Walked.{Walked}
 use Rattle.typed.proofs.Left.{tokens_of, left, space_left, open_left, close_left, word_left, token_left, end_left}
 use Rattle.typed.proofs.Left.{walk_open, walk_close, walk-word, walk_no_name, walk-stop, walk_end, walk_early}
@@ -44,7 +48,6 @@ kept_entry h l l' es n e many put kept =
 
 -- Right so far: the entries are so many, with their levels and types kept, and from place p on the tokens say what is said of the text.
 pub record Going (f : Format) (text parents labels : List ℕ) (count : ℕ) (w : Walked) (stage depth p : ℕ) : Type 0 where
-  right_yet : w.right ≡ true
   so_far : List Wanted
   counted : w.entries ≡ length so_far
   levels_kept : take w.entries w.levels ≡ take (length w.levels) (levels_of so_far)
@@ -52,21 +55,9 @@ pub record Going (f : Format) (text parents labels : List ℕ) (count : ℕ) (w 
   onward : said_of f text ≡ said_behind text so_far (left text p) (walk f (stage_of stage) depth (tokens_of (left text p)))
 
 module _ (f : Format) (text parents labels : List ℕ) (count : ℕ) where
-  -- a text that is wrong there
-  pub walks_wrong : (r : Walked) (p : ℕ) → WrongAt r p → said_of f text ≡ refused 12 p → Walks f text parents labels count r
-  walks_wrong r p (no_tree, there, nothing) said = record {
-    wrong_at_lem = λ _. said ∙ ap (refused 12) (sym there);
-    entries = [];
-    asked = λ e. absurd (true≢false (sym e ∙ no_tree));
-    count-is = nothing;
-    levels_are = ap (λ n. take n r.levels) nothing;
-    types_are = λ ts listed. ap (λ n. take n r.types) nothing;
-  }
-
-  pub going_start : (w : Walked) → w.right ≡ true → w.entries ≡ 0 → length text ≤ most_text → Going f text parents labels count w 0 0 0
+  pub going_start : (w : Walked) → w.entries ≡ 0 → length text ≤ most_text → Going f text parents labels count w 0 0 0
   unfolding said_of
-  going_start w yet nothing short = record {
-    right_yet = yet;
+  going_start w nothing short = record {
     so_far = [];
     counted = nothing;
     levels_kept = ap (λ n. take n w.levels) nothing ∙ sym (take-nil (length w.levels));
@@ -89,7 +80,6 @@ module _ (f : Format) (text parents labels : List ℕ) (count : ℕ) where
         → said_of f text ≡ said_behind text g.so_far (left text p') (walk f (stage_of stage') depth' (tokens_of (left text p')))
         → Going f text parents labels count w stage' depth' p'
     going_to stage' depth' p' said = record {
-      right_yet = g.right_yet;
       so_far = g.so_far;
       counted = g.counted;
       levels_kept = g.levels_kept;
@@ -133,17 +123,17 @@ module _ (f : Format) (text parents labels : List ℕ) (count : ℕ) where
           said-stop (record { at = p; token = token_at b bs }) ps (token_left text p lt ne) (walk-stop f (stage_of stage) depth (tokens_of ps) b bs may)
 
       module _ (is_IsWord : plain (get_or text p 0) ≡ true) (may : may_name (stage_of stage) depth ≡ true) where
-        module _ (bs : List ℕ) (same : bs ≡ run (drop p text)) (w' : Walked) (kept : Kept f bs depth parents labels count w w') where
+        module _ (bs : List ℕ) (same : bs ≡ run (drop p text)) where
           -- the word spells no name
-          pub word-stop : w'.right ≡ false → said_of f text ≡ refused 12 p
+          pub word-stop : name_of_word f bs ≡ none → said_of f text ≡ refused 12 p
           word-stop e =
               let ps = left text (p + length (run (drop p text))) in
               said-stop (record { at = p; token = word bs }) ps
               (word_left text p lt is_IsWord ∙ ap (λ bs. record { at = p; token = word bs } ∷ ps) (sym same))
-              (walk_no_name f (stage_of stage) depth (tokens_of ps) bs may (kept.spells_none e))
+              (walk_no_name f (stage_of stage) depth (tokens_of ps) bs may e)
 
           -- one entry more
-          module _ (yet : w'.right ≡ true) (p' : ℕ) (ends : p' ≡ p + length (run (drop p text))) where
+          module _ (w' : Walked) (kept : Kept f bs depth parents labels count w w') (p' : ℕ) (ends : p' ≡ p + length (run (drop p text))) where
             abbrev es : List Wanted
             es = g.so_far
 
@@ -155,32 +145,30 @@ module _ (f : Format) (text parents labels : List ℕ) (count : ℕ) where
                 let x : Placed = record { at = p; token = word bs } in
                 let ps = left text p' in
                 said-by (x ∷ ps) (word_left text p lt is_IsWord ∙ λ i. record { at = p; token = word (sym same i) } ∷ left text (sym ends i))
-                ∙ ap (said_behind text es (x ∷ ps)) (walk-word f (stage_of stage) depth (tokens_of ps) bs kept.name may (kept.spells_one yet))
+                ∙ ap (said_behind text es (x ∷ ps)) (walk-word f (stage_of stage) depth (tokens_of ps) bs kept.name may kept.spells_one)
                 ∙ with_on text es x ps entry (walk f behind_name depth (tokens_of ps))
 
             pub going_word : Going f text parents labels count w' 1 depth p'
             going_word =
-                let more = kept.one_more yet in
+                let more = kept.one_more in
                 record {
-                  right_yet = yet;
                   so_far = es ++ (entry ∷ []);
                   counted = omega (arith, more, g.counted, length-append es (entry ∷ []));
                   levels_kept = ap (λ n. take n w'.levels) more
                       ∙ kept_entry (λ (e : Wanted). e.level) w.levels w'.levels es w.entries entry g.counted
-                      (kept.level_put yet) g.levels_kept;
+                      kept.level_put g.levels_kept;
                   types_kept = λ ts listed. ap (λ n. take n w'.types) more
                       ∙ kept_entry (λ (e : Wanted). sole_number ts e.name) w.types w'.types es w.entries entry g.counted
-                      (kept.type_put yet ts listed) (g.types_kept ts listed);
+                      (kept.type_put ts listed) (g.types_kept ts listed);
                   onward = said-word;
                 }
 
     -- the text ends
     module _ (le : length text ≤ p) (long : length w.levels ≡ most_entries) (long' : length w.types ≡ most_entries) where
-      walks_right : may_end (stage_of stage) depth ≡ true → Walks f text parents labels count w
-      walks_right may = record {
-        wrong_at_lem = λ e. absurd (true≢false (sym g.right_yet ∙ e));
+      asks : may_end (stage_of stage) depth ≡ true → Asks f text parents labels count w
+      asks may = record {
         entries = g.so_far;
-        asked = λ _.
+        asked =
             said-by [] (end_left text p le) ∙ ap (said_behind text g.so_far []) (walk_end f (stage_of stage) depth may)
             ∙ ap {B = Answer (List Wanted)} given (append-nil g.so_far);
         count-is = g.counted;
@@ -188,13 +176,13 @@ module _ (f : Format) (text parents labels : List ℕ) (count : ℕ) where
         types_are = λ ts listed. g.types_kept ts listed ∙ ap (λ m. take m (numbers_of ts g.so_far)) long';
       }
 
-      pub walks_ended : p ≤ length text → (r : Walked)
-          → ((may_end (stage_of stage) depth ≡ true → r ≡ w) × (may_end (stage_of stage) depth ≡ false → WrongAt r p)) → Walks f text parents labels count r
+      pub walks_ended : p ≤ length text → (r : Result Walked Refusal)
+          → ((may_end (stage_of stage) depth ≡ true → r ≡ Ok w) × (may_end (stage_of stage) depth ≡ false → r ≡ Err (NoTree p))) → Walks f text parents labels count r
       walks_ended within r (whole, early) = go (may_end (stage_of stage) depth) refl
         where
           go : (t : Bool) → may_end (stage_of stage) depth ≡ t → Walks f text parents labels count r
-          go true e = subst (Walks f text parents labels count) (sym (whole e)) (walks_right e)
+          go true e = subst (Walks f text parents labels count) (sym (whole e)) (asks e)
           go false e =
               let at_end : length text ≡ p = omega (arith, le, within) in
-              walks_wrong r p (early e)
+              subst (Walks f text parents labels count) (sym (early e))
               (said-by [] (end_left text p le) ∙ ap (said_behind text g.so_far []) (walk_early f (stage_of stage) depth e) ∙ ap (refused 12) at_end)

@@ -3,15 +3,11 @@ use Rattle.std.specs.Prelude.{ℕ, List}
 use Rattle.paper.specs.Format.{Format}
 use Rattle.paper.specs.Calls.{Reply}
 use Rattle.grammar.specs.Typed.{Reading, ReadTree}
-use Rattle.typed.specs.declared.read.TreeRead.{TreeRead}
-
-abbrev pub told : TreeRead → Reply ℕ
-told r = record { number = r.number; place = r.place; rest = r.entries }
 
 -- the answer and the lent bytes together
-abbrev pub reading_of : TreeRead → List ℕ → Reading
-reading_of r shape = record { reply = told r; shape = shape }
+abbrev pub reading_of : Reply ℕ → List ℕ → Reading
+reading_of r shape = record { reply = r; shape = shape }
 
 -- The answer, and every byte lent for the shape, are the definition's.
-abbrev pub ReadsTree : Format → List ℕ → List ℕ → List ℕ → TreeRead → List ℕ → Type 0
+abbrev pub ReadsTree : Format → List ℕ → List ℕ → List ℕ → Reply ℕ → List ℕ → Type 0
 ReadsTree f b text lent r shape = ReadTree f b text lent (reading_of r shape)

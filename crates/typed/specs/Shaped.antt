@@ -2,12 +2,11 @@
 use Rattle.std.specs.Prelude.{ℕ, ◌≤◌, ◌≡◌, List, length, take}
 use Rattle.paper.specs.Lists.{Has}
 use Rattle.paper.specs.Format.{Format, most_entries}
-use Rattle.paper.specs.Calls.{given, ◌>>=◌, reply, after}
+use Rattle.paper.specs.Calls.{given, ◌>>=◌, Reply, reply, after}
 use Rattle.grammar.specs.Typed.{Wanted, shaping, Reading}
 use Rattle.typed.specs.Matching.{Listed}
 use Rattle.typed.specs.Walk.{levels_of, numbers_of}
 use Rattle.typed.specs.Read.{reading_of}
-use Rattle.typed.specs.declared.read.TreeRead.{TreeRead}
 use Rattle.typed.specs.declared.walk.Walked.{Walked}
 
 -- what 5, 6, 13 and 29 leave of these entries
@@ -23,7 +22,7 @@ pub record Of (ts : List (List ℕ)) (es : List Wanted) (w : Walked) : Type 0 wh
   pub types_are : take w.entries w.types ≡ take most_entries (numbers_of ts es)
 
 -- Whatever types are listed, none with more labels than the format has levels, and whatever entries are asked for, they are shaped.
-abbrev pub Shapes : Format → Walked → List ℕ → List ℕ → ℕ → List ℕ → TreeRead → List ℕ → Type 0
+abbrev pub Shapes : Format → Walked → List ℕ → List ℕ → ℕ → List ℕ → Reply ℕ → List ℕ → Type 0
 Shapes f w parents labels count lent r shape =
     (ts : List (List ℕ)) → Listed ts parents labels count → ((v : List ℕ) → Has v ts → length v ≤ f.levels)
     → (es : List Wanted) → Of ts es w → reading_of r shape ≡ shaped_as f ts es lent

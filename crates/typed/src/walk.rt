@@ -1,36 +1,23 @@
 // A text, read once from its first byte to its last.
-ghost use Rattle.std.specs.Prelude.{◌≡◌, true, false, ◌+◌, ◌≤◌, length, drop};
+ghost use Rattle.std.specs.Prelude.{◌≡◌, true, false, ◌+◌, ◌≤◌, Ok, Err, length, drop};
+ghost use Rattle.paper.specs.declared.refusal.Refusal.TheVariants.{NoTree};
 ghost use Rattle.octets.specs.Served.{Served};
 ghost use Rattle.grammar.specs.Grammar.{run};
 ghost use Rattle.grammar.specs.Typed.{most_text};
 ghost use Rattle.grammar.specs.Reader.{may_end};
-ghost use Rattle.typed.specs.Walk.{stage_of, may_stand, Lists, Kept, WrongAt, Walks};
+ghost use Rattle.typed.specs.Walk.{stage_of, may_stand, Lists, Keeps, Walks};
 
 use crate::matching::match_type;
 use names::word::read_word;
 use paper::Format;
+use paper::refusal::Refusal;
 
-// Whether the text is one of the grammar; where it is not, the place; else the number of entries, and of the first 16 the level and the type.
+// The entries that a text asks for: how many, and of the first 16 the level and the type.
 #[derive(Clone, Copy, Drop)]
 pub struct Walked {
-    pub right: bool,
-    pub place: usize,
     pub entries: usize,
     pub levels: [u16; 16],
     pub types: [u16; 16],
-}
-
-// Right so far, with no entry, or wrong at the place.
-fn no_entry(right: bool, place: usize) -> Walked
-    ensures { (result.right ≡ right) × (result.place ≡ place) × (result.entries ≡ 0) }
-{
-    Walked {
-        right,
-        place,
-        entries: 0,
-        levels: [0u16; 16],
-        types: [0u16; 16],
-    }
 }
 
 // May the token that begins with this byte stand next? What stands just before is told by a number: 0 nothing, 1 a name, 2 an opening bracket,
@@ -48,13 +35,13 @@ fn may_stand(b: u8, stage: usize, depth: usize) -> bool
 }
 
 // What was walked, if the text may end there.
-fn ended(w: Walked, stage: usize, depth: usize, place: usize) -> Walked
-    ensures { (may_end (stage_of stage) depth ≡ true → result ≡ w) × (may_end (stage_of stage) depth ≡ false → WrongAt result place) }
+fn ended(w: Walked, stage: usize, depth: usize, place: usize) -> Result<Walked, Refusal>
+    ensures { (may_end (stage_of stage) depth ≡ true → result ≡ Ok w) × (may_end (stage_of stage) depth ≡ false → result ≡ Err (NoTree place)) }
 {
     if stage == 0 || stage == 2 || 0 < depth {
-        no_entry(false, place)
+        Err(Refusal::NoTree(place))
     } else {
-        w
+        Ok(w)
     }
 }
 
@@ -70,7 +57,7 @@ fn word_end(text: &[u8], p: usize) -> usize
         .unwrap_or(rest.len())
 }
 
-// What was walked and the entry that a word asks for, or wrong if it spells no name. Level and type of a 17th entry and later ones are not kept: they
+// What was walked and the entry that a word asks for, none if it spells no name. Level and type of a 17th entry and later ones are not kept: they
 // are too many in any case.
 fn keep_word<'a>(
     w: Walked,
@@ -80,13 +67,13 @@ fn keep_word<'a>(
     parents: &'a [u8],
     labels: &'a [u16],
     count: usize,
-) -> Walked
+) -> Option<Walked>
     requires { Served f × (length word.now ≤ most_text) × (depth ≤ most_text) × (w.entries ≤ most_text) × Lists parents.now labels.now count }
-    ensures { Kept f word.now depth parents.now labels.now count w result }
+    ensures { Keeps f word.now depth parents.now labels.now count w result }
 {
     let name = read_word(word, f);
     if !name.spells {
-        return no_entry(false, 0);
+        return None;
     }
     let entries = w.entries;
     let mut levels = w.levels;
@@ -95,27 +82,29 @@ fn keep_word<'a>(
         levels[entries] = (depth + 1) as u16;
         types[entries] = match_type(name, parents, labels, count).unwrap_or(64) as u16;
     }
-    Walked {
-        right: true,
-        place: 0,
+    Some(Walked {
         entries: entries + 1,
         levels,
         types,
-    }
+    })
 }
 
-// The whole text, token by token.
+// The whole text, token by token: the place at which it stops being a tree, or the entries.
 pub fn walk_text<'a>(
     text: &[u8],
     f: Format,
     parents: &'a [u8],
     labels: &'a [u16],
     count: usize,
-) -> Walked
+) -> Result<Walked, Refusal>
     requires { Served f × (length text.now ≤ most_text) × Lists parents.now labels.now count }
     ensures { Walks f text.now parents.now labels.now count result }
 {
-    let mut w = no_entry(true, 0);
+    let mut w = Walked {
+        entries: 0,
+        levels: [0; 16],
+        types: [0; 16],
+    };
     let mut stage = 0;
     let mut depth = 0;
     let mut p = 0;
@@ -124,7 +113,7 @@ pub fn walk_text<'a>(
         if b == b' ' {
             p += 1;
         } else if !may_stand(b, stage, depth) {
-            return no_entry(false, p);
+            return Err(Refusal::NoTree(p));
         } else if b == b'[' {
             stage = 2;
             depth += 1;
@@ -135,10 +124,10 @@ pub fn walk_text<'a>(
             p += 1;
         } else {
             let end = word_end(text, p);
-            w = keep_word(w, &text[p..end], f, depth, parents, labels, count);
-            if !w.right {
-                return no_entry(false, p);
-            }
+            let Some(kept) = keep_word(w, &text[p..end], f, depth, parents, labels, count) else {
+                return Err(Refusal::NoTree(p));
+            };
+            w = kept;
             stage = 1;
             p = end;
         }

@@ -4,7 +4,9 @@ ghost use Rattle.std.specs.Prelude.{◌≡◌, ◌+◌, ◌*◌, ◌-◌, ◌≤
 ghost use Rattle.std.proofs.lemmas.List.Edits.{sets};
 ghost use Rattle.paper.specs.Lists.{place, join_map, padded};
 ghost use Rattle.paper.specs.Format.{records, whole};
+ghost use Rattle.paper.specs.Refusals.{found};
 ghost use Rattle.octets.specs.Served.{most_bytes};
+ghost use Rattle.tables.specs.Place.{place_of};
 ghost use Rattle.widths.specs.Moves.{fitted, moved_bytes, record_deep};
 
 // The first `from` bytes of a record, cut or filled with zeros to `to`, put at a place.
@@ -54,12 +56,15 @@ fn is_deep(r: &[u8], levels: usize) -> bool
     levels < octets::wide(r[0]) || levels < octets::wide(r[1])
 }
 
-// The first record of w bytes that is too deep, count for none.
-pub fn first_deep(b: &[u8], w: usize, count: usize, levels: usize) -> usize
+// The first record of w bytes that is too deep.
+pub fn first_deep(b: &[u8], w: usize, count: usize, levels: usize) -> Option<usize>
     requires { (2 ≤ w) × (count ≡ whole w b.now) }
-    ensures { result ≡ place (record_deep levels) (records w count b.now) }
+    ensures { found result ≡ place_of (place (record_deep levels) (records w count b.now)) count }
 {
-    (0..count)
-        .find(|i| is_deep(octets::record(b, w, *i), levels))
-        .unwrap_or(count)
+    for i in 0..count {
+        if is_deep(octets::record(b, w, i), levels) {
+            return Some(i);
+        }
+    }
+    None
 }

@@ -1,8 +1,9 @@
 -- The search stops at the first that is large enough. Assumes nothing.
-use Rattle.std.proofs.Common.{◌∙◌, ap, take, unwrap_or, leb, rules, tests}
+use Rattle.std.proofs.Common.{◌∙◌, ap, take, leb, rules, tests}
 use Rattle.std.proofs.lemmas.Iterator.{YieldsList-from_slice}
 use Rattle.std.proofs.lemmas.Iterator.Search.{position_from_yields_List}
-use Rattle.typed.proofs.Firsts.{first_long, found_or_all}
+use Rattle.paper.specs.Refusals.{found}
+use Rattle.typed.proofs.Firsts.{first_long, found_first}
 use Rattle.typed.proofs.read.first_from.Goals as goal
 
 pub returns : goal.returns
@@ -11,4 +12,4 @@ returns c =
     let list = take a.n a.list.now in
     let stops = position_from_yields_List (leb a.bound) _ _ c.position.result c.position.ensures.ran (YieldsList-from_slice list cc)
     (λ x b q k. search (rules, tests)) in
-    c.unwrap_or.ensures ∙ ap (λ r. unwrap_or r a.n) stops ∙ found_or_all (leb a.bound) list a.n (first_long a.list.now a.n c.requires)
+    ap found stops ∙ found_first (leb a.bound) list a.n (first_long a.list.now a.n c.requires)

@@ -1,24 +1,22 @@
 -- One token after the other. Assumes nothing.
 use native.Mathlib.Omega.{arith}
-use mathlib.Core.Path.{sym, ◌∙◌}
+use mathlib.Core.Path.{refl, sym, ◌∙◌}
 use borrow.Author.Rules.{rules}
-use borrow.Author.Tests.{not-true, not-false}
 use Rattle.typed.specs.Walk.{stage_of}
 use Rattle.typed.proofs.Stages.{stands_open, stands_close, stands_name}
 use Rattle.typed.proofs.Runs.{plain_byte, run_on, word_bytes}
-use Rattle.typed.proofs.Walking.{walks_wrong, walks_ended, going_start, going_space, going_open, going_close, going_stop, word-stop, going_word}
+use Rattle.typed.proofs.Walking.{walks_ended, going_start, going_space, going_open, going_close, going_stop, word-stop, going_word}
 use Rattle.typed.proofs.walk.walk_text.Goals as goal
 
 pub loop-p-init : goal.loop-p-init
 loop-p-init c =
-    let a = c.args in
-    let (right, _, none) = c.no_entry-w.ensures in record {
+    let a = c.args in record {
       within = omega arith;
       shallow = omega arith;
-      few = omega (arith, none);
+      few = omega arith;
       levels_long = search rules;
       types_long = search rules;
-      going = going_start a.f a.text.now a.parents.now a.labels.now a.count c.no_entry-w.result right none c.requires.1;
+      going = going_start a.f a.text.now a.parents.now a.labels.now a.count _ refl c.requires.1;
     }
 
 pub loop-p-preserved-then-b-eq32 : goal.loop-p-preserved-then-b-eq32
@@ -37,9 +35,8 @@ pub returns-then-not-may_stand : goal.returns-then-not-may_stand
 returns-then-not-may_stand c =
     let a = c.args in
     let v = c.loop-p in
-    let stop = going_stop a.f a.text.now a.parents.now a.labels.now a.count v.w v.stage v.depth v.p v.invariant.going (omega arith) c.if-b-eq32.false in
-    walks_wrong a.f a.text.now a.parents.now a.labels.now a.count c.no_entry.result v.p c.no_entry.ensures
-    (stop (sym c.may_stand.ensures ∙ c.if-not-may_stand.true))
+    going_stop a.f a.text.now a.parents.now a.labels.now a.count v.w v.stage v.depth v.p v.invariant.going (omega arith) c.if-b-eq32.false
+    (sym c.may_stand.ensures ∙ c.if-not-may_stand.true)
 
 pub loop-p-preserved-then-b-eq91 : goal.loop-p-preserved-then-b-eq91
 loop-p-preserved-then-b-eq91 c =
@@ -67,16 +64,15 @@ loop-p-preserved-then-b-eq93 c =
       going = going_close a.f a.text.now a.parents.now a.labels.now a.count v.w v.stage v.depth v.p v.invariant.going (omega arith) c.if-b-eq93.true closes;
     }
 
-pub returns-then-not-w : goal.returns-then-not-w
-returns-then-not-w c =
+pub returns-in_default : goal.returns-in_default
+returns-in_default c =
     let a = c.args in
     let v = c.loop-p in
     let plain = plain_byte _ c.if-b-eq32.false c.if-b-eq91.false c.if-b-eq93.false in
     let names = sym (stands_name _ (stage_of v.stage) v.depth c.if-b-eq91.false c.if-b-eq93.false) ∙ sym c.may_stand.ensures ∙ c.if-not-may_stand.false in
     let same = word_bytes a.text.now v.p c.word_end-end.result c.word_end-end.ensures.0 in
-    walks_wrong a.f a.text.now a.parents.now a.labels.now a.count c.no_entry-then-not-w.result v.p c.no_entry-then-not-w.ensures
-    (word-stop a.f a.text.now a.parents.now a.labels.now a.count v.w v.stage v.depth v.p v.invariant.going (omega arith) plain names _ same
-    c.keep_word-w.result c.keep_word-w.ensures (not-true _ c.if-not-w.true))
+    word-stop a.f a.text.now a.parents.now a.labels.now a.count v.w v.stage v.depth v.p v.invariant.going (omega arith) plain names _ same
+    c.in_default.ensures
 
 pub loop-p-preserved : goal.loop-p-preserved
 loop-p-preserved c =
@@ -86,15 +82,14 @@ loop-p-preserved c =
     let names = sym (stands_name _ (stage_of v.stage) v.depth c.if-b-eq91.false c.if-b-eq93.false) ∙ sym c.may_stand.ensures ∙ c.if-not-may_stand.false in
     let same = word_bytes a.text.now v.p c.word_end-end.result c.word_end-end.ensures.0 in
     let later = run_on a.text.now v.p (omega arith) plain in
-    let yet = not-false _ c.if-not-w.false in
-    let more = c.keep_word-w.ensures.one_more yet in record {
+    let kept = c.in-Some.ensures in record {
       within = c.word_end-end.ensures.1;
       shallow = omega (arith, c.word_end-end.ensures.0, later);
-      few = omega (arith, c.word_end-end.ensures.0, later, more);
+      few = omega (arith, c.word_end-end.ensures.0, later, kept.one_more);
       levels_long = search rules;
       types_long = search rules;
       going = going_word a.f a.text.now a.parents.now a.labels.now a.count v.w v.stage v.depth v.p v.invariant.going (omega arith) plain names _ same
-          c.keep_word-w.result c.keep_word-w.ensures yet c.word_end-end.result c.word_end-end.ensures.0;
+          c.in-Some.kept kept c.word_end-end.result c.word_end-end.ensures.0;
     }
 
 pub returns : goal.returns
