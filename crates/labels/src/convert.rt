@@ -2,38 +2,25 @@
 ghost use Rattle.std.specs.Prelude.{◌≡◌, ◌<◌, eqb, length, take};
 ghost use Rattle.paper.specs.Lists.{any};
 ghost use Rattle.paper.specs.Labels.{old_range, pairs, pair_kept, bad_pair, convert};
+ghost use Rattle.paper.specs.Refusals.{found};
 ghost use Rattle.octets.specs.Served.{Served};
-ghost use Rattle.tables.specs.Place.{place_of};
 ghost use Rattle.labels.specs.Pairs.{pair_at};
 ghost use Rattle.labels.specs.Records.{standing};
-ghost use Rattle.labels.specs.Answers.{Converts};
+ghost use Rattle.labels.specs.Answers.{converted, Converts};
 ghost use Rattle.labels.specs.Tested.{Counted, Tested};
 
 use crate::pairs::{count_pairs, find, number_at};
 use crate::records::{file_has, first_unlisted, put_records};
 use paper::Format;
+use paper::refusal::Refusal;
 use shapes::tests::examine_shape;
 use tables::table::examine;
 
-// What converting answers: a refusal, or the counts of rows and entries.
-#[repr(C)]
-#[derive(Clone, Copy, Drop)]
+// What converting counts: the rows and the entries.
+#[derive(Clone, Copy, Drop, Debug, PartialEq, Eq)]
 pub struct Converted {
-    pub number: usize,
-    pub place: usize,
     pub rows: usize,
     pub entries: usize,
-}
-
-fn refused(number: usize, place: usize) -> Converted
-    ensures { result ≡ record { number = number; place = place; rows = 0; entries = 0 } }
-{
-    Converted {
-        number: number,
-        place: place,
-        rows: 0,
-        entries: 0,
-    }
 }
 
 // The same levels, with labels 1 to 999.
@@ -88,7 +75,7 @@ fn pair_kept(
     find(list, i, 0, old).is_none() && find(list, i, 1, new).is_none()
 }
 
-// The first pair to break a rule, the number of pairs for none.
+// The first pair to break a rule.
 fn first_bad(
     table: &[u8],
     rows: usize,
@@ -96,14 +83,11 @@ fn first_bad(
     entries: usize,
     f: Format,
     list: &[u16],
-) -> usize
+) -> Option<usize>
     requires { Counted f table.now shape.now rows entries }
-    ensures { bad_pair f (standing f table.now shape.now) (pairs list.now) ≡ place_of result (length (pairs list.now)) }
+    ensures { found result ≡ bad_pair f (standing f table.now shape.now) (pairs list.now) }
 {
-    let n = count_pairs(list);
-    (0..n)
-        .position(|i| !pair_kept(table, rows, shape, entries, f, list, i))
-        .unwrap_or(n)
+    (0..count_pairs(list)).position(|i| !pair_kept(table, rows, shape, entries, f, list, i))
 }
 
 // A table and a shape that pass their tests. Both lengths are tested before the first byte is written.
@@ -116,39 +100,31 @@ fn convert_tested(
     list: &[u16],
     new_table: &mut [u8],
     new_shape: &mut [u8],
-) -> Converted
+) -> Result<Converted, Refusal>
     requires { Tested f table.now shape.now rows entries }
     ensures { let asked = convert f table.now shape.now list.now new_table.old new_shape.old in
-        Converts asked result new_table.new new_shape.new }
+        Converts asked (converted result) new_table.new new_shape.new }
 {
-    let pair = first_bad(table, rows, shape, entries, f, list);
-    if pair < count_pairs(list) {
-        return refused(25, pair);
+    if let Some(pair) = first_bad(table, rows, shape, entries, f, list) {
+        return Err(Refusal::BadPair(pair));
     }
     let w = octets::row_bytes(f);
-    let row = first_unlisted(table, w, rows, 2, 1, list, f);
-    if row < rows {
-        return refused(26, row);
+    if let Some(row) = first_unlisted(table, w, rows, 2, 1, list, f) {
+        return Err(Refusal::Unlisted(row));
     }
     let v = octets::entry_bytes(f);
-    let entry = first_unlisted(shape, v, entries, 4, f.levels, list, f);
-    if entry < entries {
-        return refused(26, entry);
+    if let Some(entry) = first_unlisted(shape, v, entries, 4, f.levels, list, f) {
+        return Err(Refusal::Unlisted(entry));
     }
     if new_table.len() < table.len() {
-        return refused(29, 0);
+        return Err(Refusal::NoRoom);
     }
     if new_shape.len() < shape.len() {
-        return refused(29, 0);
+        return Err(Refusal::NoRoom);
     }
     put_records(table, w, rows, 2, 1, list, new_table);
     put_records(shape, v, entries, 4, f.levels, list, new_shape);
-    Converted {
-        number: 0,
-        place: 0,
-        rows: rows,
-        entries: entries,
-    }
+    Ok(Converted { rows, entries })
 }
 
 // A table and its shape, after refusals 1 to 3, 5 and 6 on the old range.
@@ -159,24 +135,12 @@ pub fn convert(
     f: Format,
     new_table: &mut [u8],
     new_shape: &mut [u8],
-) -> Converted
+) -> Result<Converted, Refusal>
     requires { Served f }
     ensures { let asked = convert f table.now shape.now list.now new_table.old new_shape.old in
-        Converts asked result new_table.new new_shape.new }
+        Converts asked (converted result) new_table.new new_shape.new }
 {
-    let examined = examine(table, old_range(f));
-    let number = examined.number;
-    let place = examined.place;
-    let rows = examined.rows;
-    if number != 0 {
-        return refused(number, place);
-    }
-    let examined_shape = examine_shape(shape, old_range(f));
-    let shape_number = examined_shape.number;
-    let shape_place = examined_shape.place;
-    let entries = examined_shape.entries;
-    if shape_number != 0 {
-        return refused(shape_number, shape_place);
-    }
+    let rows = examine(table, old_range(f))?;
+    let entries = examine_shape(shape, old_range(f))?;
     convert_tested(table, rows, shape, entries, f, list, new_table, new_shape)
 }
