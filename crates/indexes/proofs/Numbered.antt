@@ -1,5 +1,5 @@
 -- Rows are alike exactly where their types have one number. Assumes nothing.
-use Prim.Native.Nat.{ℕ, ◌*◌, ◌≤◌, ◌<◌}
+use Prim.Native.Nat.{ℕ, ◌<◌}
 use native.Mathlib.Omega.{arith}
 use mathlib.Core.Path.{◌≡◌, sym, ◌∙◌, ap}
 use mathlib.Core.List.{List, [], map}
@@ -12,15 +12,13 @@ use Rattle.paper.specs.Tables.{row_types, types, type_number}
 use Rattle.paper.proofs.Lists.{get_d_has}
 use Rattle.paper.proofs.Tables.{step, length-ways, has-distinct, number_same}
 use Rattle.paper.proofs.Calls.{count-rows}
-use Rattle.octets.specs.Served.{most_levels}
 use Rattle.tables.proofs.Rows.{rec}
 use Rattle.tables.proofs.Laws.{dewey-length}
 use Rattle.types.specs.Types.{kinds}
 use Rattle.types.proofs.Listed.{map_at}
 use Rattle.closest.specs.Runs.{SoundRows, LevelsOf, Levelled}
 use Rattle.closest.proofs.Nodes.{row-level, length-kinds}
-use Rattle.indexes.specs.Last.{Shallow}
-use Rattle.indexes.specs.Labels.{LabelLists, LabelRows, Alike, Numbers}
+use Rattle.indexes.specs.Labels.{LabelLists, Alike, Numbers}
 use Rattle.indexes.proofs.Labelled.{way_long}
 
 module _ (f : Format) (n : ℕ) (t levels : List ℕ) (sound : SoundRows f n t) (ls : LevelsOf f n t levels) where
@@ -39,13 +37,6 @@ module _ (f : Format) (n : ℕ) (t levels : List ℕ) (sound : SoundRows f n t) 
     typed = record { sound = sound.sound; rows_n = sound.rows_n; listed = take_all n (kinds rs) (omega (arith, length-kinds f t, sound.rows_n)) };
     level-is = ls.level-is;
   }
-
-  pub shallow : f.levels ≤ most_levels → n ≤ length levels → Shallow n levels
-  shallow le long = record { few = sound.few; long = long; shallow = λ i lt. omega (arith, ls.level_most i lt) }
-
-  pub label_rows : f.levels ≤ most_levels → n ≤ length levels → (labels : List ℕ) → most_levels * n ≤ length labels → LabelRows n levels labels
-  label_rows le long labels room =
-      record { few = sound.few; levels_long = long; labels_long = room; shallow = λ i lt. omega (arith, ls.level_most i lt) }
 
   -- a row's type is as long as its level
   long : (i : ℕ) → i < n → length (get_or ws i []) ≡ get_or levels i 0

@@ -24,7 +24,7 @@ first_unlisted-requires c =
 
 pub returns-in-Some-first_unlisted : goal.returns-in-Some-first_unlisted
 returns-in-Some-first_unlisted c =
-    let row = row-place _ _ _ _ _ _ _ _ c.requires _ _ c.row_bytes-w.ensures c.in-Some-first_unlisted.ensures in
+    let row = row-place _ _ _ _ c.args.new_table.now c.args.new_shape.now _ _ c.requires _ _ c.row_bytes-w.ensures c.in-Some-first_unlisted.ensures in
     refused-row _ _ _ _ _ _ _ _ c.requires c.in_default.ensures c.in-Some-first_unlisted.row row
 
 pub first_unlisted-requires-2 : goal.first_unlisted-requires-2
@@ -35,20 +35,20 @@ first_unlisted-requires-2 c =
 
 pub returns-in-Some-first_unlisted-2 : goal.returns-in-Some-first_unlisted-2
 returns-in-Some-first_unlisted-2 c =
-    let row = row-place _ _ _ _ _ _ _ _ c.requires _ _ c.row_bytes-w.ensures c.in_default-first_unlisted.ensures in
-    let entry = entry_place _ _ _ _ _ _ _ _ c.requires _ _ c.entry_bytes-v.ensures c.in-Some-first_unlisted-2.ensures in
+    let row = row-place _ _ _ _ c.args.new_table.now c.args.new_shape.now _ _ c.requires _ _ c.row_bytes-w.ensures c.in_default-first_unlisted.ensures in
+    let entry = entry_place _ _ _ _ c.args.new_table.now c.args.new_shape.now _ _ c.requires _ _ c.entry_bytes-v.ensures c.in-Some-first_unlisted-2.ensures in
     refused-entry _ _ _ _ _ _ _ _ c.requires c.in_default.ensures row c.in-Some-first_unlisted-2.entry entry
 
 pub returns-then-new_table-table : goal.returns-then-new_table-table
 returns-then-new_table-table c =
-    let row = row-place _ _ _ _ _ _ _ _ c.requires _ _ c.row_bytes-w.ensures c.in_default-first_unlisted.ensures in
-    let entry = entry_place _ _ _ _ _ _ _ _ c.requires _ _ c.entry_bytes-v.ensures c.in_default-first_unlisted-2.ensures in
+    let row = row-place _ _ _ _ c.args.new_table.now c.args.new_shape.now _ _ c.requires _ _ c.row_bytes-w.ensures c.in_default-first_unlisted.ensures in
+    let entry = entry_place _ _ _ _ c.args.new_table.now c.args.new_shape.now _ _ c.requires _ _ c.entry_bytes-v.ensures c.in_default-first_unlisted-2.ensures in
     refused-table _ _ _ _ _ _ _ _ c.requires c.in_default.ensures row entry c.if-new_table-table.true
 
 pub returns-then-new_shape-shape : goal.returns-then-new_shape-shape
 returns-then-new_shape-shape c =
-    let row = row-place _ _ _ _ _ _ _ _ c.requires _ _ c.row_bytes-w.ensures c.in_default-first_unlisted.ensures in
-    let entry = entry_place _ _ _ _ _ _ _ _ c.requires _ _ c.entry_bytes-v.ensures c.in_default-first_unlisted-2.ensures in
+    let row = row-place _ _ _ _ c.args.new_table.now c.args.new_shape.now _ _ c.requires _ _ c.row_bytes-w.ensures c.in_default-first_unlisted.ensures in
+    let entry = entry_place _ _ _ _ c.args.new_table.now c.args.new_shape.now _ _ c.requires _ _ c.entry_bytes-v.ensures c.in_default-first_unlisted-2.ensures in
     refused-shape _ _ _ _ _ _ _ _ c.requires c.in_default.ensures row entry c.if-new_shape-shape.true
 
 pub put_records-requires : goal.put_records-requires
@@ -67,7 +67,7 @@ put_records-requires-2 c =
 
 pub returns : goal.returns
 returns c =
-    let row = row-place _ _ _ _ _ _ _ _ c.requires _ _ c.row_bytes-w.ensures c.in_default-first_unlisted.ensures in
-    let entry = entry_place _ _ _ _ _ _ _ _ c.requires _ _ c.entry_bytes-v.ensures c.in_default-first_unlisted-2.ensures in
+    let row = row-place _ _ _ _ c.args.new_table.now c.args.new_shape.now _ _ c.requires _ _ c.row_bytes-w.ensures c.in_default-first_unlisted.ensures in
+    let entry = entry_place _ _ _ _ c.args.new_table.now c.args.new_shape.now _ _ c.requires _ _ c.entry_bytes-v.ensures c.in_default-first_unlisted-2.ensures in
     accepted _ _ _ _ _ _ _ _ c.requires c.in_default.ensures row entry c.if-new_table-table.false c.if-new_shape-shape.false _ _
     c.row_bytes-w.ensures c.entry_bytes-v.ensures _ _ c.put_records.ensures c.put_records-2.ensures
