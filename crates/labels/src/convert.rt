@@ -17,7 +17,7 @@ use shapes::tests::examine_shape;
 use tables::table::examine;
 
 // What converting counts: the rows and the entries.
-#[derive(Clone, Copy, Drop, Debug, PartialEq, Eq)]
+#[derive(Clone, Copy, Drop)]
 pub struct Converted {
     pub rows: usize,
     pub entries: usize,
