@@ -14,6 +14,10 @@ use Rattle.paper.proofs.Calls.{bind_given, refuse-given, given-same}
 use Rattle.paper.proofs.Lists.{map_append, map-take}
 use Rattle.adorned.specs.Told.{told, placed, no_summary, Says, adorn_figures}
 use Rattle.adorned.specs.Lent.{adorned_types}
+use Rattle.std.specs.Prelude.{Ok, Err}
+use Rattle.paper.specs.Refusals.{refusal_number, refusal_place}
+use Rattle.paper.specs.declared.refusal.Refusal.{Refusal}
+use Rattle.paper.proofs.Refusals.{numbered}
 use Rattle.adorned.specs.declared.Adorned.{Adorned}
 use Rattle.adorned.specs.declared.TypeSummary.{TypeSummary}
 use Rattle.adorned.proofs.Fronts.{front}
@@ -43,25 +47,44 @@ placed_few xs e = omega (arith, sym (length-append xs (replicate (most_types - l
 pub record Answered (lent : ℕ) (before : List Summary) (a : Answer (List Summary)) (r : Adorned) : Type 0 where
   pub in_lent : r.count ≤ lent
   pub in_placed : r.count ≤ most_types
-  pub reply-is : record { number = r.number; place = r.place; rest = r.count } ≡ reply 0 (a >>= (λ (xs : List Summary). given (length xs)))
+  pub reply-is : record { number = 0; place = 0; rest = r.count } ≡ reply 0 (a >>= (λ (xs : List Summary). given (length xs)))
   pub left_is : front r.count (map told r.summaries) before ≡ after before a
 
-answered : (lent : ℕ) (before : List Summary) (a : Answer (List Summary)) (r : Adorned) → ((xs : List Summary) → a ≡ given xs → length xs ≤ lent) → length r.summaries ≡ most_types → Says (reply [] a) r → Answered lent before a r
+answered : (lent : ℕ) (before : List Summary) (a : Answer (List Summary)) (r : Adorned) → ((xs : List Summary) → a ≡ given xs → length xs ≤ lent) → length r.summaries ≡ most_types → Says (reply [] a) (Ok r) → Answered lent before a r
 answered lent before (refused k p) r few many s = record {
-  in_lent = subst (λ (n : ℕ). n ≤ lent) (sym s.count-is) (omega arith);
-  in_placed = subst (λ (n : ℕ). n ≤ most_types) (sym s.count-is) (omega arith);
-  reply-is = λ i. record { number = s.number_is i; place = s.place_is i; rest = s.count-is i };
-  left_is = ap (λ (n : ℕ). front n (map told r.summaries) before) s.count-is;
+  in_lent = subst (λ (n : ℕ). n ≤ lent) (sym s.given_is.0) (omega arith);
+  in_placed = subst (λ (n : ℕ). n ≤ most_types) (sym s.given_is.0) (omega arith);
+  reply-is = λ i. record { number = s.number_is i; place = s.place_is i; rest = s.given_is.0 i };
+  left_is = ap (λ (n : ℕ). front n (map told r.summaries) before) s.given_is.0;
 }
 answered lent before (given xs) r few many s = record {
-  in_lent = subst (λ (n : ℕ). n ≤ lent) (sym s.count-is) (few xs refl);
-  in_placed = subst (λ (n : ℕ). n ≤ most_types) (sym s.count-is) (placed_few xs (ap length (sym s.summaries_are) ∙ length-map r.summaries told ∙ many));
-  reply-is = λ i. record { number = s.number_is i; place = s.place_is i; rest = s.count-is i };
-  left_is = ap₂ (λ (n : ℕ) (l : List Summary). front n l before) s.count-is s.summaries_are ∙ ap (λ (l : List Summary). l ++ drop (length xs) before) (take-append_seam xs (replicate (most_types - length xs) no_summary));
+  in_lent = subst (λ (n : ℕ). n ≤ lent) (sym s.given_is.0) (few xs refl);
+  in_placed = subst (λ (n : ℕ). n ≤ most_types) (sym s.given_is.0) (placed_few xs (ap length (sym s.given_is.1) ∙ length-map r.summaries told ∙ many));
+  reply-is = λ i. record { number = s.number_is i; place = s.place_is i; rest = s.given_is.0 i };
+  left_is = ap₂ (λ (n : ℕ) (l : List Summary). front n l before) s.given_is.0 s.given_is.1 ∙ ap (λ (l : List Summary). l ++ drop (length xs) before) (take-append_seam xs (replicate (most_types - length xs) no_summary));
 }
 
+-- a refusal is the answer's
+answered_refusal : (a : Answer (List Summary)) (e : Refusal) → Says (reply [] a) (Err e) → a ≡ refused (refusal_number e) (refusal_place e)
+answered_refusal (refused k p) e s = ap₂ {C = Answer (List Summary)} (λ n q. refused n q) (sym s.number_is) (sym s.place_is)
+answered_refusal (given xs) e s = absurd (numbered e s.number_is)
+
+-- what is to be shown of a refusal and the summaries that were lent, in the terms of the call
+module _ (f : Format) (t : List ℕ) (ys : List TypeSummary) (e : Refusal) (s : Says (adorn_figures f t (length ys)) (Err e)) where
+  refusal : adorning f t (length (map told ys)) ≡ refused (refusal_number e) (refusal_place e)
+  unfolding adorn_figures
+  refusal = ap (adorning f t) (length-map ys told) ∙ answered_refusal (adorning f t (length ys)) e s
+
+  pub refusal_answered : adorned_types (Err e) ≡ (adorn f t (map told ys)).reply
+  unfolding adorn
+  refusal_answered = sym (ap (λ (a : Answer (List Summary)). reply 0 (a >>= (λ (xs : List Summary). given (length xs)))) refusal)
+
+  pub all_left : map told ys ≡ (adorn f t (map told ys)).summaries
+  unfolding adorn
+  all_left = sym (ap (after (map told ys)) refusal)
+
 -- what is to be shown of an answer r and the summaries that were lent, in the terms of the call
-module _ (f : Format) (t : List ℕ) (ys : List TypeSummary) (r : Adorned) (many : length r.summaries ≡ most_types) (s : Says (adorn_figures f t (length ys)) r) where
+module _ (f : Format) (t : List ℕ) (ys : List TypeSummary) (r : Adorned) (many : length r.summaries ≡ most_types) (s : Says (adorn_figures f t (length ys)) (Ok r)) where
   abbrev a : Answer (List Summary)
   a = adorning f t (length ys)
 
@@ -75,7 +98,7 @@ module _ (f : Format) (t : List ℕ) (ys : List TypeSummary) (r : Adorned) (many
   pub fits_placed : r.count ≤ most_types
   fits_placed = all.in_placed
 
-  pub answer : adorned_types record { number = r.number; place = r.place; types = r.count } ≡ (adorn f t (map told ys)).reply
+  pub answer : adorned_types (Ok r.count) ≡ (adorn f t (map told ys)).reply
   unfolding adorn
   answer = all.reply-is ∙ ap (λ (n : ℕ). reply 0 (adorning f t n >>= (λ (xs : List Summary). given (length xs)))) (sym (length-map ys told))
 

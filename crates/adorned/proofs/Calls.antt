@@ -12,10 +12,12 @@ use Rattle.paper.specs.Tables.{Row, rows, types}
 use Rattle.paper.specs.Adorned.{Summary, adorned}
 use Rattle.paper.specs.Calls.{Answer, refused, given, ◌>>=◌, refuse, Reply, reply, tests1_4, adorning}
 use Rattle.adorned.specs.Told.{adorn_figures, Says}
+use Rattle.std.specs.Prelude.{Result}
+use Rattle.paper.specs.declared.refusal.Refusal.{Refusal}
 use Rattle.adorned.specs.declared.Adorned.{Adorned}
 use Rattle.adorned.proofs.All.{adorned-length}
 
-module _ (f : Format) (t : List ℕ) (lent : ℕ) (r : Adorned) where
+module _ (f : Format) (t : List ℕ) (lent : ℕ) (r : Result Adorned Refusal) where
   -- the answer, once the call is known to answer so
   says : (a : Reply (List Summary)) → adorn_figures f t lent ≡ a → Says a r → Says (adorn_figures f t lent) r
   says a e s = subst (λ (x : Reply (List Summary)). Says x r) (sym e) s

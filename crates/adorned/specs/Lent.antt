@@ -1,13 +1,14 @@
 -- What adorning answers and leaves, in the paper's terms. Assumes nothing.
-use Rattle.std.specs.Prelude.{ℕ}
+use Rattle.std.specs.Prelude.{ℕ, Result}
 use Rattle.paper.specs.Adorned.{Summary}
 use Rattle.paper.specs.Calls.{Reply}
 use Rattle.adorned.specs.declared.TypeSummary.{TypeSummary}
-use Rattle.adorned.specs.declared.lent.AdornedTypes.{AdornedTypes}
+use Rattle.paper.specs.Refusals.{counted}
+use Rattle.paper.specs.declared.refusal.Refusal.{Refusal}
 
 -- number, place, count of types
-abbrev pub adorned_types : AdornedTypes → Reply ℕ
-adorned_types r = record { number = r.number; place = r.place; rest = r.types }
+abbrev pub adorned_types : Result ℕ Refusal → Reply ℕ
+adorned_types r = counted r
 
 -- a summary
 abbrev pub told : TypeSummary → Summary

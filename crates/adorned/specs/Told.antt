@@ -1,11 +1,13 @@
 -- What is found out of a table, in the paper's terms. Assumes nothing.
-use Rattle.std.specs.Prelude.{ℕ, ◌-◌, ◌<◌, ◌≡◌, List, [], ◌++◌, map, length, get_or, replicate}
+use Rattle.std.specs.Prelude.{ℕ, ◌-◌, ◌<◌, ◌≡◌, List, [], ◌++◌, map, length, get_or, replicate, Result, IfOk}
 use Rattle.paper.specs.Format.{Format, most_types}
 use Rattle.paper.specs.Tables as Tables
 use Rattle.paper.specs.Tables.{Row, types}
 use Rattle.paper.specs.Closeness.{nodes}
 use Rattle.paper.specs.Adorned.{Summary, summary, adorned}
 use Rattle.paper.specs.Calls.{Reply, reply, adorning}
+use Rattle.paper.specs.Refusals.{number_in, place_in}
+use Rattle.paper.specs.declared.refusal.Refusal.{Refusal}
 use Rattle.types.specs.Types.{Told}
 use Rattle.closest.specs.Node.{Typed}
 use Rattle.closest.specs.Rows.{RowsIn}
@@ -44,11 +46,10 @@ abbrev pub SummariesOf : RowsRead → List ℕ → List ℕ → List TypeSummary
 SummariesOf read levels ks all = (f : Format) (t : List ℕ) → RowsIn f t read levels ks → map told all ≡ placed (adorned (Tables.rows f t))
 
 -- the answer is this reply: its number, its place, the count of its summaries, and the summaries
-pub record Says (a : Reply (List Summary)) (r : Adorned) : Type 0 where
-  pub number_is : r.number ≡ a.number
-  pub place_is : r.place ≡ a.place
-  pub count-is : r.count ≡ length a.rest
-  pub summaries_are : map told r.summaries ≡ placed a.rest
+pub record Says (a : Reply (List Summary)) (r : Result Adorned Refusal) : Type 0 where
+  pub number_is : number_in r ≡ a.number
+  pub place_is : place_in r ≡ a.place
+  pub given_is : IfOk r (λ x. (x.count ≡ length a.rest) × (map told x.summaries ≡ placed a.rest))
 
 -- what adorning finds out where so many places are lent
 unfoldable pub adorn_figures : Format → List ℕ → ℕ → Reply (List Summary)

@@ -3,15 +3,6 @@ ghost use Rattle.std.specs.Prelude.{◌≡◌, ◌++◌, ◌≤◌, length, take
 
 use crate::TypeSummary;
 
-// What adorning answers: a refusal, or the count of types.
-#[repr(C)]
-#[derive(Clone, Copy, Drop)]
-pub struct AdornedTypes {
-    pub number: usize,
-    pub place: usize,
-    pub types: usize,
-}
-
 // Stores the first summaries, so many, at the front of what was lent.
 pub fn store(summaries: &mut [TypeSummary], all: [TypeSummary; 64], count: usize)
     requires { (count ≤ length summaries.old) × (count ≤ 64) }

@@ -13,6 +13,7 @@ ghost use Rattle.adorned.specs.Told.{told, no_summary, placed, Summarises, Summa
 
 use closest::rows::{RowsRead, read_rows};
 use paper::Format;
+use paper::refusal::Refusal;
 
 // The least and the greatest of some counts.
 #[derive(Clone, Copy, Drop)]
@@ -124,11 +125,9 @@ fn summary_of(
     }
 }
 
-// What adorning finds out of a table: a refusal, or one summary a type; places past the count hold zeros.
+// What adorning finds out of a table: one summary a type; places past the count hold zeros.
 #[derive(Clone, Copy, Drop)]
 pub struct Adorned {
-    pub number: usize,
-    pub place: usize,
     pub count: usize,
     pub summaries: [TypeSummary; 64],
 }
@@ -169,40 +168,18 @@ fn summaries_of(read: RowsRead, levels: &[u8], types: &[u8]) -> [TypeSummary; 64
     all
 }
 
-fn refused(number: usize, place: usize) -> Adorned
-    ensures { Says (record { number = number; place = place; rest = [] }) result }
-{
-    let none = no_summaries();
-    Adorned {
-        number: number,
-        place: place,
-        count: 0,
-        summaries: none,
-    }
-}
-
 // Refusals 1 to 4, then 10 where fewer places are lent than the table has types, or the summaries of its types.
-pub fn adorn_by_value(table: &[u8], f: Format, lent: usize) -> Adorned
+pub fn adorn_by_value(table: &[u8], f: Format, lent: usize) -> Result<Adorned, Refusal>
     requires { Served f }
     ensures { Says (adorn_figures f table.now lent) result }
 {
     let mut levels = [0u8; 1024];
     let mut types = [0u8; 1024];
-    let read = read_rows(table, f, &mut levels, &mut types);
-    let number = read.number;
-    let place = read.place;
-    if number != 0 {
-        return refused(number, place);
-    }
+    let read = read_rows(table, f, &mut levels, &mut types)?;
     let count = read.count;
     if lent < count {
-        return refused(10, 0);
+        return Err(Refusal::TooFewSummaries);
     }
-    let all = summaries_of(read, &levels, &types);
-    Adorned {
-        number: 0,
-        place: 0,
-        count: count,
-        summaries: all,
-    }
+    let summaries = summaries_of(read, &levels, &types);
+    Ok(Adorned { count, summaries })
 }

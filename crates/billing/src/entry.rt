@@ -19,12 +19,10 @@ fn spells(word: &[u8], n: usize) -> bool
 pub fn entry_of(word: &[u8]) -> usize
     ensures { EntryOf word.now result }
 {
-    let mut e = 0;
-    while e < 16 {
+    for e in 0..16 {
         if spells(word, e) {
             return e;
         }
-        e += 1;
     }
     16
 }

@@ -42,9 +42,9 @@ pub fn put_taken(
     if number != 0 {
         let bytes = put_not_counted(out, name, number, place);
         return Billed {
-            number: number,
+            number,
             total: after,
-            bytes: bytes,
+            bytes,
         };
     }
     let shown = after.shown - total.shown;
@@ -53,6 +53,6 @@ pub fn put_taken(
     Billed {
         number: 0,
         total: after,
-        bytes: bytes,
+        bytes,
     }
 }

@@ -23,10 +23,10 @@ pub struct Ask {
 }
 
 fn width_of(levels: usize) -> Width {
-    if levels == 8 {
-        return Width::Eight;
+    match levels {
+        8 => Width::Eight,
+        _ => Width::Six,
     }
-    Width::Six
 }
 
 // The bytes of so many records of a table, and of those past them.
@@ -39,10 +39,10 @@ fn bytes_lent(width: Width, records: usize, past: usize) -> usize
 
 // The number that says the width to C: 255 stands for the greatest there is.
 fn number_said(levels: u8) -> u32 {
-    if levels == 255 {
-        return u32::MAX;
+    match levels {
+        255 => u32::MAX,
+        _ => u32::from(levels),
     }
-    levels as u32
 }
 
 pub fn asked(head: &[u8]) -> Ask

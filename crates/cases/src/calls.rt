@@ -31,17 +31,13 @@ pub fn print_read(width: Width, t: &[u8]) {
     let end = places_asked(width, t);
     let mut rows = 0;
     let mut sum = 1;
-    let mut at = 0;
-    while at < end {
+    for at in 0..end {
         let row = handed(width, t, at);
         let after = handed_next(width, t, at);
         sum = folded_bytes(folded(sum, row.len()), row);
         sum = folded_bytes(folded(sum, after.len()), after);
-        if row.len() == 0 {
-            at += 1;
-        } else {
+        if row.len() != 0 {
             rows += 1;
-            at += 1;
         }
     }
     number(b": ", rows);
@@ -93,29 +89,23 @@ fn print_changed(k: usize, s: TypeSummary, mark: usize) {
 }
 
 // Prints the first summaries, as many as were counted, and of the others those that lost their mark.
-fn print_summaries(all: [TypeSummary; 65], count: usize, mark: usize) {
-    let mut k = 0;
-    while k < 65 {
-        let s = all[k];
+fn print_summaries(all: &[TypeSummary], count: usize, mark: usize) {
+    for (k, s) in all.iter().enumerate() {
         if k < count {
             io::write_all(OUTPUT, b";");
-            print_figures(s);
-            k += 1;
+            print_figures(*s);
         } else {
-            print_changed(k, s, mark);
-            k += 1;
+            print_changed(k, *s, mark);
         }
     }
 }
 
 pub fn print_adorned(said: u32, t: &[u8], lent: usize) {
     let a = adorn_marked(said, t, lent);
-    let count = a.types;
-    let all = a.summaries;
     number(b": ", a.number);
     number(b" ", a.place);
-    number(b" ", count);
-    print_summaries(all, count, 7777);
+    number(b" ", a.types);
+    print_summaries(&a.summaries, a.types, 7777);
 }
 
 // An entry's four numbers, unless all of them are 0.
@@ -130,10 +120,8 @@ fn print_entry(entry: usize, first: usize, second: usize, third: usize, fourth: 
 }
 
 fn print_entries(first: [usize; 16], second: [usize; 16], third: [usize; 16], fourth: [usize; 16]) {
-    let mut e = 0;
-    while e < 16 {
+    for e in 0..16 {
         print_entry(e, first[e], second[e], third[e], fourth[e]);
-        e += 1;
     }
 }
 
@@ -144,15 +132,11 @@ pub fn print_judgement(j: JudgedNumbers) {
     number(b" ", j.first);
     number(b" ", j.second);
     number(b" ", j.none_apart);
-    let least_children = j.least_children;
-    let greatest_children = j.greatest_children;
-    let least_parents = j.least_parents;
-    let greatest_parents = j.greatest_parents;
     print_entries(
-        least_children,
-        greatest_children,
-        least_parents,
-        greatest_parents,
+        j.least_children,
+        j.greatest_children,
+        j.least_parents,
+        j.greatest_parents,
     );
 }
 
@@ -161,13 +145,9 @@ pub fn print_judged(said: u32, t: &[u8], s: &[u8]) {
 }
 
 pub fn print_summary(r: Summary) {
-    let lines = r.lines;
-    let rows = r.rows;
-    let copies = r.copies;
-    let different = r.different;
     number(b": ", r.number);
     number(b" ", r.place);
-    print_entries(lines, rows, copies, different);
+    print_entries(r.lines, r.rows, r.copies, r.different);
 }
 
 pub fn print_summarised(said: u32, t: &[u8], s: &[u8]) {

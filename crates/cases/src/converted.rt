@@ -7,11 +7,8 @@ use tables::row::smaller;
 
 // The numbers of a list of pairs, two bytes each, as far as there is room.
 pub fn read_numbers(list: &[u8], numbers: &mut [u16]) {
-    let end = smaller(list.len() / 2, numbers.len());
-    let mut i = 0;
-    while i < end {
-        numbers[i] = octets::word(list, 2 * i) as u16;
-        i += 1;
+    for (number, pair) in numbers.iter_mut().zip(list.chunks_exact(2)) {
+        *number = octets::word(pair, 0) as u16;
     }
 }
 

@@ -22,21 +22,14 @@ fn row_before(i: usize) -> u16 {
 }
 
 fn fill_rows(list: &mut [u16]) {
-    let mut i = 0;
-    while i < list.len() {
-        list[i] = row_before(i);
-        i += 1;
+    for (i, row) in list.iter_mut().enumerate() {
+        *row = row_before(i);
     }
 }
 
 fn folded_rows(sum: usize, list: &[u16]) -> usize {
-    let mut sum = sum;
-    let mut i = 0;
-    while i < list.len() {
-        sum = folded(sum, octets::wide16(list[i]));
-        i += 1;
-    }
-    sum
+    list.iter()
+        .fold(sum, |sum, row| folded(sum, octets::wide16(*row)))
 }
 
 // The sum is over all places that were lent, those for the last descendants first.

@@ -40,33 +40,20 @@ fn place_before(i: usize) -> u32 {
 }
 
 pub fn fill_bytes(b: &mut [u8]) {
-    let mut i = 0;
-    while i < b.len() {
-        b[i] = byte_before(i);
-        i += 1;
+    for (i, byte) in b.iter_mut().enumerate() {
+        *byte = byte_before(i);
     }
 }
 
 pub fn fill_places(p: &mut [u32]) {
-    let mut i = 0;
-    while i < p.len() {
-        p[i] = place_before(i);
-        i += 1;
+    for (i, place) in p.iter_mut().enumerate() {
+        *place = place_before(i);
     }
-}
-
-fn wide(n: u32) -> usize {
-    n as usize
 }
 
 fn folded_places(sum: usize, p: &[u32]) -> usize {
-    let mut sum = sum;
-    let mut i = 0;
-    while i < p.len() {
-        sum = folded(sum, wide(p[i]));
-        i += 1;
-    }
-    sum
+    p.iter()
+        .fold(sum, |sum, place| folded(sum, *place as usize))
 }
 
 // A part of a line: what a reshape answers, and the sum over all that was lent, the bytes first.

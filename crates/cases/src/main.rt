@@ -53,11 +53,12 @@ pub mod moved;
 pub mod print;
 pub mod trees;
 
-ghost use Rattle.std.specs.Prelude.{◌≡◌, ◌+◌, ◌<◌, length};
+ghost use Rattle.std.specs.Prelude.{◌≡◌, length};
 
 use ask::{Ask, asked};
 use moved::File;
 use print::OUTPUT;
+use tables::row::smaller;
 
 // The channel of standard input.
 const INPUT: i32 = 0;
@@ -99,45 +100,40 @@ fn print_case(
 }
 
 // Puts bytes into what is held, from a place on, as far as it reaches.
-fn put(held: &mut [u8], at: usize, part: &[u8])
-    requires { (at < 65536) × (length part.now < 256) }
-{
-    let mut i = 0;
-    while i < part.len() && at + i < held.len() {
-        held[at + i] = part[i];
-        i += 1;
+fn put(held: &mut [u8], at: usize, part: &[u8]) {
+    if at < held.len() {
+        let n = smaller(part.len(), held.len() - at);
+        held[at..at + n].copy_from_slice(&part[..n]);
     }
 }
 
-// Reads a change and makes it, or answers false where the input has none left.
-fn read_change(held: &mut [u8]) -> bool {
+// Fills what is lent from the input, if that has as many bytes left.
+fn fill(lent: &mut [u8]) -> Option<()> {
+    let n = lent.len();
+    (io::read_full(INPUT, lent) == n).then_some(())
+}
+
+// Reads a change and makes it, if the input has one left.
+fn make_change(held: &mut [u8]) -> Option<()> {
     let mut head = [0u8; 3];
-    if io::read_full(INPUT, &mut head) < 3 {
-        return false;
-    }
+    fill(&mut head)?;
     let at = octets::word(&head, 0);
     let n = octets::wide(head[2]);
     let mut part = [0u8; 255];
-    if io::read_full(INPUT, &mut part[..n]) < n {
-        return false;
-    }
+    fill(&mut part[..n])?;
     put(held, at, &part[..n]);
-    true
+    Some(())
 }
 
-fn read_changes(held: &mut [u8], count: usize) -> bool {
-    let mut i = 0;
-    while i < count {
-        if !read_change(held) {
-            return false;
-        }
-        i += 1;
+fn make_changes(held: &mut [u8], count: usize) -> Option<()> {
+    for _ in 0..count {
+        make_change(held)?;
     }
-    true
+    Some(())
 }
 
-// Prints a case's line, or answers false where it does not fit what is held.
-fn print_held(held: &[u8], head: &[u8]) -> bool
+// Prints a case's line, if it fits what is held.
+fn print_held(held: &[u8], head: &[u8]) -> Option<()>
     requires { length head.now ≡ 40 }
 {
     let n = octets::word(head, 2);
@@ -147,43 +143,33 @@ fn print_held(held: &[u8], head: &[u8]) -> bool
     let last = 49152 + octets::word(head, 20);
     let listed = 57344 + 2 * octets::word(head, 27);
     let read = 61440 + octets::word(head, 29);
-    let most = held.len();
-    if most < n || most < end || most < lasts || most < nexts {
-        return false;
-    }
-    if most < last || most < listed || most < read {
-        return false;
-    }
     print_case(
-        &held[0..n],
-        &held[32768..end],
-        &held[40960..lasts],
-        &held[45056..nexts],
-        &held[49152..last],
-        &held[57344..listed],
-        &held[61440..read],
+        held.get(..n)?,
+        held.get(32768..end)?,
+        held.get(40960..lasts)?,
+        held.get(45056..nexts)?,
+        held.get(49152..last)?,
+        held.get(57344..listed)?,
+        held.get(61440..read)?,
         asked(head),
     );
-    true
+    Some(())
 }
 
-// Reads a case and prints its line, or answers false where there is no whole one that fits what is held.
-fn run_case(held: &mut [u8]) -> bool {
+// Reads a case and prints its line, if there is a whole one that fits what is held.
+fn run_case(held: &mut [u8]) -> Option<()> {
     let mut head = [0u8; 40];
-    if io::read_full(INPUT, &mut head) < 40 {
-        return false;
-    }
-    if !read_changes(held, octets::word(&head, 0)) {
-        return false;
-    }
+    fill(&mut head)?;
+    make_changes(held, octets::word(&head, 0))?;
     print_held(held, &head)
 }
 
-// A proved loop has to end, and nothing says that the input does: the loop counts down from a number that no run uses up.
+// A proved loop has to end, and nothing says that the input does: the loop goes as far as a number that no run uses up.
 fn main() {
     let mut held = io::large_buffer();
-    let mut cases = u64::MAX;
-    while cases > 0 && run_case(&mut held) {
-        cases -= 1;
+    for _ in 0..u64::MAX {
+        if run_case(&mut held).is_none() {
+            break;
+        }
     }
 }

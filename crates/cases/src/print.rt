@@ -11,10 +11,8 @@ pub fn number(before: &[u8], n: usize) {
 
 // Prints bytes in hexadecimal digits, two a byte.
 pub fn hexadecimal(b: &[u8]) {
-    let mut i = 0;
-    while i < b.len() {
-        io::print_hex(OUTPUT, octets::wide(b[i]) as u64, 2);
-        i += 1;
+    for byte in b {
+        io::print_hex(OUTPUT, u64::from(*byte), 2);
     }
 }
 
@@ -24,13 +22,8 @@ pub fn folded(sum: usize, x: usize) -> usize {
 }
 
 pub fn folded_bytes(sum: usize, b: &[u8]) -> usize {
-    let mut sum = sum;
-    let mut i = 0;
-    while i < b.len() {
-        sum = folded(sum, octets::wide(b[i]));
-        i += 1;
-    }
-    sum
+    b.iter()
+        .fold(sum, |sum, byte| folded(sum, octets::wide(*byte)))
 }
 
 // A part of a line: what a call answers, and the sum over all that it was lent.

@@ -7,7 +7,7 @@ ghost use Rattle.io.specs.Counts.{IsPrefixLen};
 
 use names::put::{put_byte, put_bytes};
 use printing::folder::print_screen;
-use printing::out::{OUTPUT, print};
+use printing::out::{OUTPUT, Written, print};
 use printing::screen::screen_named;
 use printing::typed_tree::typed_word;
 use printing::words;
@@ -18,10 +18,7 @@ use std::rt::Files;
 fn put_path(path: &mut [u8; 128], folder: &[u8], file: &[u8]) -> usize
     ensures { IsPrefixLen result path.new }
 {
-    if 64 < folder.len() {
-        return 0;
-    }
-    if 32 < file.len() {
+    if 64 < folder.len() || 32 < file.len() {
         return 0;
     }
     let slash = put_bytes(path, 0, folder);
@@ -33,10 +30,9 @@ fn put_path(path: &mut [u8; 128], folder: &[u8], file: &[u8]) -> usize
 fn print_screen_of(
     rt: &(impl Files + Print),
     folder: &[u8],
-    text: &[u8],
-    given: bool,
+    text: Option<&[u8]>,
     word: &[u8],
-) -> bool {
+) -> Written {
     let mut source8 = [0u8; 128];
     let mut shape8 = [0u8; 128];
     let mut source = [0u8; 128];
@@ -55,32 +51,18 @@ fn print_screen_of(
         &shape[..m],
         &tree[..k],
         text,
-        given,
         screen_named(word),
         OUTPUT,
     )
 }
 
-fn print_in(
-    rt: &(impl Files + Print),
-    folder: &[u8],
-    text: &[u8],
-    given: bool,
-    word: &[u8],
-) -> bool {
-    if print_screen_of(rt, folder, text, given, word) {
-        return true;
-    }
-    print(rt, b"not whole\n")
+fn print_in(rt: &(impl Files + Print), folder: &[u8], text: Option<&[u8]>, word: &[u8]) -> Written {
+    print_screen_of(rt, folder, text, word).or_else(|_| print(rt, b"not whole\n"))
 }
 
-fn print_heading(rt: &impl Print, folder: &[u8], end: &[u8]) -> bool {
-    if !print(rt, b"== ") {
-        return false;
-    }
-    if !print(rt, folder) {
-        return false;
-    }
+fn print_heading(rt: &impl Print, folder: &[u8], end: &[u8]) -> Written {
+    print(rt, b"== ")?;
+    print(rt, folder)?;
     print(rt, end)
 }
 
@@ -88,82 +70,58 @@ fn print_headed(
     rt: &(impl Files + Print),
     heading: &[u8],
     folder: &[u8],
-    text: &[u8],
-    given: bool,
+    text: Option<&[u8]>,
     word: &[u8],
-) -> bool {
-    if !print(rt, heading) {
-        return false;
-    }
-    print_in(rt, folder, text, given, word)
+) -> Written {
+    print(rt, heading)?;
+    print_in(rt, folder, text, word)
 }
 
 // The screens that show the wanted tree, but the printed one.
-fn print_answers(rt: &(impl Files + Print), folder: &[u8], text: &[u8], given: bool) -> bool {
-    if !print_in(rt, folder, text, given, b"") {
-        return false;
-    }
-    if !print_headed(rt, b"-- report\n", folder, text, given, b"listing") {
-        return false;
-    }
-    print_headed(rt, b"-- summary\n", folder, text, given, b"summary")
+fn print_answers(rt: &(impl Files + Print), folder: &[u8], text: Option<&[u8]>) -> Written {
+    print_in(rt, folder, text, b"")?;
+    print_headed(rt, b"-- report\n", folder, text, b"listing")?;
+    print_headed(rt, b"-- summary\n", folder, text, b"summary")
 }
 
-fn print_folder(rt: &(impl Files + Print), folder: &[u8]) -> bool {
-    if !print_heading(rt, folder, b"\n") {
-        return false;
-    }
-    if !print_answers(rt, folder, b"", false) {
-        return false;
-    }
-    if !print_headed(rt, b"-- types\n", folder, b"", false, b"types") {
-        return false;
-    }
-    print_headed(rt, b"-- print\n", folder, b"", false, b"print")
+fn print_folder(rt: &(impl Files + Print), folder: &[u8]) -> Written {
+    print_heading(rt, folder, b"\n")?;
+    print_answers(rt, folder, None)?;
+    print_headed(rt, b"-- types\n", folder, None, b"types")?;
+    print_headed(rt, b"-- print\n", folder, None, b"print")
 }
 
 // The types are those of the table alone, and take no tree.
-fn print_typed(rt: &(impl Files + Print), folder: &[u8], text: &[u8]) -> bool {
-    if !print_heading(rt, folder, b", typed\n") {
-        return false;
-    }
-    if !print_answers(rt, folder, text, true) {
-        return false;
-    }
-    print_headed(rt, b"-- print\n", folder, text, true, b"print")
+fn print_typed(rt: &(impl Files + Print), folder: &[u8], text: &[u8]) -> Written {
+    print_heading(rt, folder, b", typed\n")?;
+    print_answers(rt, folder, Some(text))?;
+    print_headed(rt, b"-- print\n", folder, Some(text), b"print")
 }
 
-fn print_typed_in(rt: &(impl Env + Files + Print), i: usize, text: &[u8]) -> bool {
+fn print_typed_in(rt: &(impl Env + Files + Print), i: usize, text: &[u8]) -> Written {
     let mut name = [0u8; 64];
     let n = words::word(rt, i, &mut name);
     print_typed(rt, &name[..n], text)
 }
 
-// Has the text a space before all else?
-fn is_tree(text: &[u8]) -> bool {
-    if text.len() == 0 {
-        return false;
+// The folder that word i names, or where it is a tree, which has a space before all else, the folder that the word before it names.
+fn print_named(rt: &(impl Env + Files + Print), before: usize, i: usize) -> Written {
+    let mut text = [0u8; 1537];
+    let n = typed_word(rt, i, &mut text).unwrap_or(0);
+    match &text[..n] {
+        tree @ [b' ', ..] => print_typed_in(rt, before, tree),
+        folder => print_folder(rt, folder),
     }
-    text[0] == b' '
 }
 
-// The folder that word i names, or where it is a tree the folder that the word before it names.
-fn print_named(rt: &(impl Env + Files + Print), before: usize, i: usize) -> bool {
-    let mut text = [0u8; 1537];
-    let n = typed_word(rt, i, &mut text);
-    if is_tree(&text[..n]) {
-        return print_typed_in(rt, before, &text[..n]);
+// Every folder and every tree that the words behind the program's own name.
+fn print_all(rt: &(impl Env + Files + Print)) -> Written {
+    for i in 1..words::count(rt) {
+        print_named(rt, i - 1, i)?;
     }
-    print_folder(rt, &text[..n])
+    Ok(())
 }
 
 fn main(rt: HostRuntime) {
-    let names = words::count(&rt);
-    let mut i = 1;
-    while i < names {
-        if !print_named(&rt, i - 1, i) {
-            return;
-        }
-        i += 1;
-    }
+    let _ = print_all(&rt);
 }

@@ -4,14 +4,9 @@
 
 mod months;
 
-use crate::months::{mark_from, print_months};
+use crate::months::print_months;
 use printing::words;
 
 fn main(rt: HostRuntime) {
-    let last = words::count(&rt);
-    if last < 1 {
-        return;
-    }
-    let mark = mark_from(&rt, 1, last);
-    print_months(&rt, mark, last);
+    let _ = print_months(&rt, words::count(&rt));
 }

@@ -6,9 +6,8 @@
 #![tactic(auto)]
 
 use billing::history::print_worded;
-use check::same;
 use printing::folder::print_screen;
-use printing::out::report_whole;
+use printing::out::{Written, report_whole};
 use printing::screen::screen_named;
 use printing::typed_tree::typed_word;
 use printing::words;
@@ -19,9 +18,9 @@ use std::rt::Files;
 const REPORT: i32 = 3;
 
 // The screen of the working directory that the word asks for.
-fn print_here(rt: &(impl Env + Files + Print), word: &[u8]) -> bool {
+fn print_here(rt: &(impl Env + Files + Print), word: &[u8]) -> Written {
     let mut text = [0u8; 1537];
-    let m = typed_word(rt, 2, &mut text);
+    let typed = typed_word(rt, 2, &mut text);
     print_screen(
         rt,
         b"source8.tab",
@@ -29,19 +28,18 @@ fn print_here(rt: &(impl Env + Files + Print), word: &[u8]) -> bool {
         b"source.tab",
         b"shape.tab",
         b"shape.txt",
-        &text[..m],
-        words::is_given(rt, 2),
+        typed.map(|n| &text[..n]),
         screen_named(word),
         REPORT,
     )
 }
 
 // What the word asks for: the total of a history, or a screen.
-fn print_asked(rt: &(impl Env + Files + Print), word: &[u8]) -> bool {
-    if same(word, b"total") {
-        return print_worded(rt, 2, words::count(rt), REPORT);
+fn print_asked(rt: &(impl Env + Files + Print), word: &[u8]) -> Written {
+    match word {
+        b"total" => print_worded(rt, 2, words::count(rt), REPORT),
+        _ => print_here(rt, word),
     }
-    print_here(rt, word)
 }
 
 fn main(rt: HostRuntime) {
@@ -51,7 +49,7 @@ fn main(rt: HostRuntime) {
     if n == 0 {
         return;
     }
-    if done {
-        report_whole(REPORT, done);
+    if done.is_ok() {
+        let _ = report_whole(REPORT, done);
     }
 }

@@ -1,8 +1,6 @@
 -- The walk over the pairs of entries: to the first that earns a 2 or a 3, and to the first that earns a 2. Assumes nothing.
 use Prim.Native.Nat.{ℕ, ◌+◌, ◌-◌, ◌≤◌, ◌<◌}
-use native.Mathlib.Omega.{arith}
 use mathlib.Core.Path.{◌≡◌, refl, sym, ◌∙◌, ap}
-use mathlib.Core.Logic.{⊎_elim}
 use mathlib.Core.Bool.{Bool, true, false}
 use mathlib.Core.List.{List, [], ◌∷◌, ◌++◌}
 use lib.Dec.{eqb}
@@ -10,8 +8,6 @@ use borrow.Author.Tests.{eq-eqb, ne_eqb}
 use Rattle.paper.specs.Lists.{join_map, count}
 use Rattle.paper.specs.Verdict
 use Rattle.paper.specs.Verdict.{apart, over_pairs}
-use types.Run.{OneOf}
-use denote.Enum.Declared.{tag_of}
 use Rattle.shapes.specs.declared.shape.Shape.{Shape}
 use Rattle.judging.specs.Pairs.{Found, earned, fault, apart_by, apart_pair}
 use Rattle.judging.specs.declared.pairs.Path.{Path}
@@ -19,7 +15,6 @@ use Rattle.shapes.specs.Edges.{meeting_of}
 use Rattle.judging.specs.Told.{told}
 use Rattle.judging.specs.declared.verdict.Verdict.{Verdict}
 use Rattle.judging.specs.declared.verdict.Verdict.TheVariants.{Kept, Missing, Apart, Unsure}
-use Rattle.judging.specs.contracts.verdict.Verdict.{the_type}
 use Rattle.judging.proofs.Counting.{count-from, count-done}
 
 -- ---- the walk, for whatever is asked of the list of faults
@@ -39,9 +34,6 @@ module _ {B : Type 0} (ask : List Verdict.Verdict → B) (g : ℕ → ℕ → Li
   -- it is the answer for these
   abbrev pub Inner : ℕ → ℕ → Type 0
   Inner e f = ask (from e f) ≡ answer
-
-  pub outer_start : Outer 0
-  outer_start = let q : n - 0 ≡ n = omega arith in ap (λ k. ask (over_pairs g (count 0 k))) q
 
   pub inner_start : (e : ℕ) → e < n → Outer e → Inner e (e + 1)
   inner_start e lt o = ap (λ c. ask (over_pairs g c)) (sym (count-from e n lt)) ∙ o
@@ -65,9 +57,6 @@ module _ {B : Type 0} (ask : List Verdict.Verdict → B) (g : ℕ → ℕ → Li
       unfolding later
       inner_found v q = next (v ∷ []) q
 
-    pub inner_end : n ≤ f → Outer (e + 1)
-    inner_end past = ap (λ c. ask (join_map (g e) c ++ over_pairs g (count (e + 1) (n - (e + 1))))) (sym (count-done f n past)) ∙ i
-
   pub outer_end : (e : ℕ) → n ≤ e → Outer e → ask [] ≡ answer
   outer_end e past o = ap (λ c. ask (over_pairs g c)) (sym (count-done e n past)) ∙ o
 
@@ -84,11 +73,11 @@ module _ (s : Shape) (ways : List ℕ) (full : List Bool) (meetings : List ℕ) 
   pub faults_none : v ≡ Kept → faults_of s ways full meetings e f ≡ []
   faults_none q = faults_told ∙ ap (λ v. fault (told v)) q
 
-  pub faults_one : OneOf (1 ∷ 2 ∷ 3 ∷ []) (tag_of the_type v) → faults_of s ways full meetings e f ≡ told v ∷ []
+  pub faults_one : (v ≡ Kept → ⊥) → faults_of s ways full meetings e f ≡ told v ∷ []
   faults_one h = faults_told ∙ one v h
     where
-      one : (v : Verdict) → OneOf (1 ∷ 2 ∷ 3 ∷ []) (tag_of the_type v) → fault (told v) ≡ told v ∷ []
-      one Kept h = ⊎_elim (λ x. absurd (omega arith)) (⊎_elim (λ x. absurd (omega arith)) (λ x. absurd (omega arith))) h
+      one : (v : Verdict) → (v ≡ Kept → ⊥) → fault (told v) ≡ told v ∷ []
+      one Kept h = absurd (h refl)
       one (Missing e r) h = refl
       one (Apart e f) h = refl
       one (Unsure e f) h = refl

@@ -18,18 +18,10 @@ use Rattle.closest.proofs.Starts.{start_begins, start_on, start_le, start_grows}
 use Rattle.shapes.specs.Shape.{type_of, parent_of, edge_of}
 use Rattle.shapes.specs.declared.shape.Shape.{Shape}
 use Rattle.partners.specs.Closest.{is_lone, lone_rows, alone_rows, Bound}
-use Rattle.partners.specs.Edges.{Before, MetBefore}
+use Rattle.partners.specs.Edges.{MetBefore}
 use Rattle.partners.proofs.Rows.{Apart, joined_some, apart_none, begins-within, on_above}
 use Rattle.judging.specs.Lone.{lone_from, candidate_from, OnInRun}
 use Rattle.judging.proofs.Counting.{count-from, count-done}
-
--- nothing stands before row 0
-pub before_none : (levels types : List ℕ) (rows l a b : ℕ) → Before levels types rows l a b 0
-before_none levels types rows l a b = record {
-  inside = omega arith;
-  new_run = λ lt. absurd (not-suc-le-zero lt);
-  none = λ i lt. absurd (not-suc-le-zero lt);
-}
 
 -- ---- where candidates are looked for
 pub candidate_new : (levels : List ℕ) (bound r j : ℕ) → get_or levels r 0 ≤ bound → candidate_from levels bound r j ≡ r
@@ -188,9 +180,6 @@ module _ (levels types : List ℕ) (rows : ℕ) (s : Shape) where
       ap (rows_from c) (sym (add-one r)) ∙ row_passed c r (omega arith) (none r (omega arith))
       ∙ rows_passed c r (omega arith) (λ i lt. none i (omega arith))
 
-  rows-done : (c r : ℕ) → rows ≤ r → rows_from c r ≡ entries_from (c + 1)
-  rows-done c r le = ap (λ rs. first_from c (keep (is_alone c) rs)) (count-done r rows le)
-
 -- ---- the walk over the rows of an entry
 -- what the search asks for entry c: its two types, and the bound of the runs
 pub record Asked (levels types : List ℕ) (rows : ℕ) (s : Shape) (c own other bound : ℕ) : Type 0 where
@@ -280,7 +269,3 @@ module _ {levels types : List ℕ} {rows : ℕ} {s : Shape} {c own other bound :
       -- no candidate is left: the row decides
       pub done-alone : rows ≤ k → missing c r ≡ answer
       done-alone le = row_found levels types rows s c r lr (rw (is_own, apart_none levels types rows l b r (cs.none le))) ∙ w.rest
-
-  -- the rows of the entry are done
-  pub done_all : (j r : ℕ) → rows ≤ r → Done levels types rows s c j r answer → entries_from levels types rows s (c + 1) ≡ answer
-  done_all j r le w = sym (rows-done levels types rows s c r le) ∙ w.rest

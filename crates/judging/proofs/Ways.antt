@@ -4,12 +4,11 @@ use native.Mathlib.Numerals.{add-one}
 use native.Mathlib.Omega.{arith}
 use mathlib.Core.Path.{◌≡◌, refl, sym, ◌∙◌, ap, ap₂}
 use mathlib.Core.Bool.{Bool, true, false, ◌&&◌, ◌||◌}
-use mathlib.Core.List.{List, [], ◌∷◌}
+use mathlib.Core.List.{List, ◌∷◌}
 use lib.Dec.{eqb}
-use lib.ListN.{length, get_or, drop, length-take, length-drop, drop_of_length-le}
+use lib.ListN.{length, get_or, drop, length-take, length-drop}
 use lib.Seq.{drop-cons}
 use borrow.Author.Tests.{eq-eqb, ne_eqb}
-use Rattle.paper.specs.Format.{most_entries}
 use Rattle.paper.specs.Closeness.{shared}
 use Rattle.tables.proofs.Laws.{shared_step, shared-stop, shared_end}
 use Rattle.shapes.specs.Shape.{level_of}
@@ -44,13 +43,6 @@ module _ {ways : List ℕ} {e n : ℕ} (fits : WayFits ways e n) where
   way_from i lt =
       drop-cons (way_at ways e n) i 0 (omega (arith, way_long))
       ∙ ap₂ {C = List ℕ} (λ c j. c ∷ drop j (way_at ways e n)) (way_place ways e n i lt) (sym (add-one i))
-
-  -- a way holds entries
-  pub way_entry : (i c : ℕ) → i < n → c ≡ get_or ways (way_places * e + i) 0 → c < most_entries
-  way_entry i c lt q = rw q (fits.inside i lt)
-
-  pub way_done : (i : ℕ) → n ≤ i → drop i (way_at ways e n) ≡ []
-  way_done i past = drop_of_length-le (way_at ways e n) {i = i} (omega (arith, way_long))
 
 -- ---- what two ways share
 -- the first k places of two ways are alike
@@ -119,10 +111,3 @@ module _ {ways : List ℕ} {e n : ℕ} (fits : WayFits ways e n) (edges : List �
 
         pub sure_step : get_or full c false ≡ true → sure_on edges full l (drop i (way_at ways e n)) ≡ sure_on edges full l (drop (i + 1) (way_at ways e n))
         sure_step h = sure_here ∙ rw (ne_eqb v l other, h) refl
-
-  module _ (past : n ≤ i) where
-    pub lowest_end : (b : ℕ) → lowest b (levels_on edges (drop i (way_at ways e n))) ≡ b
-    lowest_end b = ap (λ w. lowest b (levels_on edges w)) (way_done fits i past)
-
-    pub sure_end : (full : List Bool) (l : ℕ) → sure_on edges full l (drop i (way_at ways e n)) ≡ false
-    sure_end full l = ap (sure_on edges full l) (way_done fits i past)

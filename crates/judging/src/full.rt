@@ -6,10 +6,8 @@ pub fn full_edges(least: [usize; 16]) -> [bool; 16]
     ensures { FullBy least result }
 {
     let mut full = [true; 16];
-    let mut c = 1;
-    while c < 16 {
+    for c in 1..16 {
         full[c] = least[c] != 0;
-        c += 1;
     }
     full
 }

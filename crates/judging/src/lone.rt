@@ -18,10 +18,7 @@ fn candidate_from(levels: &[u8], bound: u8, r: usize, j: usize) -> usize
     requires { r < length levels.now }
     ensures { result ≡ candidate_from levels.now bound r j }
 {
-    if levels[r] <= bound {
-        return r;
-    }
-    j
+    if levels[r] <= bound { r } else { j }
 }
 
 // The row after row j in its run, `rows` where there is none.
@@ -30,13 +27,11 @@ fn next_in_run(levels: &[u8], rows: usize, bound: u8, j: usize) -> usize
     ensures { OnInRun levels.now rows bound j result }
 {
     let k = j + 1;
-    if rows <= k {
-        return rows;
+    if k < rows && bound < levels[k] {
+        k
+    } else {
+        rows
     }
-    if levels[k] <= bound {
-        return rows;
-    }
-    k
 }
 
 // The first row without a partner, by entry, then by row: from entry `met` on, whose rows before row `from` all have one.
@@ -51,31 +46,25 @@ pub fn first_lone(
     requires { Rows rows levels.now types.now × Sized shape × AllMet levels.now types.now rows shape met from }
     ensures { told result ≡ first_or kept (lone_from levels.now types.now rows shape 1 (shape.entries - 1)) }
 {
-    let mut lone = Verdict::Kept;
-    let mut c = met;
-    let mut r = from;
-    'entries: while c < shape.entries {
+    let mut first = from;
+    for c in met..shape.entries {
         let own = shape.types[c];
         let other = shape.types[octets::wide(shape.parents[c])];
         let bound = run_bound(shape.edges[c]);
-        let mut j = r;
-        'rows: while r < rows {
+        let mut j = first;
+        'rows: for r in first..rows {
             j = candidate_from(levels, bound, r, j);
             if types[r] == own {
                 while j < rows {
                     if types[j] == other {
-                        r += 1;
                         continue 'rows;
                     }
                     j = next_in_run(levels, rows, bound, j);
                 }
-                lone = Verdict::Missing { entry: c, row: r };
-                break 'entries;
+                return Verdict::Missing { entry: c, row: r };
             }
-            r += 1;
         }
-        r = 0;
-        c += 1;
+        first = 0;
     }
-    lone
+    Verdict::Kept
 }

@@ -16,12 +16,10 @@ fn shared_way(levels: [u8; 16], ways: &[u8], e: usize, f: usize) -> usize
     ensures { result ≡ shared (way_of levels ways.now e) (way_of levels ways.now f) }
 {
     let most = tables::row::smaller(octets::wide(levels[e]), octets::wide(levels[f]));
-    let mut k = 0;
-    while k < most {
+    for k in 0..most {
         if ways[8 * e + k] != ways[8 * f + k] {
             return k;
         }
-        k += 1;
     }
     most
 }
@@ -40,11 +38,9 @@ fn least_level(
 {
     let size = octets::wide(levels[e]);
     let mut least = b;
-    let mut i = k;
-    while i < size {
+    for i in k..size {
         let c = octets::wide(ways[8 * e + i]);
         least = tables::row::smaller(least, octets::wide(edges[c]));
-        i += 1;
     }
     least
 }
@@ -63,8 +59,7 @@ fn sure_down(
     ensures { result ≡ sure_on edges full l (drop k (way_of levels ways.now e)) }
 {
     let size = octets::wide(levels[e]);
-    let mut i = k;
-    while i < size {
+    for i in k..size {
         let c = octets::wide(ways[8 * e + i]);
         if octets::wide(edges[c]) == l {
             return true;
@@ -72,7 +67,6 @@ fn sure_down(
         if !full[c] {
             return false;
         }
-        i += 1;
     }
     false
 }
@@ -92,10 +86,7 @@ pub fn walk_path(levels: [u8; 16], edges: [u8; 16], ways: &[u8], e: usize, f: us
     let k = shared_way(levels, ways, e, f);
     let down = least_level(levels, edges, ways, e, k, 255);
     let least = least_level(levels, edges, ways, f, k, down);
-    Path {
-        shared: k,
-        least: least,
-    }
+    Path { shared: k, least }
 }
 
 // What the pair of entries e and f earns, whose types meet at l.
@@ -114,20 +105,19 @@ fn pair_verdict(
     let path = walk_path(levels, edges, ways, e, f);
     let k = path.shared;
     if path.least != l {
-        return Verdict::Apart {
+        Verdict::Apart {
             first: e,
             second: f,
-        };
-    }
-    if sure_down(levels, edges, full, ways, e, k, l) {
-        return Verdict::Kept;
-    }
-    if sure_down(levels, edges, full, ways, f, k, l) {
-        return Verdict::Kept;
-    }
-    Verdict::Unsure {
-        first: e,
-        second: f,
+        }
+    } else if sure_down(levels, edges, full, ways, e, k, l)
+        || sure_down(levels, edges, full, ways, f, k, l)
+    {
+        Verdict::Kept
+    } else {
+        Verdict::Unsure {
+            first: e,
+            second: f,
+        }
     }
 }
 
@@ -136,25 +126,15 @@ pub fn first_fault(shape: Shape, ways: &[u8], full: [bool; 16], meetings: &[u8])
     requires { Room shape ways.now × (length meetings.now ≡ 1024) }
     ensures { told result ≡ first_fault shape ways.now full meetings.now }
 {
-    let levels = shape.levels;
-    let edges = shape.edges;
-    let types = shape.types;
-    let mut e = 0;
-    while e < shape.entries {
-        let mut f = e + 1;
-        while f < shape.entries {
-            let l = meeting(meetings, types, e, f);
-            let v = pair_verdict(levels, edges, full, ways, l, e, f);
+    for e in 0..shape.entries {
+        for f in e + 1..shape.entries {
+            let l = meeting(meetings, shape.types, e, f);
+            let v = pair_verdict(shape.levels, shape.edges, full, ways, l, e, f);
             match v {
-                Verdict::Kept => {
-                    f += 1;
-                }
-                _ => {
-                    return v;
-                }
+                Verdict::Kept => {}
+                _ => return v,
             }
         }
-        e += 1;
     }
     Verdict::Kept
 }

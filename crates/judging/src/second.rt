@@ -13,21 +13,13 @@ pub fn none_apart(shape: Shape, ways: &[u8], meetings: &[u8]) -> bool
     requires { Room shape ways.now × (length meetings.now ≡ 1024) }
     ensures { result ≡ no_pair_apart shape ways.now meetings.now }
 {
-    let levels = shape.levels;
-    let edges = shape.edges;
-    let types = shape.types;
-    let mut e = 0;
-    while e < shape.entries {
-        let mut f = e + 1;
-        while f < shape.entries {
-            let l = meeting(meetings, types, e, f);
-            let path = walk_path(levels, edges, ways, e, f);
-            if path.least != l {
+    for e in 0..shape.entries {
+        for f in e + 1..shape.entries {
+            let path = walk_path(shape.levels, shape.edges, ways, e, f);
+            if path.least != meeting(meetings, shape.types, e, f) {
                 return false;
             }
-            f += 1;
         }
-        e += 1;
     }
     true
 }
@@ -40,7 +32,7 @@ pub fn none_apart_beside(fault: Verdict, shape: Shape, ways: &[u8], meetings: &[
 {
     match fault {
         Verdict::Kept => true,
-        Verdict::Apart { first, second } => false,
+        Verdict::Apart { .. } => false,
         _ => none_apart(shape, ways, meetings),
     }
 }

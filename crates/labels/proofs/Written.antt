@@ -13,15 +13,14 @@ use Rattle.octets.proofs.Writing.{all_left, part_written}
 
 module _ (ps : List Pair) (i n : ℕ) where
   -- What stands before the labels, what they become, and what stands past them are written as one.
-  pub record_written : (r : List ℕ) → i + 2 * n ≤ length r → (at : ℕ) (l l₁ l₂ l₃ : List ℕ) → l₁ ≡ sets l at (take (i - 0) (drop 0 r))
+  pub record_written : (r : List ℕ) → i + 2 * n ≤ length r → (at : ℕ) (l l₁ l₂ l₃ : List ℕ) → l₁ ≡ sets l at (take i r)
       → l₂ ≡ sets l₁ (at + i) (join_map (bytes 2) (map (converted ps) (words n r i)))
       → l₃ ≡ sets l₂ (at + (i + 2 * n)) (take (length r - (i + 2 * n)) (drop (i + 2 * n) r)) → l₃ ≡ sets l at (record_with ps i n r)
   record_written r le at l l₁ l₂ l₃ e₁ e₂ e₃ =
       let labels = join_map (bytes 2) (map (converted ps) (words n r i)) in
       let back = drop (i + 2 * n) r in
-      let none : i - 0 ≡ i = omega arith in
       let w₁ = part_written (all_left l at (record_with ps i n r) at refl) (take i r) (labels ++ back) (parts ps i n r le) l₁
-      (e₁ ∙ ap (λ k. sets l at (take k r)) none) (at + i) (omega (arith, front ps i n r le)) in
+      e₁ (at + i) (omega (arith, front ps i n r le)) in
       let w₂ = part_written w₁ labels back refl l₂ e₂ (at + (i + 2 * n)) (omega (arith, middle ps i n r le)) in
       e₃ ∙ ap (sets l₂ (at + (i + 2 * n))) (take_all (length r - (i + 2 * n)) back (omega (arith, length-drop (i + 2 * n) r))) ∙ w₂.asked
 

@@ -11,9 +11,10 @@ pub fn number_at(list: &[u16], k: usize) -> usize
     ensures { (result ≡ get_or list.now k 0) × (result < 65536) }
 {
     if k < list.len() {
-        return octets::wide16(list[k]);
+        octets::wide16(list[k])
+    } else {
+        0
     }
-    0
 }
 
 // The number of pairs, half pairs too.

@@ -78,9 +78,9 @@ fn put_record(r: &[u8], from: usize, n: usize, list: &[u16], new: &mut [u8], at:
     ensures { new.new ≡ sets new.old at (record_with (pairs list.now) from n r.now) }
 {
     let past = from + 2 * n;
-    octets::put(new, at, &r[0..from]);
+    octets::put(new, at, &r[..from]);
     put_labels(r, from, n, list, new, at + from);
-    octets::put(new, at + past, &r[past..r.len()]);
+    octets::put(new, at + past, &r[past..]);
 }
 
 // The records of w bytes, one after the other, at the front of new.

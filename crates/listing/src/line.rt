@@ -19,10 +19,8 @@ fn put_further(out: &mut [u8], at: usize, held: &[u8], n: usize) -> usize
     ensures { Put out.old at (followed dot (map decimal (words n held.now 6))) out.new result × (result ≤ at + 147) }
 {
     let mut p = at;
-    let mut k = 0;
-    while k < n {
+    for k in 0..n {
         p = put_after(out, p, b'.', octets::word(held, 6 + 2 * k));
-        k += 1;
     }
     p
 }

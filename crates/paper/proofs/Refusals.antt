@@ -4,9 +4,9 @@ use native.Mathlib.Omega.{arith}
 use mathlib.Core.Path.{◌≡◌, refl, sym, ◌∙◌, ap, ap₂}
 use mathlib.Core.Bool.{Bool, true, false}
 use lib.Dec.{eqb}
-use Rattle.std.specs.Prelude.{Ok, Err, Result}
+use Rattle.std.specs.Prelude.{Ok, Err, Result, IfOk}
 use Rattle.paper.specs.Calls.{Reply}
-use Rattle.paper.specs.Refusals.{refusal_number, refusal_place, reply_of, number_in, place_in}
+use Rattle.paper.specs.Refusals.{refusal_number, refusal_place, reply_of, counted, number_in, place_in}
 use Rattle.paper.specs.declared.refusal.Refusal.{Refusal}
 use Rattle.paper.specs.declared.refusal.Refusal.TheVariants.{TooManyRows, HalfRow, BadRow, TooManyTypes, NoShape, BadEntry, TypeMissing, TooManyLines}
 use Rattle.paper.specs.declared.refusal.Refusal.TheVariants.{TooFewSummaries, NoSuchRow, NoTree, NoOneType, IndexTooShort, WrongIndex, NoSuchEntry}
@@ -102,3 +102,12 @@ same_in (Ok a) (Ok b) n p = refl
 same_in (Ok a) (Err d) n p = absurd (numbered d (sym n))
 same_in (Err d) (Ok b) n p = absurd (numbered d n)
 same_in (Err d) (Err c) n p = ap Err (same_refusal d c n p)
+
+-- Two answers that count, and are one reply, are one.
+pub count_same : (r s : Result ℕ Refusal) → counted r ≡ counted s → r ≡ s
+count_same r s e = same_answer 0 (λ n. n) (λ n m q. q) r s e
+
+-- What a reply of number 0 promises of its count holds of what is given.
+pub if_ok : (r : Result ℕ Refusal) (P : ℕ → Type 0) → ((counted r).number ≡ 0 → P (counted r).rest) → IfOk r P
+if_ok (Ok n) P h = h refl
+if_ok (Err e) P h = tt

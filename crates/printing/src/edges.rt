@@ -2,7 +2,7 @@
 ghost use Rattle.std.specs.Prelude.{◌<◌};
 ghost use Rattle.octets.specs.Served.{Served};
 
-use crate::out::{NOWHERE, print, report};
+use crate::out::{Written, print, report};
 use crate::width::{entry_at, last_label, served};
 use facts::edge::put_edge_named;
 use listing::edge::{Edge, put_edge};
@@ -21,7 +21,7 @@ fn edge_of(j: Judged, e: usize) -> Edge
     }
 }
 
-fn print_edge(rt: &impl Print, e: usize, edge: Edge) -> bool {
+fn print_edge(rt: &impl Print, e: usize, edge: Edge) -> Written {
     let mut text = [0u8; 256];
     let n = put_edge(&mut text, e, edge);
     print(rt, &text[..n])
@@ -31,58 +31,62 @@ fn print_edge(rt: &impl Print, e: usize, edge: Edge) -> bool {
 fn level_at(shape: &[u8], f: Format, e: usize) -> usize
     requires { Served f }
 {
-    let entry = entry_at(shape, f, e);
-    if entry.len() == 0 {
-        return 0;
+    match entry_at(shape, f, e) {
+        Some(entry) => octets::wide(entry[0]),
+        None => 0,
     }
-    octets::wide(entry[0])
 }
 
-// The parent of an entry of a shape that keeps the rules: the nearest earlier entry of a lower level.
+// The last label of an entry, 0 past the last.
+fn label_at(shape: &[u8], f: Format, e: usize) -> usize
+    requires { Served f }
+{
+    match entry_at(shape, f, e) {
+        Some(entry) => last_label(entry, f),
+        None => 0,
+    }
+}
+
+// The parent of an entry of a shape that keeps the rules: the nearest earlier entry of a lower level. The first entry has none, and is its own.
 fn parent_at(shape: &[u8], f: Format, e: usize) -> usize
     requires { Served f }
 {
     let level = level_at(shape, f, e);
-    let mut p = e;
-    while 0 < p {
-        p -= 1;
-        if level_at(shape, f, p) < level {
-            return p;
-        }
-    }
-    p
+    (0..e)
+        .rev()
+        .find(|p| level_at(shape, f, *p) < level)
+        .unwrap_or(0)
 }
 
-// Reports an edge with the names of the last labels of its parent entry's type and of its own; nothing where there is no channel.
-fn report_edge(channel: i32, shape: &[u8], f: Format, e: usize, edge: Edge) -> bool
+// Reports an edge with the names of the last labels of its parent entry's type and of its own.
+fn report_edge(channel: i32, shape: &[u8], f: Format, e: usize, edge: Edge) -> Written
     requires { Served f }
 {
-    if channel == NOWHERE {
-        return true;
-    }
-    let over = last_label(entry_at(shape, f, parent_at(shape, f, e)), f);
-    let own = last_label(entry_at(shape, f, e), f);
+    let over = label_at(shape, f, parent_at(shape, f, e));
+    let own = label_at(shape, f, e);
     let mut text = [0u8; 256];
     let n = put_edge_named(&mut text, e, over, own, edge);
     report(channel, &text[..n])
 }
 
-// Prints the line of each edge of a shape that was judged, and reports it with names.
-pub fn print_edges(rt: &impl Print, width: Width, shape: &[u8], j: Judged, channel: i32) -> bool {
+// Prints the line of each edge of a shape that was judged, and reports it with names where there is a channel.
+pub fn print_edges(
+    rt: &impl Print,
+    width: Width,
+    shape: &[u8],
+    j: Judged,
+    channel: Option<i32>,
+) -> Written {
     let f = served(width);
-    let mut e = 1;
-    while e < 16 {
-        if entry_at(shape, f, e).len() == 0 {
-            return true;
+    for e in 1..16 {
+        if entry_at(shape, f, e).is_none() {
+            break;
         }
         let edge = edge_of(j, e);
-        if !print_edge(rt, e, edge) {
-            return false;
+        print_edge(rt, e, edge)?;
+        if let Some(channel) = channel {
+            report_edge(channel, shape, f, e, edge)?;
         }
-        if !report_edge(channel, shape, f, e, edge) {
-            return false;
-        }
-        e += 1;
     }
-    true
+    Ok(())
 }

@@ -4,13 +4,14 @@ ghost use Rattle.paper.specs.Format.{entry_bytes};
 ghost use Rattle.octets.specs.Served.{Served};
 
 use crate::new_table::print_refused;
-use crate::out::print;
+use crate::out::{Written, print};
 use crate::width::{entry_at, last_label, served};
 use paper::{Format, Width};
 use screens::figures::{Figures, put_figures};
+use silmezga::Summary;
 use tables::row::smaller;
 
-fn print_entry(rt: &impl Print, entry: &[u8], f: Format, e: usize, figures: Figures) -> bool
+fn print_entry(rt: &impl Print, entry: &[u8], f: Format, e: usize, figures: Figures) -> Written
     requires served { Served f }
     requires len { length entry.now ≡ entry_bytes f }
 {
@@ -20,49 +21,29 @@ fn print_entry(rt: &impl Print, entry: &[u8], f: Format, e: usize, figures: Figu
     print(rt, &text[..n])
 }
 
-fn print_entries(
-    rt: &impl Print,
-    shape: &[u8],
-    f: Format,
-    lines: [usize; 16],
-    rows: [usize; 16],
-    copies: [usize; 16],
-    different: [usize; 16],
-) -> bool
+fn print_entries(rt: &impl Print, shape: &[u8], f: Format, s: &Summary) -> Written
     requires { Served f }
 {
-    let w = octets::entry_bytes(f);
-    let mut e = 0;
-    while e < 16 {
-        let entry = entry_at(shape, f, e);
-        if entry.len() != w {
-            return true;
-        }
-        let figures = Figures {
-            lines: lines[e],
-            rows: rows[e],
-            copies: copies[e],
-            different: different[e],
+    for e in 0..16 {
+        let Some(entry) = entry_at(shape, f, e) else {
+            break;
         };
-        if !print_entry(rt, entry, f, e, figures) {
-            return false;
-        }
-        e += 1;
+        let figures = Figures {
+            lines: s.lines[e],
+            rows: s.rows[e],
+            copies: s.copies[e],
+            different: s.different[e],
+        };
+        print_entry(rt, entry, f, e, figures)?;
     }
-    true
+    Ok(())
 }
 
 // Prints the refusal of a summary, or its figures.
-pub fn print_summary(rt: &impl Print, width: Width, table: &[u8], shape: &[u8]) -> bool {
+pub fn print_summary(rt: &impl Print, width: Width, table: &[u8], shape: &[u8]) -> Written {
     let s = silmezga::summarise(width, table, shape);
-    let number = s.number;
-    let place = s.place;
-    if number != 0 {
-        return print_refused(rt, number, place);
+    if s.number != 0 {
+        return print_refused(rt, s.number, s.place);
     }
-    let lines = s.lines;
-    let rows = s.rows;
-    let copies = s.copies;
-    let different = s.different;
-    print_entries(rt, shape, served(width), lines, rows, copies, different)
+    print_entries(rt, shape, served(width), &s)
 }

@@ -1,5 +1,6 @@
 // A screen of a folder, by the names of its files or by its own.
 use crate::files::put_file_name;
+use crate::out::Written;
 use crate::screen::Screen;
 use crate::tape::read_table;
 use crate::wanted::{print_typed, print_wanted};
@@ -15,24 +16,19 @@ pub fn print_screen(
     source: &[u8],
     shape: &[u8],
     tree: &[u8],
-    text: &[u8],
-    given: bool,
+    text: Option<&[u8]>,
     screen: Screen,
     channel: i32,
-) -> bool {
+) -> Written {
     let mut table = [0u8; 28673];
-    let t = read_table(rt, source8, source, &mut table);
-    let n = t.bytes;
-    let width = t.width;
-    if !t.good {
-        return false;
+    let t = read_table(rt, source8, source, &mut table)?;
+    let table = &table[..t.bytes];
+    if let Some(text) = text {
+        return print_typed(rt, t.width, table, text, screen, channel);
     }
-    if given {
-        return print_typed(rt, width, &table[..n], text, screen, channel);
-    }
-    match width {
-        Width::Six => print_wanted(rt, width, &table[..n], shape, tree, screen, channel),
-        Width::Eight => print_wanted(rt, width, &table[..n], shape8, tree, screen, channel),
+    match t.width {
+        Width::Six => print_wanted(rt, t.width, table, shape, tree, screen, channel),
+        Width::Eight => print_wanted(rt, t.width, table, shape8, tree, screen, channel),
     }
 }
 
@@ -40,11 +36,10 @@ pub fn print_screen(
 pub fn print_screen_in(
     rt: &(impl Files + Print),
     folder: &[u8],
-    text: &[u8],
-    given: bool,
+    text: Option<&[u8]>,
     screen: Screen,
     channel: i32,
-) -> bool {
+) -> Written {
     let mut source8 = [0u8; 4096];
     let mut shape8 = [0u8; 4096];
     let mut source = [0u8; 4096];
@@ -63,7 +58,6 @@ pub fn print_screen_in(
         &shape[..d],
         &tree[..e],
         text,
-        given,
         screen,
         channel,
     )

@@ -1,6 +1,6 @@
-// What the program does, as functions that take the names of its files or of its folder: they read, call the library and write. Each answers whether
-// all that it had to write was taken; where a write fails, nothing more is written, and standard error says so. Which texts are written is
-// proved below this crate; what is read and written is the system's, and no theorem speaks of it.
+// What the program does, as functions that take the names of its files or of its folder: they read, call the library and write. Each ends with
+// `Stopped` where not all that it had to write was taken; where a write fails, nothing more is written, and standard error says so. Which texts are
+// written is proved below this crate; what is read and written is the system's, and no theorem speaks of it.
 #![tactic(auto)]
 
 pub mod edges;

@@ -1,77 +1,59 @@
 // What the program reports of a typed tree that is refused: the text, with a mark under the place or the entry at fault.
-use crate::out::{NOWHERE, report};
+use crate::out::{Stopped, Written, report};
 use crate::report::{report_answer, report_at_fault};
 use facts::tree::put_marked;
 use paper::Width;
 
 // Is the byte one of a word?
 fn in_word(b: u8) -> bool {
-    if b == b' ' {
-        return false;
-    }
-    if b == b'[' {
-        return false;
-    }
-    b != b']'
+    !matches!(b, b' ' | b'[' | b']')
 }
 
-// Where word e begins, which names entry e; the text's length where there is none.
-fn word_start(text: &[u8], e: usize) -> usize {
-    let mut left = e;
-    let mut inside = false;
-    let mut i = 0;
-    while i < text.len() {
-        let before = inside;
-        inside = in_word(text[i]);
-        if inside {
-            if !before {
-                if left == 0 {
-                    return i;
-                }
-                left -= 1;
-            }
-        }
-        i += 1;
-    }
-    i
+// Does a word begin at this place?
+fn begins_word(text: &[u8], i: usize) -> bool {
+    let inside = text.get(i).is_some_and(|b| in_word(*b));
+    let before = 0 < i && text.get(i - 1).is_some_and(|b| in_word(*b));
+    inside && !before
+}
+
+// Where word e begins, which names entry e.
+fn word_start(text: &[u8], e: usize) -> Option<usize> {
+    (0..text.len()).filter(|i| begins_word(text, *i)).nth(e)
 }
 
 // The text and a mark at the place; of a text that is too long, that it is.
-fn report_marked(channel: i32, text: &[u8], place: usize) -> bool {
+fn report_marked(channel: i32, text: &[u8], place: usize) -> Written {
     if 1536 < text.len() {
         return report(channel, b"tree: more than 1,536 bytes\n");
     }
     if 1536 < place {
-        return false;
+        return Err(Stopped);
     }
     let mut out = [0u8; 4096];
     let n = put_marked(&mut out, text, place);
     report(channel, &out[..n])
 }
 
-// A refusal of a typed tree or of the table that it is read over, and what it names; nothing where there is no channel.
+// A refusal of a typed tree or of the table that it is read over, and what it names; nothing where there is no channel. A word that is not there is
+// marked behind the text.
 pub fn report_typed(
-    channel: i32,
+    channel: Option<i32>,
     width: Width,
     table: &[u8],
     text: &[u8],
     number: usize,
     place: usize,
-) -> bool {
-    if channel == NOWHERE {
-        return true;
+) -> Written {
+    let Some(channel) = channel else {
+        return Ok(());
+    };
+    report_answer(channel, number, place)?;
+    match number {
+        12 => report_marked(channel, text, place),
+        6 | 13 => {
+            let start = word_start(text, place).unwrap_or(text.len());
+            report_marked(channel, text, start)
+        }
+        _ => report_at_fault(channel, width, table, b"", number, place),
     }
-    if !report_answer(channel, number, place) {
-        return false;
-    }
-    if number == 12 {
-        return report_marked(channel, text, place);
-    }
-    if number == 6 {
-        return report_marked(channel, text, word_start(text, place));
-    }
-    if number == 13 {
-        return report_marked(channel, text, word_start(text, place));
-    }
-    report_at_fault(channel, width, table, b"", number, place)
 }

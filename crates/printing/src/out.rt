@@ -1,5 +1,5 @@
 // Writing. Every answer of a write is looked at.
-ghost use Rattle.std.specs.Prelude.{◌≡◌, true, ◌≤◌, length};
+ghost use Rattle.std.specs.Prelude.{◌≤◌, length, IsOk};
 ghost use Rattle.io.specs.Counts.{IsPrefixLen};
 
 use std::io::{Cursor, Error, Write};
@@ -7,10 +7,14 @@ use std::io::{Cursor, Error, Write};
 // The channel of standard output.
 pub const OUTPUT: i32 = 1;
 
-// No channel, to which nothing is reported.
-pub const NOWHERE: i32 = -1;
-
 const STANDARD_ERROR: i32 = 2;
+
+// Not all was read or taken, and nothing more is written. Where a file or standard output is at fault, standard error has said why.
+#[derive(Clone, Copy, Drop)]
+pub struct Stopped;
+
+// Whether all that there was to write was taken.
+pub type Written = Result<(), Stopped>;
 
 // How long an error's text is without the number that the system gives it, as in " (os error 2)".
 fn without_number(text: &[u8]) -> usize
@@ -36,27 +40,28 @@ pub fn fail(what: &[u8], error: &Error) {
 }
 
 // Writes a text to standard output. Where not all of it is taken, standard error says that what stands there is not whole.
-pub fn print(rt: &impl Print, text: &[u8]) -> bool {
-    match rt.write_all(text) {
-        Ok(()) => true,
-        Err(e) => {
-            fail(
-                b"intake: NOT WHOLE: what was written is cut off, do not use it: standard output",
-                &e,
-            );
-            false
-        }
-    }
+pub fn print(rt: &impl Print, text: &[u8]) -> Written {
+    rt.write_all(text).map_err(|e| {
+        fail(
+            b"intake: NOT WHOLE: what was written is cut off, do not use it: standard output",
+            &e,
+        );
+        Stopped
+    })
 }
 
 // Reports a text on a channel.
-pub fn report(channel: i32, text: &[u8]) -> bool {
-    io::write_all(channel, text)
+pub fn report(channel: i32, text: &[u8]) -> Written {
+    if io::write_all(channel, text) {
+        Ok(())
+    } else {
+        Err(Stopped)
+    }
 }
 
 // Reports that everything was written, which nobody may who has not found it so.
-pub fn report_whole(channel: i32, done: bool) -> bool
-    requires { done ≡ true }
+pub fn report_whole(channel: i32, done: Written) -> Written
+    requires { IsOk done }
 {
     report(channel, b"whole\n")
 }

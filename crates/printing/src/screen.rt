@@ -1,7 +1,6 @@
 // The screens of the program, each of a table and a shape.
 use crate::new_table::print_listing;
-use crate::out::NOWHERE;
-use check::same;
+use crate::out::Written;
 use paper::Width;
 
 // Which screen is asked for.
@@ -16,40 +15,25 @@ pub enum Screen {
 
 // The screen that a word asks for: with none the listing alone, and with a word that is no other screen's the listing with its report.
 pub fn screen_named(word: &[u8]) -> Screen {
-    if word.len() == 0 {
-        return Screen::Listing;
+    match word {
+        b"" => Screen::Listing,
+        b"summary" => Screen::Summary,
+        b"types" => Screen::Types,
+        b"print" => Screen::Printed,
+        _ => Screen::Reported,
     }
-    if same(word, b"summary") {
-        return Screen::Summary;
-    }
-    if same(word, b"types") {
-        return Screen::Types;
-    }
-    if same(word, b"print") {
-        return Screen::Printed;
-    }
-    Screen::Reported
 }
 
 // Does the screen show anything of the wanted tree?
 pub fn shows_tree(screen: Screen) -> bool {
-    match screen {
-        Screen::Listing => true,
-        Screen::Reported => true,
-        Screen::Summary => true,
-        Screen::Types => false,
-        Screen::Printed => true,
-    }
+    !matches!(screen, Screen::Types)
 }
 
-// The channel that a screen is reported on.
-pub fn channel_of(screen: Screen, channel: i32) -> i32 {
+// The channel that a screen is reported on, if it is.
+pub fn channel_of(screen: Screen, channel: i32) -> Option<i32> {
     match screen {
-        Screen::Listing => NOWHERE,
-        Screen::Reported => channel,
-        Screen::Summary => NOWHERE,
-        Screen::Types => NOWHERE,
-        Screen::Printed => NOWHERE,
+        Screen::Reported => Some(channel),
+        _ => None,
     }
 }
 
@@ -61,10 +45,11 @@ pub fn print_of(
     shape: &[u8],
     screen: Screen,
     channel: i32,
-) -> bool {
+) -> Written {
     match screen {
-        Screen::Listing => print_listing(rt, width, table, shape, NOWHERE),
-        Screen::Reported => print_listing(rt, width, table, shape, channel),
+        Screen::Listing | Screen::Reported => {
+            print_listing(rt, width, table, shape, channel_of(screen, channel))
+        }
         Screen::Summary => crate::figures::print_summary(rt, width, table, shape),
         Screen::Types => crate::types_tree::print_types(rt, width, table),
         Screen::Printed => crate::typed_tree::print_shape(rt, width, shape),

@@ -1,54 +1,56 @@
 // The table and the wanted tree of a screen or of a tape: which files they are read from, and how far.
-ghost use Rattle.std.specs.Prelude.{◌≤◌, length};
+ghost use Rattle.std.specs.Prelude.{◌≤◌, length, IfOk, MatchOption, ⊤};
 ghost use Rattle.io.specs.Counts.{IsPrefixLen};
+ghost use Rattle.printing.specs.Wanted.{wanted_bytes};
 
-use crate::files::{FileRead, put_file_name, read_file};
+use crate::files::{put_file_name, read_file};
+use crate::out::Stopped;
 use crate::typed_tree::without_end;
 use paper::Width;
 use std::rt::Files;
 
-// A table that was read: its width, its bytes, and whether reading went well.
+// A table that was read: its width and its bytes.
 #[derive(Clone, Copy, Drop)]
 pub struct Source {
     pub width: Width,
     pub bytes: usize,
-    pub good: bool,
 }
 
-// A wanted tree that was read: whether it is a text or a shape, its bytes, and whether reading went well.
+// A wanted tree that was read, as a shape or as a text: its bytes.
 #[derive(Clone, Copy, Drop)]
-pub struct Wanted {
-    pub typed: bool,
-    pub bytes: usize,
-    pub good: bool,
+pub enum Wanted {
+    Shape(usize),
+    Text(usize),
 }
 
-// Reads a table by the names of its files: the wide one where it opens, else the narrow one. One byte more than a table may have is read, so that one
-// that is too long is refused.
-pub fn read_table(rt: &impl Files, wide: &[u8], narrow: &[u8], table: &mut [u8]) -> Source
+// Reads a table by the names of its files: the wide one where it opens, else the narrow one, and one that does not open counts as empty. One byte
+// more than a table may have is read, so that one that is too long is refused.
+pub fn read_table(
+    rt: &impl Files,
+    wide: &[u8],
+    narrow: &[u8],
+    table: &mut [u8],
+) -> Result<Source, Stopped>
     requires { 28673 ≤ length table.old }
-    ensures { IsPrefixLen result.bytes table.new }
+    ensures { IfOk result (λ t. IsPrefixLen t.bytes table.new) }
 {
-    let eight = read_file(rt, wide, 28673, table);
-    if eight.opened {
-        return Source {
+    if let Some(bytes) = read_file(rt, wide, 28673, table)? {
+        return Ok(Source {
             width: Width::Eight,
-            bytes: eight.bytes,
-            good: eight.good,
-        };
+            bytes,
+        });
     }
-    let six = read_file(rt, narrow, 24577, table);
-    Source {
+    let bytes = read_file(rt, narrow, 24577, table)?.unwrap_or(0);
+    Ok(Source {
         width: Width::Six,
-        bytes: six.bytes,
-        good: six.good,
-    }
+        bytes,
+    })
 }
 
 // Reads the table of a folder.
-pub fn read_source(rt: &impl Files, folder: &[u8], table: &mut [u8]) -> Source
+pub fn read_source(rt: &impl Files, folder: &[u8], table: &mut [u8]) -> Result<Source, Stopped>
     requires { 28673 ≤ length table.old }
-    ensures { IsPrefixLen result.bytes table.new }
+    ensures { IfOk result (λ t. IsPrefixLen t.bytes table.new) }
 {
     let mut wide = [0u8; 4096];
     let mut narrow = [0u8; 4096];
@@ -58,9 +60,14 @@ pub fn read_source(rt: &impl Files, folder: &[u8], table: &mut [u8]) -> Source
 }
 
 // Reads the shape file of a width, of which a byte more than a shape may have is read.
-fn read_shape(rt: &impl Files, width: Width, name: &[u8], shape: &mut [u8]) -> FileRead
+fn read_shape(
+    rt: &impl Files,
+    width: Width,
+    name: &[u8],
+    shape: &mut [u8],
+) -> Result<Option<usize>, Stopped>
     requires { 321 ≤ length shape.old }
-    ensures { IsPrefixLen result.bytes shape.new }
+    ensures { IfOk result (λ o. MatchOption o ⊤ (λ n. IsPrefixLen n shape.new)) }
 {
     match width {
         Width::Six => read_file(rt, name, 257, shape),
@@ -68,17 +75,15 @@ fn read_shape(rt: &impl Files, width: Width, name: &[u8], shape: &mut [u8]) -> F
     }
 }
 
-// Reads the file of a typed tree. It has a byte more than a tree and the end of its line may have, where it is too long.
-fn read_text(rt: &impl Files, name: &[u8], text: &mut [u8]) -> Wanted
+// Reads the file of a typed tree, or an empty shape where it does not open. It has a byte more than a tree and the end of its line may have, where it
+// is too long.
+fn read_text(rt: &impl Files, name: &[u8], text: &mut [u8]) -> Result<Wanted, Stopped>
     requires { 1539 ≤ length text.old }
-    ensures { IsPrefixLen result.bytes text.new }
+    ensures { IfOk result (λ w. IsPrefixLen (wanted_bytes w) text.new) }
 {
-    let t = read_file(rt, name, 1539, text);
-    let n = t.bytes;
-    Wanted {
-        typed: t.opened,
-        bytes: without_end(&text[..n]),
-        good: t.good,
+    match read_file(rt, name, 1539, text)? {
+        Some(n) => Ok(Wanted::Text(without_end(&text[..n]))),
+        None => Ok(Wanted::Shape(0)),
     }
 }
 
@@ -91,26 +96,15 @@ pub fn read_tree(
     typed: &[u8],
     shown: bool,
     wanted: &mut [u8],
-) -> Wanted
+) -> Result<Wanted, Stopped>
     requires { 1539 ≤ length wanted.old }
-    ensures { IsPrefixLen result.bytes wanted.new }
+    ensures { IfOk result (λ w. IsPrefixLen (wanted_bytes w) wanted.new) }
 {
-    let s = read_shape(rt, width, shape, wanted);
-    if s.opened {
-        return Wanted {
-            typed: false,
-            bytes: s.bytes,
-            good: s.good,
-        };
+    match read_shape(rt, width, shape, wanted)? {
+        Some(n) => Ok(Wanted::Shape(n)),
+        None if shown => read_text(rt, typed, wanted),
+        None => Ok(Wanted::Shape(0)),
     }
-    if !shown {
-        return Wanted {
-            typed: false,
-            bytes: 0,
-            good: true,
-        };
-    }
-    read_text(rt, typed, wanted)
 }
 
 // The name of a folder's shape file, by the width of its table.
@@ -130,9 +124,9 @@ pub fn read_wanted(
     width: Width,
     shown: bool,
     wanted: &mut [u8],
-) -> Wanted
+) -> Result<Wanted, Stopped>
     requires { 1539 ≤ length wanted.old }
-    ensures { IsPrefixLen result.bytes wanted.new }
+    ensures { IfOk result (λ w. IsPrefixLen (wanted_bytes w) wanted.new) }
 {
     let mut shape = [0u8; 4096];
     let mut typed = [0u8; 4096];

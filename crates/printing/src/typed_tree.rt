@@ -1,22 +1,22 @@
 // The wanted tree as a line of text: how it comes to the program, and how it is printed from a shape.
-ghost use Rattle.std.specs.Prelude.{◌≤◌, length};
+ghost use Rattle.std.specs.Prelude.{◌≤◌, length, IfSome};
 ghost use Rattle.io.specs.Counts.{IsPrefixLen};
 
 use crate::new_table::print_refused;
-use crate::out::print;
+use crate::out::{Stopped, Written, print};
 use crate::width::served;
 use paper::Width;
 use std::env::{Env, FillError};
 
-// Puts the tree that the program was started with, as its i-th word, into what is lent, and answers its length. One that is longer than what is
-// lent fills it, so that a part of it never passes for the whole.
-pub fn typed_word(rt: &impl Env, i: usize, text: &mut [u8]) -> usize
-    ensures { IsPrefixLen result text.new }
+// Puts the tree that the program was started with, as its i-th word, into what is lent, and answers its length, if there is such a word. One that is
+// longer than what is lent fills it, so that a part of it never passes for the whole.
+pub fn typed_word(rt: &impl Env, i: usize, text: &mut [u8]) -> Option<usize>
+    ensures { IfSome result (λ n. IsPrefixLen n text.new) }
 {
     match rt.arg(i, text) {
-        Ok(n) => n,
-        Err(FillError::TooLong) => text.len(),
-        Err(FillError::NotPresent) => 0,
+        Ok(n) => Some(n),
+        Err(FillError::TooLong) => Some(text.len()),
+        Err(FillError::NotPresent) => None,
     }
 }
 
@@ -24,20 +24,10 @@ pub fn typed_word(rt: &impl Env, i: usize, text: &mut [u8]) -> usize
 pub fn without_end(text: &[u8]) -> usize
     ensures { IsPrefixLen result text.now }
 {
-    let n = text.len();
-    if n == 0 {
-        return n;
+    match text {
+        [line @ .., b'\r', b'\n'] | [line @ .., b'\n'] => line.len(),
+        _ => text.len(),
     }
-    if text[n - 1] != b'\n' {
-        return n;
-    }
-    if n == 1 {
-        return 0;
-    }
-    if text[n - 2] != b'\r' {
-        return n - 1;
-    }
-    n - 2
 }
 
 // What reading a text over a table answers: a refusal, or the bytes of its shape.
@@ -54,31 +44,23 @@ pub fn read_typed(width: Width, table: &[u8], text: &[u8], shape: &mut [u8]) -> 
     ensures { IsPrefixLen result.bytes shape.new }
 {
     let r = silmezga::read_tree(width, table, text, shape);
-    let number = r.number;
-    let place = r.place;
-    let entries = r.entries;
     TypedRead {
-        number: number,
-        place: place,
-        bytes: entries * octets::entry_bytes(served(width)),
+        number: r.number,
+        place: r.place,
+        bytes: r.entries * octets::entry_bytes(served(width)),
     }
 }
 
 // Prints the refusal of printing, or the shape as a line of text.
-pub fn print_shape(rt: &impl Print, width: Width, shape: &[u8]) -> bool {
+pub fn print_shape(rt: &impl Print, width: Width, shape: &[u8]) -> Written {
     let mut text = [0u8; 1536];
     let p = silmezga::print_tree(width, shape, &mut text);
-    let number = p.number;
-    let place = p.place;
-    if number != 0 {
-        return print_refused(rt, number, place);
+    if p.number != 0 {
+        return print_refused(rt, p.number, p.place);
     }
-    let n = p.bytes;
-    if 1536 < n {
-        return false;
+    if 1536 < p.bytes {
+        return Err(Stopped);
     }
-    if !print(rt, &text[..n]) {
-        return false;
-    }
+    print(rt, &text[..p.bytes])?;
     print(rt, b"\n")
 }

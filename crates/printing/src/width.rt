@@ -1,4 +1,6 @@
 // What a width says of the files: their format, where the entries of a shape stand, and the last label of an entry.
+ghost use Rattle.std.specs.Prelude.{◌≡◌, length, IfSome};
+ghost use Rattle.paper.specs.Format.{entry_bytes};
 ghost use Rattle.octets.specs.Served.{Served};
 
 use paper::{Format, Width};
@@ -12,25 +14,24 @@ pub fn served(width: Width) -> Format
     paper::format_of(width)
 }
 
-// An entry's own bytes of a shape; past the last whole entry, an empty part.
-pub fn entry_at(shape: &[u8], f: Format, e: usize) -> &[u8]
+// An entry's own bytes of a shape; none past the last whole entry.
+pub fn entry_at(shape: &[u8], f: Format, e: usize) -> Option<&[u8]>
     requires { Served f }
+    ensures { IfSome result (λ entry. length entry.now ≡ entry_bytes f) }
 {
-    let none = 0;
     let w = octets::entry_bytes(f);
     if e < shape.len() / w {
-        return octets::record(shape, w, e);
+        Some(octets::record(shape, w, e))
+    } else {
+        None
     }
-    &shape[none..none]
 }
 
-// The last label of an entry's type; 0 for an empty part.
+// The last label of an entry's type.
 pub fn last_label(entry: &[u8], f: Format) -> usize
-    requires { Served f }
+    requires served { Served f }
+    requires len { length entry.now ≡ entry_bytes f }
 {
-    if entry.len() != octets::entry_bytes(f) {
-        return 0;
-    }
     let size = smaller(octets::wide(entry[1]), f.levels);
     octets::word(entry, 2 + 2 * size)
 }

@@ -8,10 +8,7 @@ use std::env::{Env, FillError};
 pub fn word(rt: &impl Env, i: usize, text: &mut [u8]) -> usize
     ensures { IsPrefixLen result text.new }
 {
-    match rt.arg(i, text) {
-        Ok(n) => n,
-        Err(_) => 0,
-    }
+    rt.arg(i, text).unwrap_or(0)
 }
 
 // Is there a word i?
@@ -22,10 +19,7 @@ pub fn is_given(rt: &impl Env, i: usize) -> bool {
 
 // How many words there are.
 pub fn count(rt: &impl Env) -> usize {
-    for i in 0..usize::MAX {
-        if !is_given(rt, i) {
-            return i;
-        }
-    }
-    usize::MAX
+    (0..usize::MAX)
+        .find(|i| !is_given(rt, *i))
+        .unwrap_or(usize::MAX)
 }

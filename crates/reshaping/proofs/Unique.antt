@@ -75,14 +75,15 @@ summary_same a b e = same_answer no_figures figures_of figures_same a b e
 pub summarise_unique : (f : Format) (t s : List ℕ) (a b : Result Summary Refusal) → summarised a ≡ summarise f t s → summarised b ≡ summarise f t s → a ≡ b
 summarise_unique f t s a b ea eb = summary_same a b (ea ∙ sym eb)
 
-module _ (f : Format) (t s : List ℕ) (a : Result Summary Refusal) (q : summarised a ≡ summarise f t s) where
+-- ---- what a reply that is the paper's says
+module _ (f : Format) (t s : List ℕ) (r : Reply Figures) (q : r ≡ summarise f t s) where
   -- An entry's different rows are no more than its lines, nor than the rows of its type, and its other lines are copies.
-  pub figures_agree : (e : ℕ) → FiguresAgree (summarised a).rest e
-  figures_agree e = subst (λ (r : Reply Figures). FiguresAgree r.rest e) (sym q) (summary_agrees f t s e)
+  pub figures_agree : (e : ℕ) → FiguresAgree r.rest e
+  figures_agree e = subst (λ (x : Reply Figures). FiguresAgree x.rest e) (sym q) (summary_agrees f t s e)
 
   -- Where the verdict is 0, every row of an entry's type is shown.
-  pub all_shown : (judge f t s).rest.verdict ≡ kept → (summarised a).rest.different ≡ (summarised a).rest.rows
-  all_shown ok = subst (λ (r : Reply Figures). r.rest.different ≡ r.rest.rows) (sym q) (summary_shows_all f t s ok)
+  pub all_shown : (judge f t s).rest.verdict ≡ kept → r.rest.different ≡ r.rest.rows
+  all_shown ok = subst (λ (x : Reply Figures). x.rest.different ≡ x.rest.rows) (sym q) (summary_shows_all f t s ok)
 
 -- ---- with an index
 module _ {f : Format} {t s last next new sources new₁ sources₁ : List ℕ} {a : Reply ℕ} (p : ReshapesWith f t s last next new sources a new₁ sources₁) where
@@ -95,10 +96,11 @@ module _ {f : Format} {t s last next new sources new₁ sources₁ : List ℕ} {
   pub plain_promised : (rs : List Row) → tests_index f t last next ≡ given rs → Reshapes f t s new sources a new₁ sources₁
   plain_promised = p.plain
 
-module _ (f : Format) (t s last next : List ℕ) (a : Result Summary Refusal) (q : summarised a ≡ summarise_with f t s last next) where
-  pub summarise_with_unique : (b : Result Summary Refusal) → summarised b ≡ summarise_with f t s last next → a ≡ b
-  summarise_with_unique b e = summary_same a b (q ∙ sym e)
+module _ (f : Format) (t s last next : List ℕ) where
+  pub summarise_with_unique : (a b : Result Summary Refusal) → summarised a ≡ summarise_with f t s last next
+      → summarised b ≡ summarise_with f t s last next → a ≡ b
+  summarise_with_unique a b p q = summary_same a b (p ∙ sym q)
 
   -- Where the index is this table's, it is the summary without one.
-  pub summary_as_plain : (rs : List Row) → tests_index f t last next ≡ given rs → summarised a ≡ summarise f t s
-  summary_as_plain rs e = q ∙ summarise-plain f t s last next (index_reads f t last next rs e)
+  pub summary_as_plain : (r : Reply Figures) → r ≡ summarise_with f t s last next → (rs : List Row) → tests_index f t last next ≡ given rs → r ≡ summarise f t s
+  summary_as_plain r q rs e = q ∙ summarise-plain f t s last next (index_reads f t last next rs e)

@@ -9,10 +9,11 @@ use Rattle.paper.specs.Tables.{Row}
 use Rattle.paper.specs.Index.{tests_index}
 use Rattle.judging.specs.Judged.{judged, in_numbers}
 use Rattle.judging.proofs.Unique as judging
-use Rattle.reshaping.specs.Reshaped.{Reshapes, summarised}
-use Rattle.reshaping.specs.declared.reshape.Reshaped.{Reshaped}
+use Rattle.reshaping.specs.Reshaped.{reshaped, Reshapes, summarised}
+use Rattle.std.specs.Prelude.{Result}
+use Rattle.paper.specs.declared.refusal.Refusal.{Refusal}
+use Rattle.paper.proofs.Refusals.{count_same}
 use Rattle.reshaping.proofs.Unique as reshaping
-use Rattle.indexes.specs.declared.build.IndexBuilt.{IndexBuilt}
 use Rattle.indexes.proofs.Unique.{builds_unique}
 use Rattle.settling.proofs.Settles.{Settled, Promises, three}
 use Rattle.silmezga.proofs.build_index.Reads as build-index
@@ -21,9 +22,9 @@ use Rattle.silmezga.proofs.reshape_with_index.Reads as reshape-with-index
 use Rattle.silmezga.proofs.summarise_with_index.Reads as summarise-with-index
 
 -- ---- building: the answer, and every lent place after it
-pub build_index_settled : Settled {X = IndexBuilt × (List ℕ × List ℕ)} build-index.Asked build-index.Learnt
+pub build_index_settled : Settled {X = Result ℕ Refusal × (List ℕ × List ℕ)} build-index.Asked build-index.Learnt
     (λ κs r e. (r, (e.1.1.0.now, e.1.1.1.0.now)))
-build_index_settled = ((λ κs a. tt), λ κs a r s e f x y. three (builds_unique x y))
+build_index_settled = ((λ κs a. tt), λ κs a r s e f x y. (let u = builds_unique x y in three (count_same r s u.0, u.1, u.2)))
 
 -- ---- judging
 pub judge_with_index_settled : Settled judge-with-index.Asked judge-with-index.Learnt (λ κs r e. r)
@@ -36,23 +37,23 @@ pub judge_with_index_plain : Promises judge-with-index.Learnt (λ κs a r e.
 judge_with_index_plain κs a r e x = judging.judge_as_plain _ _ _ _ _ r x
 
 -- ---- reshaping: the answer, and every lent byte and place after it
-pub reshape_with_index_settled : Settled {X = Reshaped × (List ℕ × List ℕ)} reshape-with-index.Asked reshape-with-index.Learnt
+pub reshape_with_index_settled : Settled {X = Result ℕ Refusal × (List ℕ × List ℕ)} reshape-with-index.Asked reshape-with-index.Learnt
     (λ κs r e. (r, (e.1.1.1.1.1.0.now, e.1.1.1.1.1.1.0.now)))
-reshape_with_index_settled = ((λ κs a. tt), λ κs a r s e f x y. three (reshaping.reshape_with_unique x y))
+reshape_with_index_settled = ((λ κs a. tt), λ κs a r s e f x y. (let u = reshaping.reshape_with_unique x y in three (count_same r s u.0, u.1, u.2)))
 
 -- where the lists are this table's, all that is promised of a reshape without an index holds: demand 3 and the others
 pub reshape_with_index_plain : Promises reshape-with-index.Learnt (λ κs a r e.
     (rs : List Row) → tests_index (format_of a.0) a.1.0.now a.1.1.1.0.now a.1.1.1.1.0.now ≡ given rs
-    → Reshapes (format_of a.0) a.1.0.now a.1.1.0.now a.1.1.1.1.1.0.now a.1.1.1.1.1.1.0.now r
+    → Reshapes (format_of a.0) a.1.0.now a.1.1.0.now a.1.1.1.1.1.0.now a.1.1.1.1.1.1.0.now (reshaped r)
     e.1.1.1.1.1.0.now e.1.1.1.1.1.1.0.now)
 reshape_with_index_plain κs a r e x = reshaping.plain_promised x
 
 -- ---- summarising
 pub summarise_with_index_settled : Settled summarise-with-index.Asked summarise-with-index.Learnt (λ κs r e. r)
-summarise_with_index_settled = ((λ κs a. tt), λ κs a r s e f x. reshaping.summarise_with_unique _ _ _ _ _ r x s)
+summarise_with_index_settled = ((λ κs a. tt), λ κs a r s e f x. reshaping.summarise_with_unique _ _ _ _ _ r s x)
 
 -- where the lists are this table's, it is the summary without an index
 pub summarise_with_index_plain : Promises summarise-with-index.Learnt (λ κs a r e.
     (rs : List Row) → tests_index (format_of a.0) a.1.0.now a.1.1.1.0.now a.1.1.1.1.0.now ≡ given rs
     → summarised r ≡ summarise (format_of a.0) a.1.0.now a.1.1.0.now)
-summarise_with_index_plain κs a r e x = reshaping.summary_as_plain _ _ _ _ _ r x
+summarise_with_index_plain κs a r e x = reshaping.summary_as_plain _ _ _ _ _ (summarised r) x

@@ -1,5 +1,3 @@
-pub mod Clauses
-pub mod Held
 pub mod Trees
 pub mod ReadBack
 pub mod Unique

@@ -7,14 +7,17 @@ use Rattle.paper.specs.Format.{Format, base, eight}
 use Rattle.paper.specs.Widths.{format_of}
 use Rattle.paper.specs.declared.Width.{Width}
 use Rattle.paper.specs.declared.Width.TheVariants.{Six, Eight}
+use Rattle.std.specs.Prelude.{Result}
+use Rattle.paper.specs.Refusals.{counted}
+use Rattle.paper.specs.declared.refusal.Refusal.{Refusal}
+use Rattle.paper.proofs.Refusals.{count_same}
+use Rattle.settling.proofs.Settles.{both}
 use Rattle.grammar.specs.Typed.{Reading, Printing}
 use Rattle.grammar.proofs.NamesRead.{NamesRead}
 use Rattle.grammar.proofs.Named.{names-read}
 use Rattle.grammar.proofs.Right.{read_tree_unique}
 use Rattle.typed.specs.Read.{ReadsTree, reading_of}
-use Rattle.typed.specs.declared.read.TreeRead.{TreeRead}
 use Rattle.spelling.specs.Printed.{Prints}
-use Rattle.spelling.specs.declared.print.TreePrinted.{TreePrinted}
 use Rattle.spelling.proofs.Unique.{prints_unique}
 
 -- both widths have a label
@@ -37,12 +40,13 @@ pub width_named : (w : Width) → NamesRead (format_of w)
 width_named w = names-read (format_of w) (width_labelled w)
 
 -- the answer, and every byte lent for the shape after it
-pub read_settled : (f : Format) → NamesRead f → (b text lent : List ℕ) (r s : TreeRead) (t u : List ℕ) → ReadsTree f b text lent r t → ReadsTree f b text lent s u
-    → ◌≡◌ {A = TreeRead × List ℕ} (r, t) (s, u)
+pub read_settled : (f : Format) → NamesRead f → (b text lent : List ℕ) (r s : Result ℕ Refusal) (t u : List ℕ) → ReadsTree f b text lent (counted r) t
+    → ReadsTree f b text lent (counted s) u → ◌≡◌ {A = Result ℕ Refusal × List ℕ} (r, t) (s, u)
 read_settled f names b text lent r s t u x y =
-    ap (λ (z : Reading). (record { number = z.reply.number; place = z.reply.place; entries = z.reply.rest }, z.shape))
-    (read_tree_unique f names b text lent (reading_of r t) (reading_of s u) x y)
+    let e = read_tree_unique f names b text lent (reading_of (counted r) t) (reading_of (counted s) u) x y in
+    both (count_same r s (ap (λ (z : Reading). z.reply) e), ap (λ (z : Reading). z.shape) e)
 
 -- the answer, and every byte lent for the line after it
-pub print_settled : (p : Printing) (r s : TreePrinted) (t u : List ℕ) → Prints p r t → Prints p s u → ◌≡◌ {A = TreePrinted × List ℕ} (r, t) (s, u)
-print_settled p r s t u x y = let e = prints_unique p r s t u x y in λ i. (e.0 i, e.1 i)
+pub print_settled : (p : Printing) (r s : Result ℕ Refusal) (t u : List ℕ) → Prints p (counted r) t → Prints p (counted s) u
+    → ◌≡◌ {A = Result ℕ Refusal × List ℕ} (r, t) (s, u)
+print_settled p r s t u x y = let e = prints_unique p (counted r) (counted s) t u x y in both (count_same r s e.0, e.1)

@@ -4,7 +4,7 @@
 // The definitions that the promises name are those of `paper` (specs/Calls, specs/Widths, specs/Labels, specs/Index) and of `grammar` (specs/Grammar,
 // specs/Typed). The caller says which width its files have, and each promise is over the format that the width names. `reader` is the small reader over
 // a table, under the same rule; its file, with its promises, stands in crate `reading`.
-#![tactic(auto)]
+#![tactic(auto, using(octets::proofs::Laws::format_served))]
 
 ghost use Rattle.std.specs.Prelude.{◌≡◌, map};
 ghost use Rattle.paper.specs.Format.{base, eight};

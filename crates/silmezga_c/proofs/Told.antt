@@ -10,7 +10,12 @@ use Rattle.paper.specs.Tables.{rows}
 use Rattle.paper.specs.Verdict as paper
 use Rattle.paper.specs.Verdict.{Judgement, kept, missing, apart, unsure, verdict_numbers}
 use Rattle.paper.specs.Calls.{given, Reply, tests1_3, look_up}
-use Rattle.judging.specs.Judged.{numbers_of, InNumbers, judged, in_numbers}
+use Rattle.std.specs.Prelude.{Result, Ok, Err}
+use Rattle.paper.specs.Figures.{Figures}
+use Rattle.paper.specs.Labels as Labels
+use Rattle.paper.specs.Refusals.{refusal_number, refusal_place}
+use Rattle.paper.specs.declared.refusal.Refusal.{Refusal}
+use Rattle.judging.specs.Judged.{InNumbers, judged, in_numbers}
 use Rattle.judging.specs.declared.judge.Judged.{Judged}
 use Rattle.judging.specs.declared.verdict.Verdict.{Verdict}
 use Rattle.judging.specs.declared.verdict.Verdict.TheVariants.{Kept, Missing, Apart, Unsure}
@@ -21,9 +26,12 @@ use Rattle.tables.proofs.Back.{refused_start}
 use Rattle.tables.proofs.Examine.{look_up-row}
 use Rattle.tables.proofs.Rows.{row_in}
 use Rattle.silmezga_c.specs.Told.{LooksUp, as_number, InFour, in_four, four_numbers}
-use Rattle.silmezga_c.specs.Numbers.{judged_numbers}
+use Rattle.silmezga_c.specs.Numbers.{told_count, told_converted, told_summary, judged_numbers}
 use Rattle.silmezga_c.specs.declared.LookedUp.{LookedUp}
-use Rattle.silmezga_c.specs.declared.JudgedNumbers.{JudgedNumbers}
+use Rattle.silmezga_c.specs.declared.told.Counted.{Counted}
+use Rattle.silmezga_c.specs.declared.told.ConvertedNumbers.{ConvertedNumbers}
+use Rattle.silmezga_c.specs.declared.told.SummaryNumbers.{SummaryNumbers}
+use Rattle.silmezga_c.specs.declared.told.JudgedNumbers.{JudgedNumbers}
 
 -- ---- look-up
 module _ (f : Format) (t : List ℕ) (i : ℕ) where
@@ -70,42 +78,17 @@ look_up_unique a b = λ j. record {
 
 -- ---- judging
 -- the four numbers of a verdict in numbers and a second answer
-abbrev four : InNumbers → List ℕ
-four y = padded 3 y.verdict ++ (as_number y.none_apart ∷ [])
-
--- what was judged, in numbers, is the reply that it was judged to be, in numbers
-pub in_four_lem : (j : Judged) (x : Reply Judgement) → judged j ≡ in_numbers x → judged_numbers j ≡ four_numbers x
-in_four_lem j x e = ap {B = Reply InFour} (λ (y : Reply InNumbers). record {
+abbrev four_of : Reply InNumbers → Reply InFour
+four_of y = record {
   number = y.number;
   place = y.place;
-  rest = record { four = four y.rest; edges = y.rest.edges };
-}) e
+  rest = record { four = padded 3 y.rest.verdict ++ (as_number y.rest.none_apart ∷ []); edges = y.rest.edges };
+}
 
--- a verdict as Rattle's call answers it
-answered : (v : paper.Verdict) → (w : Verdict) × (numbers_of w ≡ verdict_numbers v)
-answered kept = (Kept, refl)
-answered (missing e r) = (Missing e r, refl)
-answered (apart e f) = (Apart e f, refl)
-answered (unsure e f) = (Unsure e f, refl)
-
--- who is told a judgement in numbers is told an answer of Rattle's call
-pub tells : (x : Reply Judgement) (r : JudgedNumbers) → in_four r ≡ four_numbers x → (j : Judged) × ((judged j ≡ in_numbers x) × (in_four r ≡ judged_numbers j))
-tells x r told =
-    let (v, e) = answered x.rest.verdict in
-    let edges = x.rest.edges in
-    let j : Judged = record {
-      number = x.number;
-      place = x.place;
-      verdict = v;
-      none_apart = x.rest.none_apart;
-      least_children = edges.least_children;
-      greatest_children = edges.greatest_children;
-      least_parents = edges.least_parents;
-      greatest_parents = edges.greatest_parents;
-    } in
-    let is : judged j ≡ in_numbers x =
-    λ i. record { number = x.number; place = x.place; rest = record { verdict = e i; none_apart = x.rest.none_apart; edges = edges } } in
-    (j, (is, told ∙ sym (in_four_lem j x is)))
+-- what was judged, in numbers, is the reply that it was judged to be, in numbers
+pub in_four_lem : (j : Result Judged Refusal) (x : Reply Judgement) → judged j ≡ in_numbers x → judged_numbers j ≡ four_numbers x
+in_four_lem (Ok j) x e = ap {B = Reply InFour} four_of e
+in_four_lem (Err d) x e = ap {B = Reply InFour} four_of e
 
 -- two answers that are one reply are one
 pub judged-same : (a b : JudgedNumbers) → in_four a ≡ in_four b → a ≡ b
@@ -120,4 +103,22 @@ judged-same a b = ap {B = JudgedNumbers} (λ (x : Reply InFour). record {
   greatest_children = x.rest.edges.greatest_children;
   least_parents = x.rest.edges.least_parents;
   greatest_parents = x.rest.edges.greatest_parents;
+})
+
+-- ---- the other answers: two that are one reply are one
+pub count_told : (a b : Counted) → told_count a ≡ told_count b → a ≡ b
+count_told a b = ap {B = Counted} (λ (x : Reply ℕ). record { number = x.number; place = x.place; count = x.rest })
+
+pub converted_told : (a b : ConvertedNumbers) → told_converted a ≡ told_converted b → a ≡ b
+converted_told a b =
+    ap {B = ConvertedNumbers} (λ (x : Reply Labels.Converted). record { number = x.number; place = x.place; rows = x.rest.rows; entries = x.rest.entries })
+
+pub summary_told : (a b : SummaryNumbers) → told_summary a ≡ told_summary b → a ≡ b
+summary_told a b = ap {B = SummaryNumbers} (λ (x : Reply Figures). record {
+  number = x.number;
+  place = x.place;
+  lines = x.rest.lines;
+  rows = x.rest.rows;
+  copies = x.rest.copies;
+  different = x.rest.different;
 })

@@ -5,30 +5,29 @@
 // not both. None asks anything of its caller beyond slices that are there.
 #![tactic(auto)]
 
-ghost use Rattle.std.specs.Prelude.{◌≡◌, [], ◌∷◌, map};
+pub mod told;
+
+ghost use Rattle.std.specs.Prelude.{◌≡◌, map};
 ghost use Rattle.paper.specs.Format.{base, eight};
 ghost use Rattle.paper.specs.Widths.{move_table, move_shape};
 ghost use Rattle.paper.specs.Calls.{examine, adorn, judge, summarise};
 ghost use Rattle.paper.specs.Labels.{convert};
 ghost use Rattle.paper.specs.Index.{judge_with, summarise_with};
+ghost use Rattle.paper.specs.Refusals.{refusal_number, refusal_place};
 ghost use Rattle.grammar.specs.Typed.{print_tree};
-ghost use Rattle.tables.specs.Reply.{examined};
-ghost use Rattle.adorned.specs.Lent.{told, adorned_types};
+ghost use Rattle.adorned.specs.Lent.{told};
 ghost use Rattle.indexes.specs.Built.{Builds};
-ghost use Rattle.reshaping.specs.Reshaped.{Reshapes, ReshapesWith, summarised};
+ghost use Rattle.reshaping.specs.Reshaped.{Reshapes, ReshapesWith};
 ghost use Rattle.widths.specs.Answers.{Moves};
 ghost use Rattle.labels.specs.Answers.{Converts};
 ghost use Rattle.typed.specs.Read.{ReadsTree};
 ghost use Rattle.spelling.specs.Printed.{Prints};
-ghost use Rattle.silmezga_c.specs.Told.{width_of, format_numbered, LooksUp, as_number, in_four, four_numbers};
-ghost use Rattle.silmezga_c.specs.Numbers.{told_of, judged_numbers};
+ghost use Rattle.silmezga_c.specs.Told.{width_of, format_numbered, LooksUp, in_four, four_numbers};
+ghost use Rattle.silmezga_c.specs.Numbers.{told_count, told_summary, told_converted};
 
 use adorned::TypeSummary;
-use adorned::lent::AdornedTypes;
-use reshaping::reshape::Reshaped;
-use reshaping::summarise::Summary;
-use silmezga::{Converted, IndexBuilt, Judged, Moved, TreePrinted, TreeRead, Verdict, Width};
-use tables::table::Examined;
+use silmezga::{Refusal, Width};
+use told::{ConvertedNumbers, Counted, JudgedNumbers, SummaryNumbers};
 
 // The width that a number names.
 fn width_of(number: u32) -> Width
@@ -42,10 +41,10 @@ fn width_of(number: u32) -> Width
 
 // Refusals 1 to 3, or the count of rows.
 #[unsafe(no_mangle)]
-pub extern "C" fn silmezga_examine(width: u32, table: &[u8]) -> Examined
-    ensures { examined result ≡ examine (format_numbered width) table.now }
+pub extern "C" fn silmezga_examine(width: u32, table: &[u8]) -> Counted
+    ensures { told_count result ≡ examine (format_numbered width) table.now }
 {
-    silmezga::examine(width_of(width), table)
+    silmezga::examine(width_of(width), table).into()
 }
 
 // What looking up a row answers: a refusal, or where the row's own bytes start in the table, and how many they are.
@@ -58,12 +57,12 @@ pub struct LookedUp {
     pub length: usize,
 }
 
-fn no_row(number: usize, place: usize) -> LookedUp
-    ensures { (result.number ≡ number) × (result.place ≡ place) × (result.start ≡ 0) × (result.length ≡ 0) }
+fn no_row(refusal: Refusal) -> LookedUp
+    ensures { (result.number ≡ refusal_number refusal) × (result.place ≡ refusal_place refusal) × (result.start ≡ 0) × (result.length ≡ 0) }
 {
     LookedUp {
-        number: number,
-        place: place,
+        number: refusal.number(),
+        place: refusal.place(),
         start: 0,
         length: 0,
     }
@@ -75,22 +74,19 @@ pub extern "C" fn silmezga_look_up(width: u32, table: &[u8], row: usize) -> Look
     ensures { LooksUp (format_numbered width) table.now row result }
 {
     let w = width_of(width);
-    let e = silmezga::examine(w, table);
-    let number = e.number;
-    let place = e.place;
-    let rows = e.rows;
-    if number != 0 {
-        return no_row(number, place);
-    }
+    let rows = match silmezga::examine(w, table) {
+        Ok(rows) => rows,
+        Err(refusal) => return no_row(refusal),
+    };
     if rows <= row {
-        return no_row(11, row);
+        return no_row(Refusal::NoSuchRow(row));
     }
     let length = octets::row_bytes(paper::format_of(w));
     LookedUp {
         number: 0,
         place: 0,
         start: length * row,
-        length: length,
+        length,
     }
 }
 
@@ -101,75 +97,11 @@ pub extern "C" fn silmezga_adorn(
     width: u32,
     table: &[u8],
     summaries: &mut [TypeSummary],
-) -> AdornedTypes
-    ensures result_value { adorned_types result ≡ (adorn (format_numbered width) table.now (map told summaries.old)).reply }
+) -> Counted
+    ensures result_value { told_count result ≡ (adorn (format_numbered width) table.now (map told summaries.old)).reply }
     ensures summaries_after { map told summaries.new ≡ (adorn (format_numbered width) table.now (map told summaries.old)).summaries }
 {
-    silmezga::adorn(width_of(width), table, summaries)
-}
-
-// What judging answers: a refusal, or document 01's number of the verdict and its two values, zeros for verdict 0, the second answer, 1 for
-// yes and 0 for no, and for each entry but the first the least and the greatest number of children under a row of its parent entry's type, and of
-// parents of a row of its own; entry 0 and unused entries hold zeros.
-#[repr(C)]
-#[derive(Clone, Copy, Drop)]
-pub struct JudgedNumbers {
-    pub number: usize,
-    pub place: usize,
-    pub verdict: usize,
-    pub first: usize,
-    pub second: usize,
-    pub none_apart: usize,
-    pub least_children: [usize; 16],
-    pub greatest_children: [usize; 16],
-    pub least_parents: [usize; 16],
-    pub greatest_parents: [usize; 16],
-}
-
-// What was judged, with the verdict and the second answer in these numbers.
-fn in_numbers(j: Judged, verdict: usize, first: usize, second: usize, none: usize) -> JudgedNumbers
-    ensures { in_four result ≡ told_of j (verdict ∷ first ∷ second ∷ none ∷ []) }
-{
-    let least_children = j.least_children;
-    let greatest_children = j.greatest_children;
-    let least_parents = j.least_parents;
-    let greatest_parents = j.greatest_parents;
-    JudgedNumbers {
-        number: j.number,
-        place: j.place,
-        verdict: verdict,
-        first: first,
-        second: second,
-        none_apart: none,
-        least_children: least_children,
-        greatest_children: greatest_children,
-        least_parents: least_parents,
-        greatest_parents: greatest_parents,
-    }
-}
-
-// 1 for yes and 0 for no.
-fn as_number(yes: bool) -> usize
-    ensures { result ≡ as_number yes }
-{
-    if yes {
-        return 1;
-    }
-    0
-}
-
-// What was judged, all in numbers.
-fn judged_numbers(j: Judged) -> JudgedNumbers
-    ensures { in_four result ≡ judged_numbers j }
-{
-    let verdict = j.verdict;
-    let none = as_number(j.none_apart);
-    match verdict {
-        Verdict::Kept => in_numbers(j, 0, 0, 0, none),
-        Verdict::Missing { entry, row } => in_numbers(j, 1, entry, row, none),
-        Verdict::Apart { first, second } => in_numbers(j, 2, first, second, none),
-        Verdict::Unsure { first, second } => in_numbers(j, 3, first, second, none),
-    }
+    silmezga::adorn(width_of(width), table, summaries).into()
 }
 
 // Refusals 1 to 7, or the verdict and the second answer in numbers, and the numbers of each edge.
@@ -177,7 +109,7 @@ fn judged_numbers(j: Judged) -> JudgedNumbers
 pub extern "C" fn silmezga_judge(width: u32, table: &[u8], shape: &[u8]) -> JudgedNumbers
     ensures { in_four result ≡ four_numbers (judge (format_numbered width) table.now shape.now) }
 {
-    judged_numbers(silmezga::judge(width_of(width), table, shape))
+    silmezga::judge(width_of(width), table, shape).into()
 }
 
 // Refusals 1 to 8, or the new table and its source list, at the front of what was lent; what lies past them stays as it was. Where the
@@ -192,53 +124,53 @@ pub extern "C" fn silmezga_reshape(
     shape: &[u8],
     new: &mut [u8],
     sources: &mut [u32],
-) -> Reshaped
-    ensures { Reshapes (format_numbered width) table.now shape.now new.old sources.old result new.new sources.new }
+) -> Counted
+    ensures { Reshapes (format_numbered width) table.now shape.now new.old sources.old (told_count result) new.new sources.new }
 {
-    silmezga::reshape(width_of(width), table, shape, new, sources)
+    silmezga::reshape(width_of(width), table, shape, new, sources).into()
 }
 
 // Refusals 1 to 8, with room for 4,096 lines, or for each of 16 entries its lines, source rows, copies and different source rows.
 #[unsafe(no_mangle)]
-pub extern "C" fn silmezga_summarise(width: u32, table: &[u8], shape: &[u8]) -> Summary
-    ensures { summarised result ≡ summarise (format_numbered width) table.now shape.now }
+pub extern "C" fn silmezga_summarise(width: u32, table: &[u8], shape: &[u8]) -> SummaryNumbers
+    ensures { told_summary result ≡ summarise (format_numbered width) table.now shape.now }
 {
-    silmezga::summarise(width_of(width), table, shape)
+    silmezga::summarise(width_of(width), table, shape).into()
 }
 
 // Refusals 1 to 3, then 29, or the count of rows, with the table of eight levels at the front of what was lent; what lies past it stays as it was.
 #[unsafe(no_mangle)]
-pub extern "C" fn silmezga_widen_table(table: &[u8], new: &mut [u8]) -> Moved
-    ensures { Moves (move_table base eight table.now new.old) result new.new }
+pub extern "C" fn silmezga_widen_table(table: &[u8], new: &mut [u8]) -> Counted
+    ensures { Moves (move_table base eight table.now new.old) (told_count result) new.new }
 {
-    silmezga::widen_table(table, new)
+    silmezga::widen_table(table, new).into()
 }
 
 // Refusals 1 to 3, then 24, then 29, or the count of rows, with the table of six levels at the front of what was lent; what lies past it
 // stays as it was.
 #[unsafe(no_mangle)]
-pub extern "C" fn silmezga_narrow_table(table: &[u8], new: &mut [u8]) -> Moved
-    ensures { Moves (move_table eight base table.now new.old) result new.new }
+pub extern "C" fn silmezga_narrow_table(table: &[u8], new: &mut [u8]) -> Counted
+    ensures { Moves (move_table eight base table.now new.old) (told_count result) new.new }
 {
-    silmezga::narrow_table(table, new)
+    silmezga::narrow_table(table, new).into()
 }
 
 // Refusals 5 and 6, then 29, or the count of entries, with the shape of eight levels at the front of what was lent; what lies past it stays as
 // it was.
 #[unsafe(no_mangle)]
-pub extern "C" fn silmezga_widen_shape(shape: &[u8], new: &mut [u8]) -> Moved
-    ensures { Moves (move_shape base eight shape.now new.old) result new.new }
+pub extern "C" fn silmezga_widen_shape(shape: &[u8], new: &mut [u8]) -> Counted
+    ensures { Moves (move_shape base eight shape.now new.old) (told_count result) new.new }
 {
-    silmezga::widen_shape(shape, new)
+    silmezga::widen_shape(shape, new).into()
 }
 
 // Refusals 5 and 6, then 24, then 29, or the count of entries, with the shape of six levels at the front of what was lent; what lies past it
 // stays as it was.
 #[unsafe(no_mangle)]
-pub extern "C" fn silmezga_narrow_shape(shape: &[u8], new: &mut [u8]) -> Moved
-    ensures { Moves (move_shape eight base shape.now new.old) result new.new }
+pub extern "C" fn silmezga_narrow_shape(shape: &[u8], new: &mut [u8]) -> Counted
+    ensures { Moves (move_shape eight base shape.now new.old) (told_count result) new.new }
 {
-    silmezga::narrow_shape(shape, new)
+    silmezga::narrow_shape(shape, new).into()
 }
 
 // Refusals 1 to 3, 5 and 6 on the old range of labels, then 25, 26 and 29, or the counts of rows and entries, with the converted table and shape
@@ -251,11 +183,11 @@ pub extern "C" fn silmezga_convert_labels(
     pairs: &[u16],
     new_table: &mut [u8],
     new_shape: &mut [u8],
-) -> Converted
+) -> ConvertedNumbers
     ensures { let asked = convert (format_numbered width) table.now shape.now pairs.now new_table.old new_shape.old in
-        Converts asked result new_table.new new_shape.new }
+        Converts asked (told_converted result) new_table.new new_shape.new }
 {
-    silmezga::convert_labels(width_of(width), table, shape, pairs, new_table, new_shape)
+    silmezga::convert_labels(width_of(width), table, shape, pairs, new_table, new_shape).into()
 }
 
 // Refusals 1 to 4, 12, 5, 6, 13 and 29, or the count of entries, with the shape of the typed tree at the front of what was lent; what lies past it
@@ -266,18 +198,18 @@ pub extern "C" fn silmezga_read_tree(
     table: &[u8],
     text: &[u8],
     shape: &mut [u8],
-) -> TreeRead
-    ensures { ReadsTree (format_numbered width) table.now text.now shape.old result shape.new }
+) -> Counted
+    ensures { ReadsTree (format_numbered width) table.now text.now shape.old (told_count result) shape.new }
 {
-    silmezga::read_tree(width_of(width), table, text, shape)
+    silmezga::read_tree(width_of(width), table, text, shape).into()
 }
 
 // Refusals 5, 6 and 29, or the count of bytes, with the shape's line of text at the front of what was lent; what lies past it stays as it was.
 #[unsafe(no_mangle)]
-pub extern "C" fn silmezga_print_tree(width: u32, shape: &[u8], text: &mut [u8]) -> TreePrinted
-    ensures { Prints (print_tree (format_numbered width) shape.now text.old) result text.new }
+pub extern "C" fn silmezga_print_tree(width: u32, shape: &[u8], text: &mut [u8]) -> Counted
+    ensures { Prints (print_tree (format_numbered width) shape.now text.old) (told_count result) text.new }
 {
-    silmezga::print_tree(width_of(width), shape, text)
+    silmezga::print_tree(width_of(width), shape, text).into()
 }
 
 // Refusals 1 to 3, then 14, or the count of rows, with each row's last descendant and the next row of its type at the front of what was lent; places
@@ -288,10 +220,10 @@ pub extern "C" fn silmezga_build_index(
     table: &[u8],
     last: &mut [u16],
     next: &mut [u16],
-) -> IndexBuilt
-    ensures { Builds (format_numbered width) table.now last.old next.old result last.new next.new }
+) -> Counted
+    ensures { Builds (format_numbered width) table.now last.old next.old (told_count result) last.new next.new }
 {
-    silmezga::build_index(width_of(width), table, last, next)
+    silmezga::build_index(width_of(width), table, last, next).into()
 }
 
 // Refusals 1 to 4, then 14 and 15 of the lists, then 5 to 7, or the verdict and the second answer in numbers, and the numbers of each edge. Where the
@@ -307,7 +239,7 @@ pub extern "C" fn silmezga_judge_with_index(
     ensures { let asked = judge_with (format_numbered width) table.now shape.now last.now next.now in
         in_four result ≡ four_numbers asked }
 {
-    judged_numbers(silmezga::judge_with_index(width_of(width), table, shape, last, next))
+    silmezga::judge_with_index(width_of(width), table, shape, last, next).into()
 }
 
 // Refusals 1 to 4, then 14 and 15 of the lists, then 5 to 8, or the new table and its source list, at the front of what was lent; what lies past them
@@ -321,11 +253,11 @@ pub extern "C" fn silmezga_reshape_with_index(
     next: &[u16],
     new: &mut [u8],
     sources: &mut [u32],
-) -> Reshaped
+) -> Counted
     ensures { let promised = ReshapesWith (format_numbered width) table.now shape.now last.now next.now in
-        promised new.old sources.old result new.new sources.new }
+        promised new.old sources.old (told_count result) new.new sources.new }
 {
-    silmezga::reshape_with_index(width_of(width), table, shape, last, next, new, sources)
+    silmezga::reshape_with_index(width_of(width), table, shape, last, next, new, sources).into()
 }
 
 // Refusals 1 to 4, then 14 and 15 of the lists, then 5 to 8, with room for 4,096 lines, or the figures of each of 16 entries. Where the lists are this
@@ -337,8 +269,8 @@ pub extern "C" fn silmezga_summarise_with_index(
     shape: &[u8],
     last: &[u16],
     next: &[u16],
-) -> Summary
-    ensures { summarised result ≡ summarise_with (format_numbered width) table.now shape.now last.now next.now }
+) -> SummaryNumbers
+    ensures { told_summary result ≡ summarise_with (format_numbered width) table.now shape.now last.now next.now }
 {
-    silmezga::summarise_with_index(width_of(width), table, shape, last, next)
+    silmezga::summarise_with_index(width_of(width), table, shape, last, next).into()
 }

@@ -10,28 +10,24 @@ ghost use Rattle.paper.specs.Calls.{examine, adorn, judge, summarise};
 ghost use Rattle.paper.specs.Labels.{convert};
 ghost use Rattle.paper.specs.Index.{judge_with, summarise_with};
 ghost use Rattle.grammar.specs.Typed.{print_tree};
-ghost use Rattle.tables.specs.Reply.{examined};
-ghost use Rattle.adorned.specs.Lent.{told, adorned_types};
+ghost use Rattle.adorned.specs.Lent.{told};
 ghost use Rattle.indexes.specs.Built.{Builds};
-ghost use Rattle.reshaping.specs.Reshaped.{Reshapes, ReshapesWith, summarised};
+ghost use Rattle.reshaping.specs.Reshaped.{Reshapes, ReshapesWith};
 ghost use Rattle.widths.specs.Answers.{Moves};
 ghost use Rattle.labels.specs.Answers.{Converts};
 ghost use Rattle.typed.specs.Read.{ReadsTree};
 ghost use Rattle.spelling.specs.Printed.{Prints};
 ghost use Rattle.silmezga_c.specs.Told.{format_numbered, LooksUp, in_four, four_numbers};
+ghost use Rattle.silmezga_c.specs.Numbers.{told_count, told_summary, told_converted};
 
 use adorned::TypeSummary;
-use adorned::lent::AdornedTypes;
-use reshaping::reshape::Reshaped;
-use reshaping::summarise::Summary;
-use silmezga::{Converted, IndexBuilt, Moved, TreePrinted, TreeRead};
-use silmezga_c::{JudgedNumbers, LookedUp};
-use tables::table::Examined;
+use silmezga_c::LookedUp;
+use silmezga_c::told::{ConvertedNumbers, Counted, JudgedNumbers, SummaryNumbers};
 
 // Refusals 1 to 3, or the count of rows.
 #[unsafe(no_mangle)]
-pub extern "C" fn silmezga_examine(width: u32, table: &[u8]) -> Examined
-    ensures { examined result ≡ examine (format_numbered width) table.now }
+pub extern "C" fn silmezga_examine(width: u32, table: &[u8]) -> Counted
+    ensures { told_count result ≡ examine (format_numbered width) table.now }
 {
     silmezga_c::silmezga_examine(width, table)
 }
@@ -51,8 +47,8 @@ pub extern "C" fn silmezga_adorn(
     width: u32,
     table: &[u8],
     summaries: &mut [TypeSummary],
-) -> AdornedTypes
-    ensures result_value { adorned_types result ≡ (adorn (format_numbered width) table.now (map told summaries.old)).reply }
+) -> Counted
+    ensures result_value { told_count result ≡ (adorn (format_numbered width) table.now (map told summaries.old)).reply }
     ensures summaries_after { map told summaries.new ≡ (adorn (format_numbered width) table.now (map told summaries.old)).summaries }
 {
     silmezga_c::silmezga_adorn(width, table, summaries)
@@ -78,24 +74,24 @@ pub extern "C" fn silmezga_reshape(
     shape: &[u8],
     new: &mut [u8],
     sources: &mut [u32],
-) -> Reshaped
-    ensures { Reshapes (format_numbered width) table.now shape.now new.old sources.old result new.new sources.new }
+) -> Counted
+    ensures { Reshapes (format_numbered width) table.now shape.now new.old sources.old (told_count result) new.new sources.new }
 {
     silmezga_c::silmezga_reshape(width, table, shape, new, sources)
 }
 
 // Refusals 1 to 8, with room for 4,096 lines, or for each of 16 entries its lines, source rows, copies and different source rows.
 #[unsafe(no_mangle)]
-pub extern "C" fn silmezga_summarise(width: u32, table: &[u8], shape: &[u8]) -> Summary
-    ensures { summarised result ≡ summarise (format_numbered width) table.now shape.now }
+pub extern "C" fn silmezga_summarise(width: u32, table: &[u8], shape: &[u8]) -> SummaryNumbers
+    ensures { told_summary result ≡ summarise (format_numbered width) table.now shape.now }
 {
     silmezga_c::silmezga_summarise(width, table, shape)
 }
 
 // Refusals 1 to 3, then 29, or the count of rows, with the table of eight levels at the front of what was lent; what lies past it stays as it was.
 #[unsafe(no_mangle)]
-pub extern "C" fn silmezga_widen_table(table: &[u8], new: &mut [u8]) -> Moved
-    ensures { Moves (move_table base eight table.now new.old) result new.new }
+pub extern "C" fn silmezga_widen_table(table: &[u8], new: &mut [u8]) -> Counted
+    ensures { Moves (move_table base eight table.now new.old) (told_count result) new.new }
 {
     silmezga_c::silmezga_widen_table(table, new)
 }
@@ -103,8 +99,8 @@ pub extern "C" fn silmezga_widen_table(table: &[u8], new: &mut [u8]) -> Moved
 // Refusals 1 to 3, then 24, then 29, or the count of rows, with the table of six levels at the front of what was lent; what lies past it
 // stays as it was.
 #[unsafe(no_mangle)]
-pub extern "C" fn silmezga_narrow_table(table: &[u8], new: &mut [u8]) -> Moved
-    ensures { Moves (move_table eight base table.now new.old) result new.new }
+pub extern "C" fn silmezga_narrow_table(table: &[u8], new: &mut [u8]) -> Counted
+    ensures { Moves (move_table eight base table.now new.old) (told_count result) new.new }
 {
     silmezga_c::silmezga_narrow_table(table, new)
 }
@@ -112,8 +108,8 @@ pub extern "C" fn silmezga_narrow_table(table: &[u8], new: &mut [u8]) -> Moved
 // Refusals 5 and 6, then 29, or the count of entries, with the shape of eight levels at the front of what was lent; what lies past it stays as
 // it was.
 #[unsafe(no_mangle)]
-pub extern "C" fn silmezga_widen_shape(shape: &[u8], new: &mut [u8]) -> Moved
-    ensures { Moves (move_shape base eight shape.now new.old) result new.new }
+pub extern "C" fn silmezga_widen_shape(shape: &[u8], new: &mut [u8]) -> Counted
+    ensures { Moves (move_shape base eight shape.now new.old) (told_count result) new.new }
 {
     silmezga_c::silmezga_widen_shape(shape, new)
 }
@@ -121,8 +117,8 @@ pub extern "C" fn silmezga_widen_shape(shape: &[u8], new: &mut [u8]) -> Moved
 // Refusals 5 and 6, then 24, then 29, or the count of entries, with the shape of six levels at the front of what was lent; what lies past it
 // stays as it was.
 #[unsafe(no_mangle)]
-pub extern "C" fn silmezga_narrow_shape(shape: &[u8], new: &mut [u8]) -> Moved
-    ensures { Moves (move_shape eight base shape.now new.old) result new.new }
+pub extern "C" fn silmezga_narrow_shape(shape: &[u8], new: &mut [u8]) -> Counted
+    ensures { Moves (move_shape eight base shape.now new.old) (told_count result) new.new }
 {
     silmezga_c::silmezga_narrow_shape(shape, new)
 }
@@ -137,9 +133,9 @@ pub extern "C" fn silmezga_convert_labels(
     pairs: &[u16],
     new_table: &mut [u8],
     new_shape: &mut [u8],
-) -> Converted
+) -> ConvertedNumbers
     ensures { let asked = convert (format_numbered width) table.now shape.now pairs.now new_table.old new_shape.old in
-        Converts asked result new_table.new new_shape.new }
+        Converts asked (told_converted result) new_table.new new_shape.new }
 {
     silmezga_c::silmezga_convert_labels(width, table, shape, pairs, new_table, new_shape)
 }
@@ -152,16 +148,16 @@ pub extern "C" fn silmezga_read_tree(
     table: &[u8],
     text: &[u8],
     shape: &mut [u8],
-) -> TreeRead
-    ensures { ReadsTree (format_numbered width) table.now text.now shape.old result shape.new }
+) -> Counted
+    ensures { ReadsTree (format_numbered width) table.now text.now shape.old (told_count result) shape.new }
 {
     silmezga_c::silmezga_read_tree(width, table, text, shape)
 }
 
 // Refusals 5, 6 and 29, or the count of bytes, with the shape's line of text at the front of what was lent; what lies past it stays as it was.
 #[unsafe(no_mangle)]
-pub extern "C" fn silmezga_print_tree(width: u32, shape: &[u8], text: &mut [u8]) -> TreePrinted
-    ensures { Prints (print_tree (format_numbered width) shape.now text.old) result text.new }
+pub extern "C" fn silmezga_print_tree(width: u32, shape: &[u8], text: &mut [u8]) -> Counted
+    ensures { Prints (print_tree (format_numbered width) shape.now text.old) (told_count result) text.new }
 {
     silmezga_c::silmezga_print_tree(width, shape, text)
 }
@@ -174,8 +170,8 @@ pub extern "C" fn silmezga_build_index(
     table: &[u8],
     last: &mut [u16],
     next: &mut [u16],
-) -> IndexBuilt
-    ensures { Builds (format_numbered width) table.now last.old next.old result last.new next.new }
+) -> Counted
+    ensures { Builds (format_numbered width) table.now last.old next.old (told_count result) last.new next.new }
 {
     silmezga_c::silmezga_build_index(width, table, last, next)
 }
@@ -207,9 +203,9 @@ pub extern "C" fn silmezga_reshape_with_index(
     next: &[u16],
     new: &mut [u8],
     sources: &mut [u32],
-) -> Reshaped
+) -> Counted
     ensures { let promised = ReshapesWith (format_numbered width) table.now shape.now last.now next.now in
-        promised new.old sources.old result new.new sources.new }
+        promised new.old sources.old (told_count result) new.new sources.new }
 {
     silmezga_c::silmezga_reshape_with_index(width, table, shape, last, next, new, sources)
 }
@@ -223,8 +219,8 @@ pub extern "C" fn silmezga_summarise_with_index(
     shape: &[u8],
     last: &[u16],
     next: &[u16],
-) -> Summary
-    ensures { summarised result ≡ summarise_with (format_numbered width) table.now shape.now last.now next.now }
+) -> SummaryNumbers
+    ensures { told_summary result ≡ summarise_with (format_numbered width) table.now shape.now last.now next.now }
 {
     silmezga_c::silmezga_summarise_with_index(width, table, shape, last, next)
 }

@@ -3,12 +3,12 @@ use Prim.Native.Nat.{ℕ, suc, ◌+◌, ◌*◌, ◌≤◌, ◌<◌}
 use native.Mathlib.Nat.{mul-le-mul_right, add-mul}
 use native.Mathlib.Numerals.{add-one}
 use native.Mathlib.Omega.{arith}
-use mathlib.Core.Path.{◌≡◌, refl, sym, ◌∙◌, ap, subst}
+use mathlib.Core.Path.{◌≡◌, sym, ◌∙◌, ap, subst}
 use mathlib.Core.Bool.{Bool, true, false}
 use mathlib.Core.List.{List, ◌∷◌}
 use lib.IntN.{ℤ, pos, nat_abs, ◌+ℤ◌}
-use lib.ListN.{length, get_or, take, drop, drop_of_length-le}
-use lib.Seq.{drop-cons, get_or-take, length-take-le}
+use lib.ListN.{length, get_or, drop}
+use lib.Seq.{drop-cons}
 use mir.Syntax.{w64}
 use mir.Val.{SFits, to_z, of_z}
 use mir.Facts.{to_z-of_z}
@@ -39,12 +39,9 @@ pub record RowAt (w : ℕ) (b is : List ℕ) (k i : ℕ) : Type 0 where
   pub few : i < most_rows
   pub inside : w * i + w ≤ length b
 
-pub row_at : (w : ℕ) (b rows : List ℕ) (count k i : ℕ) → RowsOf w b (take count rows) → count ≤ length rows → k < count → i ≡ get_or rows k 0
-    → RowAt w b (take count rows) k i
-row_at w b rows count k i h long lt e =
-    let same = e ∙ sym (get_or-take count rows k 0 lt) in
-    let here : k < length (take count rows) = omega (arith, length-take-le count rows long, lt) in
-    let row = h i (subst (λ (j : ℕ). Has j (take count rows)) (sym same) (get_d_has 0 (take count rows) k here)) in
+pub row_at : (w : ℕ) (b is : List ℕ) (k i : ℕ) → RowsOf w b is → k < length is → i ≡ get_or is k 0 → RowAt w b is k i
+row_at w b is k i h here same =
+    let row = h i (subst (λ (j : ℕ). Has j is) (sym same) (get_d_has 0 is k here)) in
     record { here = here; same = same; few = row.0; inside = row.1 }
 
 module _ (value : ℕ → ℤ) (shows : ℕ → Bool) where
@@ -61,13 +58,7 @@ module _ (value : ℕ → ℤ) (shows : ℕ → Bool) where
     pub small : nat_abs a ≤ k * most_value
     pub small-unshown : nat_abs b ≤ k * most_value
 
-  pub adding_none : (is : List ℕ) → Adding is 0 (pos 0) (pos 0)
-  adding_none is = record { whole = refl; small = omega arith; small-unshown = omega arith }
-
 module _ {value : ℕ → ℤ} {shows : ℕ → Bool} {is : List ℕ} {k : ℕ} {a b : ℤ} (g : Adding value shows is k a b) where
-  pub adding_all : length is ≤ k → record { number = 0; place = 0; rest = record { shown = a; unshown = b } } ≡ added_up value shows is (pos 0) (pos 0)
-  adding_all le = ap (λ is'. added_up value shows is' a b) (sym (drop_of_length-le is {i = k} le)) ∙ g.whole
-
   -- the row at hand, i, and its value, v
   module _ {w i : ℕ} {t : List ℕ} (r : RowAt w t is k i) (v : ℤ) (of_row_lem : v ≡ value i) where
     chosen : (in_range s : Bool) → within most_value v ≡ in_range → shows i ≡ s
@@ -76,9 +67,6 @@ module _ {value : ℕ → ℤ} {shows : ℕ → Bool} {is : List ℕ} {k : ℕ} 
         (λ j. choose value shows i (drop (add-one k j) is) a b ((sym e ∙ ap (within most_value) of_row_lem) j) (sym f j))
         ∙ ap (λ is'. added_up value shows is' a b) (ap (λ n. n ∷ drop (suc k) is) r.same ∙ sym (drop-cons is k 0 r.here))
         ∙ g.whole
-
-    pub adding_out : within most_value v ≡ false → record { number = 17; place = i; rest = no_sums } ≡ added_up value shows is (pos 0) (pos 0)
-    adding_out e = chosen false (shows i) e refl
 
     module _ (e : within most_value v ≡ true) (few : k < most_rows) (f : SFits w64 v) where
       small_value : nat_abs v ≤ most_value

@@ -1,8 +1,5 @@
-pub mod Words
 pub mod Integers
 pub mod Signs
-pub mod Copying
-pub mod Marking
 pub mod Adding
 pub mod Sums
 pub mod Refusals

@@ -35,11 +35,7 @@ pub fn put_alone(shape: &[u8], bytes: usize, entry: usize, alone: &mut [u8])
     ensures { take bytes alone.new ≡ 1 ∷ drop 1 (take bytes (drop (bytes * entry) shape.now)) }
 {
     let first = bytes * entry;
-    let mut k = 0;
-    while k < bytes {
-        alone[k] = shape[first + k];
-        k += 1;
-    }
+    alone[..bytes].copy_from_slice(&shape[first..first + bytes]);
     alone[0] = 1;
 }
 
@@ -49,19 +45,10 @@ pub fn mark_shown(sources: &[u32], lines: usize, entry: usize, marks: &mut [u8])
     ensures { Marks entry (take lines sources.now) marks.old marks.new }
 {
     let first = 65536 * entry;
-    let mut k = 0;
-    while k < lines {
-        let x = wide32(sources[k]);
-        if x < first {
-            k += 1;
-        } else {
-            let row = x - first;
-            if row < 1024 {
-                marks[row] = 1;
-                k += 1;
-            } else {
-                k += 1;
-            }
+    for place in &sources[..lines] {
+        let x = wide32(*place);
+        if first <= x && x - first < 1024 {
+            marks[x - first] = 1;
         }
     }
 }
@@ -70,19 +57,15 @@ pub fn mark_shown(sources: &[u32], lines: usize, entry: usize, marks: &mut [u8])
 pub fn mark_all(marks: &mut [u8])
     ensures { AllMarked marks.old marks.new }
 {
-    let mut k = 0;
-    while k < marks.len() {
-        marks[k] = 1;
-        k += 1;
-    }
+    marks.fill(1);
 }
 
 pub fn refused(number: usize, place: usize) -> TapeSums
     ensures { summed result ≡ refused_sums number place }
 {
     TapeSums {
-        number: number,
-        place: place,
+        number,
+        place,
         shown: 0,
         unshown: 0,
     }
@@ -105,25 +88,22 @@ pub fn add_up(
 {
     let mut shown = 0i64;
     let mut unshown = 0i64;
-    let mut k = 0;
-    while k < count {
-        let row = wide32(rows[k]);
+    for number in &rows[..count] {
+        let row = wide32(*number);
         let value = value_at(table, bytes * row + before);
         if !lies_within(1000000000000, value) {
             return refused(17, row);
         }
         if marks[row] == 1 {
             shown += value;
-            k += 1;
         } else {
             unshown += value;
-            k += 1;
         }
     }
     TapeSums {
         number: 0,
         place: 0,
-        shown: shown,
-        unshown: unshown,
+        shown,
+        unshown,
     }
 }

@@ -61,5 +61,5 @@ pub fn lies_within(n: usize, v: i64) -> bool
     ensures { result ≡ within n v }
 {
     let most = n as i64;
-    if v < 0 - most { false } else { v <= most }
+    -most <= v && v <= most
 }

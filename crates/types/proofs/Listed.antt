@@ -215,3 +215,10 @@ walk_start f t ks parents labels stack e a b c d = record {
   labels_long = c;
   stack_long = d;
 }
+
+-- a row's level is one of the format's
+pub level_some : (f : Format) (t : List ℕ) (i : ℕ) → bad_row f (rows f t) ≡ none → i < whole (row_bytes f) t → 1 ≤ byte (rec (row_bytes f) i t) 0
+level_some f t i sound lt = l_pos f t sound i lt _ _ refl refl
+
+pub level_most : (f : Format) (t : List ℕ) (i : ℕ) → bad_row f (rows f t) ≡ none → i < whole (row_bytes f) t → byte (rec (row_bytes f) i t) 0 ≤ f.levels
+level_most f t i sound lt = l_fits f t sound i lt _ _ refl refl

@@ -57,6 +57,7 @@ fn find_near(
 // type is the first guess for a row's type: `after` has it for each type, and for none before the first row. Where rows follow each other
 // without a pattern this guess is mostly wrong, and a search is dear: the second guess is the last type that is listed at the place of the
 // row's parent and label in `near`.
+#[tactic(auto, using(crate::proofs::Listed::level_some, crate::proofs::Listed::level_most, tables::proofs::Rows::row_in))]
 pub fn list_types(table: &[u8], f: Format, rows: usize, types: &mut [u8]) -> Types
     requires rows_value { (rows ≡ whole (row_bytes f) table.now) × (rows ≤ most_rows) × (f.levels ≤ 8) }
     requires table_value { (bad_row f (Tables.rows f table.now) ≡ none) × (length types.old ≡ most_rows) }

@@ -1,11 +1,7 @@
 -- The word is the digits of none of the entries before.
-use Rattle.std.proofs.Common.{ℕ, ◌-◌, ◌≤◌, ◌<◌, ◌≡◌}
-use Rattle.paper.specs.Format.{most_entries}
+use Rattle.std.proofs.Common.{ℕ, ◌<◌, ◌≡◌}
 use Rattle.grammar.specs.Text.{decimal}
 use Rattle.billing.proofs.entry.entry_of.Given as goal
 
 abbrev pub invariant-loop-e : goal.invariant-loop-e
-invariant-loop-e l = (l.e ≤ most_entries) × ((k : ℕ) → k < l.e → l.word ≡ decimal k → ⊥)
-
-abbrev pub decreases-loop-e : goal.decreases-loop-e
-decreases-loop-e l = most_entries - l.e
+invariant-loop-e l = (k : ℕ) → k < l.e → l.word ≡ decimal k → ⊥

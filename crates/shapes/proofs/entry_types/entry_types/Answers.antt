@@ -14,34 +14,35 @@ record-entry-requires c =
     let w = c.entry_bytes-w in
     row_in w.result c.loop-e.e s (omega (arith, c.requires.entries_value.0, ap (λ w. whole w s) w.ensures))
 
-pub type_of-k-requires-clause-f_in_bounds : goal.type_of-k-requires-clause-f_in_bounds
-type_of-k-requires-clause-f_in_bounds c =
+pub type_of-requires-clause-f_in_bounds : goal.type_of-requires-clause-f_in_bounds
+type_of-requires-clause-f_in_bounds c =
     let a = c.args in
     let is : c.record-entry.result.now ≡ rec (entry_bytes a.f) c.loop-e.e a.shape.now = cc in
     let size = c.wide-size.ensures.0 ∙ ap (λ b. byte b 1) is in
     let (lo, hi) = entry-size a.f a.shape.now c.loop-e.e (omega arith) c.requires.shape_value in
     (omega (arith, c.record-entry.ensures.1, c.entry_bytes-w.ensures), omega (arith, size), omega (arith, size), omega arith)
 
-pub returns-then-count-k : goal.returns-then-count-k
-returns-then-count-k c =
+pub returns-in_default : goal.returns-in_default
+returns-in_default c =
     let a = c.args in
     let e = c.loop-e in
     let is : c.record-entry.result.now ≡ rec (entry_bytes a.f) e.e a.shape.now = cc in
-    let number = read_numbers a.f a.shape.now a.parents.now a.labels.now a.count e.e c.record-entry.result.now c.wide-size.result
-    c.type_of-k.result is c.wide-size.ensures.0 c.type_of-k.ensures.1 in
-    numbered_stop a.f a.shape.now a.parents.now a.labels.now a.count e.e e.types e.invariant.numbered (omega arith)
-    c.type_of-k.result number (omega arith) a.entries c.requires.entries_value.0
+    let number = read_numbers a.f a.shape.now a.parents.now a.labels.now a.count e.e c.record-entry.result.now c.wide-size.result a.count is
+    c.wide-size.ensures.0 c.in_default.ensures.number in
+    numbered_stop a.f a.shape.now a.parents.now a.labels.now a.count e.e e.types e.invariant.numbered (omega arith) a.count number (omega arith)
+    a.entries c.requires.entries_value.0
 
 pub loop-e-preserved : goal.loop-e-preserved
 loop-e-preserved c =
     let a = c.args in
     let e = c.loop-e in
+    let k = c.in-Some.k in
     let is : c.record-entry.result.now ≡ rec (entry_bytes a.f) e.e a.shape.now = cc in
-    let number = read_numbers a.f a.shape.now a.parents.now a.labels.now a.count e.e c.record-entry.result.now c.wide-size.result
-    c.type_of-k.result is c.wide-size.ensures.0 c.type_of-k.ensures.1 in record {
-      long = length-set e.types e.e c.type_of-k.result ∙ e.invariant.long;
-      numbered = numbered_step a.f a.shape.now a.parents.now a.labels.now a.count e.e e.types e.invariant.numbered (omega arith)
-          c.type_of-k.result number (omega arith) (omega arith);
+    let number = read_numbers a.f a.shape.now a.parents.now a.labels.now a.count e.e c.record-entry.result.now c.wide-size.result k is
+    c.wide-size.ensures.0 c.in-Some.ensures.number in record {
+      long = length-set e.types e.e k ∙ e.invariant.long;
+      numbered = numbered_step a.f a.shape.now a.parents.now a.labels.now a.count e.e e.types e.invariant.numbered (omega arith) k number
+          (omega arith) c.in-Some.ensures.listed;
     }
 
 pub returns : goal.returns

@@ -5,16 +5,14 @@ use Rattle.paper.proofs.Tables.{length-words}
 use Rattle.shapes.proofs.Down.{walk_step, walk-stop}
 use Rattle.shapes.proofs.entry_types.type_of.Goals as goal
 
-pub returns-then-count-q : goal.returns-then-count-q
-returns-then-count-q c =
+pub returns-then-count-q-clause-number : goal.returns-then-count-q-clause-number
+returns-then-count-q-clause-number c =
     let a = c.args in
     let l = c.loop-k in
     let long = length-words a.f.levels a.entry.now 4 in
-    let label = c.component-a in (
-      omega arith,
-      walk-stop a.parents.now a.labels.now a.count (words a.f.levels a.entry.now 4) l.k l.p label.result c.find_type-q.result l.invariant.walked
-          (omega (arith, long)) label.ensures.0 c.find_type-q.ensures a.size (omega arith) (omega (arith, long)) (omega arith),
-    )
+    let label = c.component-a in
+    walk-stop a.parents.now a.labels.now a.count (words a.f.levels a.entry.now 4) l.k l.p label.result c.find_type-q.result l.invariant.walked
+    (omega (arith, long)) label.ensures.0 c.find_type-q.ensures a.size (omega arith) (omega (arith, long)) (omega arith)
 
 pub loop-k-preserved : goal.loop-k-preserved
 loop-k-preserved c =

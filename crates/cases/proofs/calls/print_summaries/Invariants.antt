@@ -1,9 +1,0 @@
--- 65 summaries are held.
-use Rattle.std.proofs.Common.{◌-◌, ◌≤◌}
-use Rattle.cases.proofs.calls.print_summaries.Given as goal
-
-abbrev pub invariant-loop-k : goal.invariant-loop-k
-invariant-loop-k l = l.k ≤ 65
-
-abbrev pub decreases-loop-k : goal.decreases-loop-k
-decreases-loop-k l = 65 - l.k

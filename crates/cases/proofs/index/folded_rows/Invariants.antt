@@ -1,6 +1,0 @@
--- It goes over what is left.
-use Rattle.std.proofs.Common.{length, ◌-◌}
-use Rattle.cases.proofs.index.folded_rows.Given as goal
-
-abbrev pub decreases-loop-i : goal.decreases-loop-i
-decreases-loop-i l = length l.list - l.i
