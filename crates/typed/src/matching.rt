@@ -31,6 +31,7 @@ fn type_matches<'a>(
 }
 
 // The number of the one type that a name matches, 64 where it matches none or several. A name of more than eight labels matches none.
+// Kept: a number, 64 for none: tried as an Option, and it misses a bar of speed, since the walk over the types carries its tag.
 pub fn match_type<'a>(name: Word, parents: &'a [u8], labels: &'a [u16], count: usize) -> usize
     requires { (count ≤ length parents.now) × (count ≤ length labels.now) × (count ≤ most_types) }
     ensures sole { (n : Name) → Holds name n → Sole parents.now labels.now count n result }
