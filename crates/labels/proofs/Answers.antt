@@ -4,7 +4,7 @@ use native.Mathlib.Omega.{arith}
 use mathlib.Core.Path.{◌≡◌, refl, sym, ◌∙◌, ap, ap₂}
 use mathlib.Core.Bool.{Bool, true, false, ◌||◌}
 use mathlib.Core.List.{List}
-use mathlib.Core.Option.{Option, none}
+use mathlib.Core.Option.{Option, none, some}
 use lib.Dec.{eqb, ltb}
 use lib.ListN.{length}
 use lib.Seq.{sets}
@@ -22,7 +22,6 @@ use Rattle.paper.proofs.Calls.{count-rows, count_entries, whole1_3, passed5, pas
 use Rattle.keeping.proofs.ConvertedFiles.{length-same}
 use Rattle.octets.proofs.Writing.{front_written}
 use Rattle.tables.specs.Place.{place_of}
-use Rattle.shapes.proofs.Examined.{place-some, place_none}
 use Rattle.labels.specs.Records.{any_unlisted, standing}
 use Rattle.labels.specs.Answers.{Converts}
 use Rattle.labels.specs.Tested.{Tested}
@@ -108,11 +107,11 @@ module _ (f : Format) (b s l lent-table lent-shape : List ℕ) where
     none-unlisted : unlisted f ps 0 ≡ false
     none-unlisted = sym (unlisted-small f ps 0 (omega arith))
 
-    pairs-place : (k : ℕ) → bad_pair f (standing f b s) ps ≡ place_of k (length ps) → bad_pair f (occurring rs es) ps ≡ place_of k (length ps)
-    pairs-place k e =
+    -- the first pair to break a rule
+    pairs-first : bad_pair f (occurring rs es) ps ≡ bad_pair f (standing f b s) ps
+    pairs-first =
         sym (bad_same f (standing f b s) (occurring rs es)
         (λ x lo. occurring_any (eqb x) (ne_eqb x 0 (λ (z : x ≡ 0). let w : ⊥ = omega arith in w)) f b s sound) ps)
-        ∙ e
 
     table-length : length (table_with f ps b) ≡ length b
     table-length =
@@ -123,19 +122,24 @@ module _ (f : Format) (b s l lent-table lent-shape : List ℕ) where
         length-same ps head_bytes f.levels (entry_bytes f) (omega arith) (omega arith) s (passed5 (old_range f) s es passed.shape_passes).2
 
     -- the first row and the first entry with a label that is not in the list
-    pub row-place : (w k : ℕ) → w ≡ row_bytes f → k ≡ place (any_unlisted f (pairs l) label_at 1) (records w n b)
-        → first_place (λ (r : Row). unlisted f (pairs l) r.label) (rows (old_range f) b) ≡ place_of k n
-    row-place w k ew ek =
-        let counted = passed.counted.rows-counted in
-        rows-first (unlisted f ps) none-unlisted f b s
-        ∙ ap₂ place_of (sym (ek ∙ ap₂ (λ w n. place (any_unlisted f ps label_at 1) (records w n b)) ew counted)) (sym counted)
+    abbrev first_row : Option ℕ
+    first_row = first_place (λ (r : Row). unlisted f (pairs l) r.label) (rows (old_range f) b)
 
-    pub entry_place : (w k : ℕ) → w ≡ entry_bytes f → k ≡ place (any_unlisted f (pairs l) head_bytes f.levels) (records w m s)
-        → first_place (λ (e : Entry). any (unlisted f (pairs l)) (named e)) (entries (old_range f) s) ≡ place_of k m
-    entry_place w k ew ek =
+    abbrev first_entry : Option ℕ
+    first_entry = first_place (λ (e : Entry). any (unlisted f (pairs l)) (named e)) (entries (old_range f) s)
+
+    pub row-place : (w : ℕ) (o : Option ℕ) → w ≡ row_bytes f → o ≡ place_of (place (any_unlisted f (pairs l) label_at 1) (records w n b)) n → o ≡ first_row
+    row-place w o ew eo =
+        let counted = passed.counted.rows-counted in
+        eo ∙ ap₂ place_of (ap₂ (λ w n. place (any_unlisted f ps label_at 1) (records w n b)) ew counted) counted
+        ∙ sym (rows-first (unlisted f ps) none-unlisted f b s)
+
+    pub entry_place : (v : ℕ) (o : Option ℕ) → v ≡ entry_bytes f → o ≡ place_of (place (any_unlisted f (pairs l) head_bytes f.levels) (records v m s)) m
+        → o ≡ first_entry
+    entry_place v o ev eo =
         let counted = passed.counted.entries-counted in
-        entries-first (unlisted f ps) none-unlisted f b s sound
-        ∙ ap₂ place_of (sym (ek ∙ ap₂ (λ w m. place (any_unlisted f ps head_bytes f.levels) (records w m s)) ew counted)) (sym counted)
+        eo ∙ ap₂ place_of (ap₂ (λ v m. place (any_unlisted f ps head_bytes f.levels) (records v m s)) ev counted) counted
+        ∙ sym (entries-first (unlisted f ps) none-unlisted f b s sound)
 
     abbrev short : Bool
     short = ltb (length lent-table) (length (table_with f ps b)) || ltb (length lent-shape) (length (shape_with f ps s))
@@ -147,65 +151,56 @@ module _ (f : Format) (b s l lent-table lent-shape : List ℕ) where
         in_order_lem (given rs) (given es) passed.table_passes passed.shape_passes
         ∙ (λ i. tested (eb i) (er i) (ee i) (et i) (length rs) (length es))
 
-    module _ (pair : ℕ) (first : bad_pair f (standing f b s) (pairs l) ≡ place_of pair (length (pairs l))) where
-      pub refused_25 : pair < length (pairs l)
-          → Converts (convert f b s l lent-table lent-shape) (record { number = 25; place = pair; rest = none_converted }) lent-table lent-shape
-      refused_25 lt = call-refused 25 pair (answer_is _ _ _ _ (pairs-place pair first ∙ place-some pair (length ps) lt) refl refl refl)
+    pub refused_25 : (pair : ℕ) → some pair ≡ bad_pair f (standing f b s) (pairs l)
+        → Converts (convert f b s l lent-table lent-shape) (record { number = 25; place = pair; rest = none_converted }) lent-table lent-shape
+    refused_25 pair e = call-refused 25 pair (answer_is _ _ _ _ (pairs-first ∙ sym e) refl refl refl)
 
-      module _ (right : length (pairs l) ≤ pair) (row : ℕ)
-          (row_first : first_place (λ (r : Row). unlisted f (pairs l) r.label) (rows (old_range f) b) ≡ place_of row n) where
-        no_pair : bad_pair f (occurring rs es) ps ≡ none
-        no_pair = pairs-place pair first ∙ place_none pair (length ps) right
+    module _ (right : none ≡ bad_pair f (standing f b s) (pairs l)) where
+      no_pair : bad_pair f (occurring rs es) ps ≡ none
+      no_pair = pairs-first ∙ sym right
 
-        pub refused-row : row < n
-            → Converts (convert f b s l lent-table lent-shape) (record { number = 26; place = row; rest = none_converted }) lent-table lent-shape
-        refused-row lt = call-refused 26 row (answer_is _ _ _ _ no_pair (row_first ∙ place-some row n lt) refl refl)
+      pub refused-row : (row : ℕ) → some row ≡ first_row
+          → Converts (convert f b s l lent-table lent-shape) (record { number = 26; place = row; rest = none_converted }) lent-table lent-shape
+      refused-row row e = call-refused 26 row (answer_is _ _ _ _ no_pair (sym e) refl refl)
 
-        module _ (rows-listed : n ≤ row) (entry : ℕ)
-            (entry_IsFirst : first_place (λ (e : Entry). any (unlisted f (pairs l)) (named e)) (entries (old_range f) s) ≡ place_of entry m) where
-          no_row_lem : first_place (λ (r : Row). unlisted f ps r.label) rs ≡ none
-          no_row_lem = row_first ∙ place_none row n rows-listed
+      module _ (rows-listed : none ≡ first_row) where
+        pub refused-entry : (entry : ℕ) → some entry ≡ first_entry
+            → Converts (convert f b s l lent-table lent-shape) (record { number = 26; place = entry; rest = none_converted }) lent-table lent-shape
+        refused-entry entry e = call-refused 26 entry (answer_is _ _ _ _ no_pair (sym rows-listed) (sym e) refl)
 
-          pub refused-entry : entry < m
-              → Converts (convert f b s l lent-table lent-shape) (record { number = 26; place = entry; rest = none_converted }) lent-table lent-shape
-          refused-entry lt = call-refused 26 entry (answer_is _ _ _ _ no_pair no_row_lem (entry_IsFirst ∙ place-some entry m lt) refl)
+        module _ (entries-listed : none ≡ first_entry) where
+          too_short_lem : short ≡ true
+              → Converts (convert f b s l lent-table lent-shape) (record { number = 29; place = 0; rest = none_converted }) lent-table lent-shape
+          too_short_lem e = call-refused 29 0 (answer_is _ _ _ _ no_pair (sym rows-listed) (sym entries-listed) e)
 
-          module _ (entries-listed : m ≤ entry) where
-            no_entry : first_place (λ (e : Entry). any (unlisted f ps) (named e)) es ≡ none
-            no_entry = entry_IsFirst ∙ place_none entry m entries-listed
+          pub refused-table : length lent-table < length b
+              → Converts (convert f b s l lent-table lent-shape) (record { number = 29; place = 0; rest = none_converted }) lent-table lent-shape
+          refused-table lt =
+              too_short_lem (or_left (ltb (length lent-shape) (length (shape_with f ps s)))
+              (lt-ltb (length lent-table) (length (table_with f ps b)) (omega (arith, lt, table-length))))
 
-            too_short_lem : short ≡ true
-                → Converts (convert f b s l lent-table lent-shape) (record { number = 29; place = 0; rest = none_converted }) lent-table lent-shape
-            too_short_lem e = call-refused 29 0 (answer_is _ _ _ _ no_pair no_row_lem no_entry e)
+          pub refused-shape : length lent-shape < length s
+              → Converts (convert f b s l lent-table lent-shape) (record { number = 29; place = 0; rest = none_converted }) lent-table lent-shape
+          refused-shape lt =
+              too_short_lem (or_right (ltb (length lent-table) (length (table_with f ps b)))
+              (lt-ltb (length lent-shape) (length (shape_with f ps s)) (omega (arith, lt, shape-length))))
 
-            pub refused-table : length lent-table < length b
-                → Converts (convert f b s l lent-table lent-shape) (record { number = 29; place = 0; rest = none_converted }) lent-table lent-shape
-            refused-table lt =
-                too_short_lem (or_left (ltb (length lent-shape) (length (shape_with f ps s)))
-                (lt-ltb (length lent-table) (length (table_with f ps b)) (omega (arith, lt, table-length))))
-
-            pub refused-shape : length lent-shape < length s
-                → Converts (convert f b s l lent-table lent-shape) (record { number = 29; place = 0; rest = none_converted }) lent-table lent-shape
-            refused-shape lt =
-                too_short_lem (or_right (ltb (length lent-table) (length (table_with f ps b)))
-                (lt-ltb (length lent-shape) (length (shape_with f ps s)) (omega (arith, lt, shape-length))))
-
-            pub accepted : length b ≤ length lent-table → length s ≤ length lent-shape → (w v : ℕ) → w ≡ row_bytes f → v ≡ entry_bytes f
-                → (new-table new-shape : List ℕ) → new-table ≡ sets lent-table 0 (join_map (record_with (pairs l) label_at 1) (records w n b))
-                → new-shape ≡ sets lent-shape 0 (join_map (record_with (pairs l) head_bytes f.levels) (records v m s))
-                → Converts (convert f b s l lent-table lent-shape) (record { number = 0; place = 0; rest = record { rows = n; entries = m } }) new-table new-shape
-            unfolding convert records_with
-            accepted room-table room-shape w v ew ev new-table new-shape et eu =
-                let rows-counted = passed.counted.rows-counted in
-                let entries-counted = passed.counted.entries-counted in
-                let fits : short ≡ false =
-                ap₂ ◌||◌ (le-ltb (length lent-table) (length (table_with f ps b)) (omega (arith, room-table, table-length)))
-                (le-ltb (length lent-shape) (length (shape_with f ps s)) (omega (arith, room-shape, shape-length))) in
-                let counts : answer ≡ given (record { rows = n; entries = m }, table_with f ps b, shape_with f ps s) =
-                answer_is _ _ _ _ no_pair no_row_lem no_entry fits
-                ∙ ap₂ (λ n m. given (record { rows = n; entries = m }, table_with f ps b, shape_with f ps s)) (count-rows (old_range f) b ∙ sym rows-counted)
-                (count_entries (old_range f) s ∙ sym entries-counted) in
-                converts_given lent-table lent-shape answer n m (table_with f ps b) (shape_with f ps s) counts (omega (arith, room-table, table-length))
-                (omega (arith, room-shape, shape-length)) new-table new-shape
-                (et ∙ ap₂ (λ w n. sets lent-table 0 (join_map (record_with ps label_at 1) (records w n b))) ew rows-counted)
-                (eu ∙ ap₂ (λ v m. sets lent-shape 0 (join_map (record_with ps head_bytes f.levels) (records v m s))) ev entries-counted)
+          pub accepted : length b ≤ length lent-table → length s ≤ length lent-shape → (w v : ℕ) → w ≡ row_bytes f → v ≡ entry_bytes f
+              → (new-table new-shape : List ℕ) → new-table ≡ sets lent-table 0 (join_map (record_with (pairs l) label_at 1) (records w n b))
+              → new-shape ≡ sets lent-shape 0 (join_map (record_with (pairs l) head_bytes f.levels) (records v m s))
+              → Converts (convert f b s l lent-table lent-shape) (record { number = 0; place = 0; rest = record { rows = n; entries = m } }) new-table new-shape
+          unfolding convert records_with
+          accepted room-table room-shape w v ew ev new-table new-shape et eu =
+              let rows-counted = passed.counted.rows-counted in
+              let entries-counted = passed.counted.entries-counted in
+              let fits : short ≡ false =
+              ap₂ ◌||◌ (le-ltb (length lent-table) (length (table_with f ps b)) (omega (arith, room-table, table-length)))
+              (le-ltb (length lent-shape) (length (shape_with f ps s)) (omega (arith, room-shape, shape-length))) in
+              let counts : answer ≡ given (record { rows = n; entries = m }, table_with f ps b, shape_with f ps s) =
+              answer_is _ _ _ _ no_pair (sym rows-listed) (sym entries-listed) fits
+              ∙ ap₂ (λ n m. given (record { rows = n; entries = m }, table_with f ps b, shape_with f ps s)) (count-rows (old_range f) b ∙ sym rows-counted)
+              (count_entries (old_range f) s ∙ sym entries-counted) in
+              converts_given lent-table lent-shape answer n m (table_with f ps b) (shape_with f ps s) counts (omega (arith, room-table, table-length))
+              (omega (arith, room-shape, shape-length)) new-table new-shape
+              (et ∙ ap₂ (λ w n. sets lent-table 0 (join_map (record_with ps label_at 1) (records w n b))) ew rows-counted)
+              (eu ∙ ap₂ (λ v m. sets lent-shape 0 (join_map (record_with ps head_bytes f.levels) (records v m s))) ev entries-counted)

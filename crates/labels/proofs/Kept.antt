@@ -10,16 +10,18 @@ use lib.Dec.{eqb, leb}
 use lib.ListN.{length, get_or, take, drop, drop_of_length-le}
 use lib.Seq.{take-suc}
 use borrow.Author.Tests.{lt-leb, le-leb}
-use Rattle.std.proofs.Common.{is_some, unwrap_or}
+use Rattle.std.proofs.Common.{is_some}
 use Rattle.std.proofs.Common as std
+use Rattle.std.proofs.lemmas.List.FromFn.{length-range_with_len}
 use Rattle.std.specs.List.{position, position_or_len, range_with_len}
 use Rattle.paper.specs.Lists.{any}
 use Rattle.paper.specs.Format.{Format}
 use Rattle.paper.specs.Labels.{most_old, Pair, pairs, listed, taken, pair_kept, bad_pair_from, bad_pair}
+use Rattle.paper.specs.Refusals.{found}
 use Rattle.tables.specs.Place.{place_of}
 use Rattle.tables.proofs.Rows.{some-place, none-place}
 use Rattle.labels.specs.Pairs.{pair_at, has}
-use Rattle.labels.proofs.Ranged.{or_number}
+use Rattle.labels.proofs.Ranged.{place_is, found_place}
 use Rattle.labels.proofs.Listed.{position_any, next_pair, pair_at_lem}
 
 -- ---- one pair
@@ -151,9 +153,10 @@ module _ (f : Format) (ls l : List ℕ) where
       go true t rest = subst is_at (omega arith) (rest t)
       go false t rest = subst is_at (omega arith) (breaking_stop i breaking (length (pairs l)) refl (omega (arith, e)) t)
 
-  -- The first pair to break one, and else their number, is that of the list.
+  -- The first pair to break one is that of the list.
   pub first_break_is : (n : ℕ) → n ≡ length (pairs l) → (r : std.Option ℕ) → r ≡ position breaks (range_with_len 0 n)
-      → bad_pair f ls (pairs l) ≡ place_of (unwrap_or r n) (length (pairs l))
+      → found r ≡ bad_pair f ls (pairs l)
   first_break_is n e r er =
-      breaks_from 0 n (omega (arith, e)) breaking_start
-      ∙ ap (λ k. place_of k (length (pairs l))) (omega arith ∙ sym (ap (λ o. unwrap_or o n) er ∙ or_number breaks n))
+      ap found er ∙ found_place breaks (range_with_len 0 n)
+      ∙ ap₂ place_of (place_is breaks (range_with_len 0 n) ∙ omega arith) (length-range_with_len 0 n ∙ e)
+      ∙ sym (breaks_from 0 n (omega (arith, e)) breaking_start)

@@ -1,18 +1,20 @@
 -- A test of the numbers of a range that is a test of a list's elements by their places. Assumes nothing.
-use Prim.Native.Nat.{ℕ, zero, suc, ◌+◌, ◌≤◌, ◌<◌}
+use Prim.Native.Nat.{ℕ, zero, suc, ◌+◌, ◌<◌}
 use native.Mathlib.Numerals.{add-one}
 use native.Mathlib.Omega.{arith}
 use mathlib.Core.Path.{◌≡◌, refl, sym, ◌∙◌, ap, ap₂}
 use mathlib.Core.Bool.{Bool, true, false, ◌||◌, not, cond}
-use mathlib.Core.List.{List, ◌∷◌, []}
+use mathlib.Core.List.{List, ◌∷◌}
+use mathlib.Core.Option.{none, some}
 use lib.Dec.{ltb}
 use lib.ListN.{length, drop, drop_of_length-le}
-use borrow.Author.Tests.{ltb-false}
-use Rattle.std.proofs.Common.{Option, Some, None, unwrap_or}
+use Rattle.std.proofs.Common.{Some, None}
 use Rattle.std.proofs.lemmas.List.FromFn.{length-range_with_len}
 use Rattle.std.proofs.lemmas.List.Recursion.{is_position_or_len}
 use Rattle.std.specs.List.{list_any, position, position_or_len, range_with_len}
 use Rattle.paper.specs.Lists.{any, place}
+use Rattle.paper.specs.Refusals.{found}
+use Rattle.tables.specs.Place.{place_of}
 
 module _ {A : Type 0} (p : A → Bool) where
   -- the place of the first element that passes, in the two words for it
@@ -23,13 +25,14 @@ module _ {A : Type 0} (p : A → Bool) where
       at true k = refl
       at false k = omega arith
 
-  place_most : (xs : List A) → place p xs ≤ length xs
-  place_most [] = omega arith
-  place_most (x ∷ xs) = at (p x) (place_most xs)
+  -- where a search of a list stops
+  pub found_place : (xs : List A) → found (position p xs) ≡ place_of (place p xs) (length xs)
+  unfolding place_of
+  found_place xs = go (ltb (position_or_len p xs) (length xs)) ∙ ap (λ k. place_of k (length xs)) (sym (place_is xs))
     where
-      at : (b : Bool) → place p xs ≤ length xs → elim b as (λ _. ℕ) [ true ↦ 0 | false ↦ suc (place p xs) ] ≤ suc (length xs)
-      at true le = omega arith
-      at false le = omega (arith, le)
+      go : (b : Bool) → found (cond b (Some (position_or_len p xs)) None) ≡ elim b [ true ↦ some (position_or_len p xs) | false ↦ none ]
+      go true = refl
+      go false = refl
 
   module _ (q : ℕ → Bool) (xs : List A) where
     -- The test of place i is that of the element there.
@@ -64,23 +67,3 @@ module _ {A : Type 0} (p : A → Bool) where
         pub position_ranged : position q (range_with_len 0 n) ≡ position p xs
         position_ranged =
             ap₂ (λ k m. cond (ltb k m) (Some k) None) (place_from 0 n (omega (arith, long)) ∙ place_is xs) (length-range_with_len 0 n ∙ long)
-
-        -- The first of them, and else their number, is the list's.
-        pub place_ranged : (r : Option ℕ) → r ≡ position q (range_with_len 0 n) → unwrap_or r n ≡ place p xs
-        place_ranged r e = ap (λ o. unwrap_or o n) (e ∙ position_ranged) ∙ go (ltb (position_or_len p xs) (length xs)) refl
-          where
-            go : (b : Bool) → ltb (position_or_len p xs) (length xs) ≡ b → unwrap_or (cond b (Some (position_or_len p xs)) None) n ≡ place p xs
-            go true t = sym (place_is xs)
-            go false t = omega (arith, long, place_is xs, place_most xs, ltb-false (position_or_len p xs) (length xs) t)
-
--- the place of the first number of a range that passes, and else their number
-pub or_number : (q : ℕ → Bool) (n : ℕ) → unwrap_or (position q (range_with_len 0 n)) n ≡ position_or_len q (range_with_len 0 n)
-or_number q n = go (ltb k (length (range_with_len 0 n))) refl
-  where
-    k : ℕ
-    k = position_or_len q (range_with_len 0 n)
-
-    go : (b : Bool) → ltb k (length (range_with_len 0 n)) ≡ b → unwrap_or (cond b (Some k) None) n ≡ k
-    go true t = refl
-    go false t =
-        omega (arith, length-range_with_len 0 n, place_is q (range_with_len 0 n), place_most q (range_with_len 0 n), ltb-false k (length (range_with_len 0 n)) t)

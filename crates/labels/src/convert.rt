@@ -2,8 +2,8 @@
 ghost use Rattle.std.specs.Prelude.{◌≡◌, ◌<◌, eqb, length, take};
 ghost use Rattle.paper.specs.Lists.{any};
 ghost use Rattle.paper.specs.Labels.{old_range, pairs, pair_kept, bad_pair, convert};
+ghost use Rattle.paper.specs.Refusals.{found};
 ghost use Rattle.octets.specs.Served.{Served};
-ghost use Rattle.tables.specs.Place.{place_of};
 ghost use Rattle.labels.specs.Pairs.{pair_at};
 ghost use Rattle.labels.specs.Records.{standing};
 ghost use Rattle.labels.specs.Answers.{converted, Converts};
@@ -16,7 +16,7 @@ use paper::refusal::Refusal;
 use shapes::tests::examine_shape;
 use tables::table::examine;
 
-// What converting answers: the counts of rows and entries.
+// What converting counts: the rows and the entries.
 #[derive(Clone, Copy, Drop)]
 pub struct Converted {
     pub rows: usize,
@@ -75,7 +75,7 @@ fn pair_kept(
     find(list, i, 0, old).is_none() && find(list, i, 1, new).is_none()
 }
 
-// The first pair to break a rule, the number of pairs for none.
+// The first pair to break a rule.
 fn first_bad(
     table: &[u8],
     rows: usize,
@@ -83,14 +83,11 @@ fn first_bad(
     entries: usize,
     f: Format,
     list: &[u16],
-) -> usize
+) -> Option<usize>
     requires { Counted f table.now shape.now rows entries }
-    ensures { bad_pair f (standing f table.now shape.now) (pairs list.now) ≡ place_of result (length (pairs list.now)) }
+    ensures { found result ≡ bad_pair f (standing f table.now shape.now) (pairs list.now) }
 {
-    let n = count_pairs(list);
-    (0..n)
-        .position(|i| !pair_kept(table, rows, shape, entries, f, list, i))
-        .unwrap_or(n)
+    (0..count_pairs(list)).position(|i| !pair_kept(table, rows, shape, entries, f, list, i))
 }
 
 // A table and a shape that pass their tests. Both lengths are tested before the first byte is written.
@@ -108,18 +105,15 @@ fn convert_tested(
     ensures { let asked = convert f table.now shape.now list.now new_table.old new_shape.old in
         Converts asked (converted result) new_table.new new_shape.new }
 {
-    let pair = first_bad(table, rows, shape, entries, f, list);
-    if pair < count_pairs(list) {
+    if let Some(pair) = first_bad(table, rows, shape, entries, f, list) {
         return Err(Refusal::BadPair(pair));
     }
     let w = octets::row_bytes(f);
-    let row = first_unlisted(table, w, rows, 2, 1, list, f);
-    if row < rows {
+    if let Some(row) = first_unlisted(table, w, rows, 2, 1, list, f) {
         return Err(Refusal::Unlisted(row));
     }
     let v = octets::entry_bytes(f);
-    let entry = first_unlisted(shape, v, entries, 4, f.levels, list, f);
-    if entry < entries {
+    if let Some(entry) = first_unlisted(shape, v, entries, 4, f.levels, list, f) {
         return Err(Refusal::Unlisted(entry));
     }
     if new_table.len() < table.len() {

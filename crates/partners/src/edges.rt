@@ -1,5 +1,5 @@
 // The edges of a shape, each named by its lower entry: how many closest rows their rows have, both ways.
-ghost use Rattle.std.specs.Prelude.{◌≡◌, ◌+◌, ◌≤◌, ◌<◌, length};
+ghost use Rattle.std.specs.Prelude.{◌≡◌, ◌+◌, ◌≤◌, ◌<◌, length, MatchOption};
 ghost use Rattle.closest.specs.Runs.{Rows, start_of};
 ghost use Rattle.shapes.specs.Shape.{Sized};
 ghost use Rattle.partners.specs.Closest.{Bound};
@@ -103,27 +103,24 @@ fn spread(low: [u16; 8], high: [u16; 8]) -> [usize; 16]
     all
 }
 
-// The first entry from 1 on where a run ends that has children and no parents; the number of entries where there is none.
-fn first_alone(low: [u16; 8], high: [u16; 8], entries: usize) -> usize
+// The first entry from 1 on where a run ends that has children and no parents.
+fn first_alone(low: [u16; 8], high: [u16; 8], entries: usize) -> Option<usize>
     requires { (1 ≤ entries) × (entries ≤ 16) }
-    ensures { FirstAlone low high entries result }
+    ensures { MatchOption result (FirstAlone low high entries entries) (λ c. (c < entries) × FirstAlone low high entries c) }
 {
     for c in 1..entries {
         if of_entry(low, high, c) != 65535 {
-            return c;
+            return Some(c);
         }
     }
-    entries
+    None
 }
 
-// The first row of the run, of entry c's edge, that ends at the entry's place; 0 past the last entry.
+// The first row of the run, of entry c's edge, that ends at the entry's place.
 fn lone_start(levels: &[u8], shape: Shape, low: [u16; 8], high: [u16; 8], c: usize) -> usize
-    requires { (shape.entries ≤ 16) × EndWithin (length levels.now) shape low high c }
+    requires { (c < shape.entries) × (shape.entries ≤ 16) × EndWithin (length levels.now) shape low high c }
     ensures { RunStart levels.now shape low high c result }
 {
-    if shape.entries <= c {
-        return 0;
-    }
     let end = of_entry(low, high, c);
     run_start(levels, shape.edges[c], end - 1)
 }
@@ -147,13 +144,16 @@ pub fn walk_edges(levels: &[u8], types: &[u8], rows: usize, shape: Shape) -> Edg
 {
     let low = walk_group(levels, types, rows, shape, 0);
     let high = walk_group(levels, types, rows, shape, 8);
-    let met = first_alone(low.lone, high.lone, shape.entries);
+    let (met, from) = match first_alone(low.lone, high.lone, shape.entries) {
+        Some(c) => (c, lone_start(levels, shape, low.lone, high.lone, c)),
+        None => (shape.entries, 0),
+    };
     Edges {
         least_children: spread(low.least_children, high.least_children),
         greatest_children: spread(low.greatest_children, high.greatest_children),
         least_parents: spread(low.least_parents, high.least_parents),
         greatest_parents: spread(low.greatest_parents, high.greatest_parents),
         met,
-        from: lone_start(levels, shape, low.lone, high.lone, met),
+        from,
     }
 }

@@ -161,27 +161,21 @@ fn count_deep(
     requires { Rows rows levels.now types.now × Few rows at }
     ensures { CountsDeep levels.now types.now rows over own bound at result }
 {
-    let mut parents = at.parents;
-    let mut children = at.children;
+    let mut now = at;
     for row in at.row..rows {
         if levels[row] as u16 <= bound {
-            return Counts {
-                parents,
-                children,
-                row,
-            };
+            break;
         }
         let k = types[row] as u16;
-        let more_parents = add_own(parents, over, k);
-        parents = more_parents;
-        let more_children = add_own(children, own, k);
-        children = more_children;
+        let parents = add_own(now.parents, over, k);
+        let children = add_own(now.children, own, k);
+        now = Counts {
+            parents,
+            children,
+            row: row + 1,
+        };
     }
-    Counts {
-        parents,
-        children,
-        row: rows,
-    }
+    now
 }
 
 // A row's level; past the last row 0, which ends every run.

@@ -28,10 +28,10 @@ use Rattle.tables.proofs.Rows.{row_in}
 use Rattle.silmezga_c.specs.Told.{LooksUp, as_number, InFour, in_four, four_numbers}
 use Rattle.silmezga_c.specs.Numbers.{told_count, told_converted, told_summary, judged_numbers}
 use Rattle.silmezga_c.specs.declared.LookedUp.{LookedUp}
-use Rattle.silmezga_c.specs.declared.told.Counted.{Counted}
-use Rattle.silmezga_c.specs.declared.told.ConvertedNumbers.{ConvertedNumbers}
-use Rattle.silmezga_c.specs.declared.told.SummaryNumbers.{SummaryNumbers}
-use Rattle.silmezga_c.specs.declared.told.JudgedNumbers.{JudgedNumbers}
+use Rattle.silmezga_c.specs.declared.answers.Counted.{Counted}
+use Rattle.silmezga_c.specs.declared.answers.ConvertedNumbers.{ConvertedNumbers}
+use Rattle.silmezga_c.specs.declared.answers.SummaryNumbers.{SummaryNumbers}
+use Rattle.silmezga_c.specs.declared.answers.JudgedNumbers.{JudgedNumbers}
 
 -- ---- look-up
 module _ (f : Format) (t : List ℕ) (i : ℕ) where

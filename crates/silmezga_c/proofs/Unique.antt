@@ -35,8 +35,8 @@ use Rattle.settling.proofs.Settles.{Settled, Promises, Walk-settled, both, three
 use Rattle.silmezga.proofs.Trees.{width_named}
 use Rattle.silmezga_c.specs.Told.{width_of, format_numbered, InFour, edges_told, in_four, four_numbers}
 use Rattle.silmezga_c.specs.Numbers.{told_count, told_converted, told_summary}
-use Rattle.silmezga_c.specs.declared.told.Counted.{Counted}
-use Rattle.silmezga_c.specs.declared.told.ConvertedNumbers.{ConvertedNumbers}
+use Rattle.silmezga_c.specs.declared.answers.Counted.{Counted}
+use Rattle.silmezga_c.specs.declared.answers.ConvertedNumbers.{ConvertedNumbers}
 use Rattle.silmezga_c.proofs.Told.{look_up_unique, count_told, converted_told, summary_told, judged-same}
 use Rattle.silmezga_c.proofs.silmezga_examine.Reads as examine
 use Rattle.silmezga_c.proofs.silmezga_look_up.Reads as look_up

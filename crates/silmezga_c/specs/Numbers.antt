@@ -10,9 +10,9 @@ use Rattle.paper.specs.declared.refusal.Refusal.{Refusal}
 use Rattle.judging.specs.Judged.{numbers_of, edges_of}
 use Rattle.judging.specs.declared.judge.Judged.{Judged}
 use Rattle.silmezga_c.specs.Told.{as_number, InFour}
-use Rattle.silmezga_c.specs.declared.told.Counted.{Counted}
-use Rattle.silmezga_c.specs.declared.told.ConvertedNumbers.{ConvertedNumbers}
-use Rattle.silmezga_c.specs.declared.told.SummaryNumbers.{SummaryNumbers}
+use Rattle.silmezga_c.specs.declared.answers.Counted.{Counted}
+use Rattle.silmezga_c.specs.declared.answers.ConvertedNumbers.{ConvertedNumbers}
+use Rattle.silmezga_c.specs.declared.answers.SummaryNumbers.{SummaryNumbers}
 
 -- number, place, count
 abbrev pub told_count : Counted → Reply ℕ

@@ -10,7 +10,7 @@ use Rattle.paper.specs.declared.Width.{Width}
 use Rattle.paper.specs.declared.Width.TheVariants.{Six, Eight}
 use Rattle.tables.specs.Reply.{start_of}
 use Rattle.silmezga_c.specs.declared.LookedUp.{LookedUp}
-use Rattle.silmezga_c.specs.declared.told.JudgedNumbers.{JudgedNumbers}
+use Rattle.silmezga_c.specs.declared.answers.JudgedNumbers.{JudgedNumbers}
 
 -- 8 names eight levels, and every other number six
 abbrev pub width_of : ℕ → Width

@@ -5,7 +5,7 @@
 // not both. None asks anything of its caller beyond slices that are there.
 #![tactic(auto)]
 
-pub mod told;
+pub mod answers;
 
 ghost use Rattle.std.specs.Prelude.{◌≡◌, map};
 ghost use Rattle.paper.specs.Format.{base, eight};
@@ -27,7 +27,7 @@ ghost use Rattle.silmezga_c.specs.Numbers.{told_count, told_summary, told_conver
 
 use adorned::TypeSummary;
 use silmezga::{Refusal, Width};
-use told::{ConvertedNumbers, Counted, JudgedNumbers, SummaryNumbers};
+use answers::{ConvertedNumbers, Counted, JudgedNumbers, SummaryNumbers};
 
 // The width that a number names.
 fn width_of(number: u32) -> Width

@@ -22,7 +22,7 @@ ghost use Rattle.silmezga_c.specs.Numbers.{told_count, told_summary, told_conver
 
 use adorned::TypeSummary;
 use silmezga_c::LookedUp;
-use silmezga_c::told::{ConvertedNumbers, Counted, JudgedNumbers, SummaryNumbers};
+use silmezga_c::answers::{ConvertedNumbers, Counted, JudgedNumbers, SummaryNumbers};
 
 // Refusals 1 to 3, or the count of rows.
 #[unsafe(no_mangle)]

@@ -3,10 +3,8 @@ use Prim.Native.Nat.{ℕ, suc, ◌+◌, ◌≤◌, ◌<◌}
 use native.Mathlib.Numerals.{add-one}
 use native.Mathlib.Omega.{arith}
 use mathlib.Core.Path.{◌≡◌, refl, sym, ◌∙◌, ap, ap₂}
-use mathlib.Core.Logic.{inl, inr}
-use mathlib.Core.Bool.{Bool, true, false, true≢false, false≢true}
-use Rattle.std.proofs.Common.{Option, Some, None, unwrap_or}
-use Rattle.std.specs.Option.{is_some}
+use mathlib.Core.Logic.{◌⊎◌, inl, inr, ⊎_elim}
+use mathlib.Core.Bool.{Bool, true, false}
 use mathlib.Core.List.{List, [], ◌∷◌}
 use lib.ListN.{length, get_or, take, drop, drop_of_length-le}
 use lib.Seq.{drop-cons, take_all}
@@ -40,38 +38,43 @@ module _ {A : Type 0} (p : A → Bool) where
   keep-none [] none = refl
   keep-none (x ∷ xs) none = keep-later x xs (none x (inl refl)) ∙ keep-none xs (λ y h. none y (inr h))
 
-  -- Before element k none passes, and none is found, or one does, and it is found.
-  abbrev pub Sought : List A → Option ℕ → ℕ → Type 0
-  Sought xs None k = (place p xs ≡ k + place p (drop k xs)) × (length (keep p xs) ≡ length (keep p (drop k xs)))
-  Sought xs (Some i) k = (place p xs ≡ i) × (length (keep p xs) ≡ suc (length (keep p (drop k xs))))
+  -- Before element k none passes, and `found` says so, or one does, and it is `found`.
+  abbrev pub Sought : List A → ℕ → ℕ → Type 0
+  Sought xs found k =
+      ((found ≡ most_types) × (place p xs ≡ k + place p (drop k xs)) × (length (keep p xs) ≡ length (keep p (drop k xs))))
+      ⊎ ((found < most_types) × (place p xs ≡ found) × (length (keep p xs) ≡ suc (length (keep p (drop k xs)))))
 
-  module _ (xs : List A) (k : ℕ) (x : A) (next : drop k xs ≡ x ∷ drop (suc k) xs) where
-    after : drop (k + 1) xs ≡ drop (suc k) xs
-    after = ap (λ n. drop n xs) (add-one k)
+  module _ (xs : List A) (found k : ℕ) (s : Sought xs found k) where
+    module _ (x : A) (next : drop k xs ≡ x ∷ drop (suc k) xs) where
+      after : drop (k + 1) xs ≡ drop (suc k) xs
+      after = ap (λ n. drop n xs) (add-one k)
 
-    -- the next element does not pass
-    past : p x ≡ false
-        → (place p (drop k xs) ≡ suc (place p (drop (k + 1) xs))) × (length (keep p (drop k xs)) ≡ length (keep p (drop (k + 1) xs)))
-    past e = (
-      ap (place p) next ∙ place-later x (drop (suc k) xs) e ∙ ap (λ l. suc (place p l)) (sym after),
-      ap (λ l. length (keep p l)) next ∙ ap length (keep-later x (drop (suc k) xs) e) ∙ ap (λ l. length (keep p l)) (sym after),
-    )
+      -- the next element does not pass
+      pub sought_past : p x ≡ false → Sought xs found (k + 1)
+      sought_past e =
+          let pl : place p (drop k xs) ≡ suc (place p (drop (k + 1) xs)) =
+          ap (place p) next ∙ place-later x (drop (suc k) xs) e ∙ ap (λ l. suc (place p l)) (sym after) in
+          let kl : length (keep p (drop k xs)) ≡ length (keep p (drop (k + 1) xs)) =
+          ap (λ l. length (keep p l)) next ∙ ap length (keep-later x (drop (suc k) xs) e) ∙ ap (λ l. length (keep p l)) (sym after) in
+          ⊎_elim (λ t. inl (t.0, omega (arith, t.1), t.2 ∙ kl)) (λ t. inr (t.0, t.1, t.2 ∙ ap suc kl)) s
 
-    pub sought_past : (found : Option ℕ) → Sought xs found k → p x ≡ false → Sought xs found (k + 1)
-    sought_past None s e = (omega (arith, s.0, (past e).0), s.1 ∙ (past e).1)
-    sought_past (Some i) s e = (s.0, s.1 ∙ ap suc (past e).1)
+      -- it passes
+      one_more : p x ≡ true → length (keep p (drop k xs)) ≡ suc (length (keep p (drop (k + 1) xs)))
+      one_more e = ap (λ l. length (keep p l)) next ∙ ap length (keep_here x (drop (suc k) xs) e) ∙ ap (λ l. suc (length (keep p l))) (sym after)
 
-    -- it passes
-    one_more : p x ≡ true → length (keep p (drop k xs)) ≡ suc (length (keep p (drop (k + 1) xs)))
-    one_more e = ap (λ l. length (keep p l)) next ∙ ap length (keep_here x (drop (suc k) xs) e) ∙ ap (λ l. suc (length (keep p l))) (sym after)
+      pub sought_here : p x ≡ true → most_types ≤ found → k < most_types → Sought xs k (k + 1)
+      sought_here e none lt =
+          ⊎_elim (λ t. inr (lt, omega (arith, t.1, ap (place p) next ∙ place_here x (drop (suc k) xs) e), t.2 ∙ one_more e))
+          (λ t. let z : ⊥ = omega (arith, t.0) in absurd z) s
 
-    pub sought_here : (found : Option ℕ) → Sought xs found k → is_some found ≡ false → p x ≡ true → Sought xs (Some k) (k + 1)
-    sought_here None s none e = (omega (arith, s.0, ap (place p) next ∙ place_here x (drop (suc k) xs) e), s.1 ∙ one_more e)
-    sought_here (Some i) s none e = absurd (true≢false none)
+      pub sought_twice : p x ≡ true → found < most_types → length (keep p xs) ≡ 1 → ⊥
+      sought_twice e some one = ⊎_elim (λ t. omega (arith, t.0)) (λ t. omega (arith, t.2, one_more e)) s
 
-    pub sought_twice : (found : Option ℕ) → Sought xs found k → is_some found ≡ true → p x ≡ true → length (keep p xs) ≡ 1 → ⊥
-    sought_twice None s some e one = false≢true some
-    sought_twice (Some i) s some e one = omega (arith, s.1, one_more e)
+    -- no element is left
+    pub sought_end : drop k xs ≡ [] → ((found ≡ most_types) × (length (keep p xs) ≡ 0)) ⊎ ((found ≡ place p xs) × (length (keep p xs) ≡ 1))
+    sought_end done =
+        let kl : length (keep p (drop k xs)) ≡ 0 = ap (λ l. length (keep p l)) done in
+        ⊎_elim (λ t. inl (t.0, t.2 ∙ kl)) (λ t. inr (sym t.1, t.2 ∙ ap suc kl)) s
 
 -- ---- the number of the one type that a name matches
 module _ (ts : List (List ℕ)) (n : Name) where
@@ -92,35 +95,29 @@ held_name r n h le =
 
 module _ (parents labels : List ℕ) (count : ℕ) (n : Name) where
   -- whatever types are listed, those before type k are looked at
-  abbrev pub Seeking : Option ℕ → ℕ → Type 0
+  abbrev pub Seeking : ℕ → ℕ → Type 0
   Seeking found k = (ts : List (List ℕ)) → Told ts parents labels count → Sought (matches n) ts found k
 
-  module _ (k : ℕ) where
-    module _ (found : Option ℕ) (s : Seeking found k) (lt : k < count) where
+  module _ (found k : ℕ) (s : Seeking found k) where
+    module _ (lt : k < count) where
       next : (ts : List (List ℕ)) → Told ts parents labels count → drop k ts ≡ get_or ts k [] ∷ drop (suc k) ts
       next ts told = drop-cons ts k [] (omega (arith, told.count-is))
 
       pub seeking_past : Ends parents labels count n k false → Seeking found (k + 1)
-      seeking_past e ts told = sought_past (matches n) ts k (get_or ts k []) (next ts told) found (s ts told) (sym (e ts told))
+      seeking_past e ts told = sought_past (matches n) ts found k (s ts told) (get_or ts k []) (next ts told) (sym (e ts told))
 
-      pub seeking_here : Ends parents labels count n k true → is_some found ≡ false → Seeking (Some k) (k + 1)
-      seeking_here e none ts told = sought_here (matches n) ts k (get_or ts k []) (next ts told) found (s ts told) none (sym (e ts told))
+      pub seeking_here : Ends parents labels count n k true → most_types ≤ found → Seeking k (k + 1)
+      seeking_here e none ts told =
+          sought_here (matches n) ts found k (s ts told) (get_or ts k []) (next ts told) (sym (e ts told)) none (omega (arith, told.few))
 
-      pub seeking_twice : Ends parents labels count n k true → is_some found ≡ true → Sole parents labels count n most_types
+      pub seeking_twice : Ends parents labels count n k true → found < most_types → Sole parents labels count n most_types
       seeking_twice e some ts listed =
-          let told = listed.told in
-          sym (sole_none ts n (sought_twice (matches n) ts k (get_or ts k []) (next ts told) found (s ts told) some (sym (e ts told))))
+          sym (sole_none ts n (sought_twice (matches n) ts found k (s ts listed.told) (get_or ts k []) (next ts listed.told) (sym (e ts listed.told)) some))
 
-    -- no type is left
-    kept_none : count ≤ k → (ts : List (List ℕ)) → Told ts parents labels count → length (keep (matches n) (drop k ts)) ≡ 0
-    kept_none le ts told = ap (λ l. length (keep (matches n) l)) (drop_of_length-le ts {i = k} (omega (arith, told.count-is)))
-
-    pub seeking_end : (found : Option ℕ) → Seeking found k → count ≤ k → Sole parents labels count n (unwrap_or found most_types)
-    seeking_end None s le ts listed =
-        sym (sole_none ts n (λ e. omega (arith, e, (s ts listed.told).1, kept_none le ts listed.told)))
-    seeking_end (Some i) s le ts listed =
-        let t = s ts listed.told in
-        sym t.0 ∙ sym (sole_one ts n (t.1 ∙ ap suc (kept_none le ts listed.told)))
+    pub seeking_end : count ≤ k → Sole parents labels count n found
+    seeking_end le ts listed =
+        ⊎_elim (λ t. t.0 ∙ sym (sole_none ts n (λ e. omega (arith, e, t.1)))) (λ t. t.0 ∙ sym (sole_one ts n t.1))
+        (sought_end (matches n) ts found k (s ts listed.told) (drop_of_length-le ts {i = k} (omega (arith, listed.told.count-is))))
 
   -- a name of more labels than any type has
   pub seeking_long : 8 < length n.labels → Sole parents labels count n most_types

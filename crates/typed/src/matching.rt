@@ -1,5 +1,5 @@
 // The one type of a table that a name matches. Types are told by their parents and last labels, so a name is compared from its last label upwards.
-ghost use Rattle.std.specs.Prelude.{◌≤◌, ◌<◌, length, take, unwrap_or, IfSome};
+ghost use Rattle.std.specs.Prelude.{◌≤◌, ◌<◌, length, take};
 ghost use Rattle.paper.specs.Format.{most_types};
 ghost use Rattle.grammar.specs.Grammar.{Name};
 ghost use Rattle.names.specs.Word.{Holds};
@@ -30,28 +30,24 @@ fn type_matches<'a>(
     !whole || count <= q
 }
 
-// The number of the one type that a name matches, if it matches one and no other. A name of more than eight labels matches none.
-pub fn match_type<'a>(
-    name: Word,
-    parents: &'a [u8],
-    labels: &'a [u16],
-    count: usize,
-) -> Option<usize>
+// The number of the one type that a name matches, 64 where it matches none or several. A name of more than eight labels matches none.
+// Kept: a number, 64 for none: tried as an Option, and it misses a bar of speed, since the walk over the types carries its tag.
+pub fn match_type<'a>(name: Word, parents: &'a [u8], labels: &'a [u16], count: usize) -> usize
     requires { (count ≤ length parents.now) × (count ≤ length labels.now) × (count ≤ most_types) }
-    ensures sole { (n : Name) → Holds name n → Sole parents.now labels.now count n (unwrap_or result most_types) }
-    ensures listed { IfSome result (λ k. k < count) }
+    ensures sole { (n : Name) → Holds name n → Sole parents.now labels.now count n result }
+    ensures upper_bound { result ≤ most_types }
 {
     let size = name.size;
     if 8 < size {
-        return None;
+        return 64;
     }
-    let mut found = None;
+    let mut found = 64;
     for k in 0..count {
         if type_matches(&name.labels, size, name.whole, parents, labels, count, k) {
-            if found.is_some() {
-                return None;
+            if found < 64 {
+                return 64;
             }
-            found = Some(k);
+            found = k;
         }
     }
     found

@@ -80,7 +80,7 @@ fn keep_word<'a>(
     let mut types = w.types;
     if entries < 16 {
         levels[entries] = (depth + 1) as u16;
-        types[entries] = match_type(name, parents, labels, count).unwrap_or(64) as u16;
+        types[entries] = match_type(name, parents, labels, count) as u16;
     }
     Some(Walked {
         entries: entries + 1,

@@ -1,5 +1,5 @@
+pub mod First
 pub mod Moving
 pub mod Deep
 pub mod Answers
 pub mod Unique
-pub mod Between

@@ -61,10 +61,5 @@ pub fn first_deep(b: &[u8], w: usize, count: usize, levels: usize) -> Option<usi
     requires { (2 ≤ w) × (count ≡ whole w b.now) }
     ensures { found result ≡ place_of (place (record_deep levels) (records w count b.now)) count }
 {
-    for i in 0..count {
-        if is_deep(octets::record(b, w, i), levels) {
-            return Some(i);
-        }
-    }
-    None
+    (0..count).find(|i| is_deep(octets::record(b, w, *i), levels))
 }

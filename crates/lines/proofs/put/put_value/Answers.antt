@@ -1,12 +1,14 @@
--- `put_value`: eight bytes copied over eight are eight bytes set. Assumes nothing.
-use Rattle.std.proofs.Common.{◌≡◌, ◌+◌, ◌≤◌, ℕ, List, length, take, drop, arith, sym, append_assoc}
-use Rattle.std.proofs.lemmas.List.{drop-drop}
-use Rattle.std.proofs.lemmas.List.Edits.{sets, sets-eq}
-use borrow.Rule.Slice.PartMut.{put_mid}
+-- `put_value`: at first all bytes are to be written, each turn writes one, and in the end none is left. Assumes nothing.
+use Rattle.std.proofs.Common.{arith}
+use lib.ListN.{drop_of_length-le}
+use Rattle.octets.proofs.Writing.{all_left, all_written, byte_written}
 use Rattle.lines.proofs.put.put_value.Goals as goal
 
-overwritten : (a k : ℕ) (xs ys zs : List ℕ) → ys ≡ zs → k ≡ length zs → a + k ≤ length xs → put_mid a k xs ys ≡ sets xs a zs
-overwritten a k xs ys zs e ek le = rw (e, ek, sets-eq zs xs a (omega arith), drop-drop) (sym (append_assoc (take a xs) zs (drop (a + length zs) xs)))
+pub loop-k-init : goal.loop-k-init
+loop-k-init c = all_left c.args.new.now c.args.at _ _ (omega arith)
+
+pub loop-k-preserved : goal.loop-k-preserved
+loop-k-preserved c = byte_written c.loop-k.k c.args.value c.loop-k.invariant (omega (arith, c.well_formed))
 
 pub returns : goal.returns
-returns c = overwritten _ _ _ _ _ c.copy_from_slice.ensures.after (omega arith) (omega arith)
+returns c = all_written c.loop-k.invariant (drop_of_length-le c.args.value {i = c.loop-k.k} (omega (arith, c.well_formed)))
