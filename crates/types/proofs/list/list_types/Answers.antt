@@ -34,5 +34,4 @@ pub returns : goal.returns
 returns c =
     let walk = c.loop-i.invariant.0 in
     let count = count-rows c.args.f c.args.table.now in
-    let all : c.loop-i.i ≡ c.args.rows = omega arith in
-    rw (← all) (lists_end _ _ _ _ _ _ _ (omega (arith, count)) (omega (arith, count, walk.ks_long)) walk.pass)
+    lists_end _ _ _ _ _ _ _ (omega (arith, count)) (omega (arith, count, walk.ks_long)) walk.pass
