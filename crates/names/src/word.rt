@@ -4,15 +4,14 @@ ghost use Rattle.paper.specs.Lists.{same};
 ghost use Rattle.octets.specs.Served.{Served};
 ghost use Rattle.grammar.specs.Names.{named, name_of};
 ghost use Rattle.grammar.specs.Reader.{label_of};
-ghost use Rattle.names.specs.Word.{longest_name, Guessed, NamedBy, NumberOf, PartEnds, first_at, SpellsNone, Reads};
+ghost use Rattle.names.specs.Word.{longest_name, Guessed, NamedBy, NumberOf, PartEnds, first_at, Reads};
 
 use crate::names::{name_bytes, name_length};
 use paper::Format;
 
-// A name as it was read: whether the word spells one at all, whether a dot leads, the number of its labels, and the first eight of them.
+// A name as it was read: whether a dot leads, the number of its labels, and the first eight of them.
 #[derive(Clone, Copy, Drop)]
 pub struct Word {
-    pub spells: bool,
     pub whole: bool,
     pub size: usize,
     pub labels: [u16; 8],
@@ -116,20 +115,8 @@ fn first_at(word: &[u8]) -> usize
     }
 }
 
-// What is read of a word that spells no name.
-fn no_name() -> Word
-    ensures { SpellsNone result }
-{
-    Word {
-        spells: false,
-        whole: false,
-        size: 0,
-        labels: [0u16; 8],
-    }
-}
-
-// The name that a word spells.
-pub fn read_word(word: &[u8], f: Format) -> Word
+// The name that a word spells, if it spells one.
+pub fn read_word(word: &[u8], f: Format) -> Option<Word>
     requires { Served f × (length word.now ≤ 1536) }
     ensures { Reads f word.now result }
 {
@@ -141,7 +128,7 @@ pub fn read_word(word: &[u8], f: Format) -> Word
         let end = part_end(word, p);
         let label = label_of(&word[p..end], f);
         if label == 0 {
-            return no_name();
+            return None;
         }
         if size < 8 {
             labels[size] = label as u16;
@@ -149,10 +136,9 @@ pub fn read_word(word: &[u8], f: Format) -> Word
         size += 1;
         p = end + 1;
     }
-    Word {
-        spells: true,
+    Some(Word {
         whole: start == 1,
         size,
         labels,
-    }
+    })
 }
