@@ -6,7 +6,7 @@ ghost use Rattle.grammar.specs.Names.{named, name_of};
 ghost use Rattle.grammar.specs.Reader.{label_of};
 ghost use Rattle.names.specs.Word.{longest_name, Guessed, NamedBy, NumberOf, PartEnds, first_at, Reads};
 
-use crate::names::{name_bytes, name_length};
+use crate::names::name_bytes;
 use paper::Format;
 
 // A name as it was read: whether a dot leads, the number of its labels, and the first eight of them.
@@ -22,9 +22,7 @@ fn is_name(part: &[u8], k: usize) -> bool
     requires { k < 20 }
     ensures { result ≡ same (name_of k) part.now }
 {
-    let n = name_length(k);
-    let name = name_bytes(k);
-    part == &name[..n]
+    part == name_bytes(k)
 }
 
 // The name that a part may be, less one, told by its first byte and its length, and 20 where there is none: of the twenty names no two agree in this sum.
