@@ -14,7 +14,7 @@ use Rattle.paper.specs.Calls.{Reply}
 use Rattle.totals.specs.Tape.{Tape, Sums, sum_tape}
 use Rattle.totals.specs.Total.{Total, most_tapes, most_sum, with, take_in}
 use Rattle.totals.specs.Told.{taken}
-use Rattle.std.specs.Prelude.{Result, Ok, Err}
+use Rattle.std.specs.Prelude.{Ok, Err}
 use Rattle.paper.specs.Refusals.{refusal_number, refusal_place}
 use Rattle.paper.proofs.Refusals.{numbered}
 use Rattle.paper.specs.declared.refusal.Refusal.{Refusal}
