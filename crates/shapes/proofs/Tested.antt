@@ -1,6 +1,6 @@
 -- Refusals 5 to 7 in their order, after those of the table: what the tests answer once each is known. Assumes nothing.
 use Prim.Native.Nat.{ℕ}
-use mathlib.Core.Path.{◌≡◌, refl, sym, ◌∙◌, ap}
+use mathlib.Core.Path.{◌≡◌, refl, ◌∙◌, ap}
 use mathlib.Core.List.{List}
 use mathlib.Core.Option.{Option, none}
 use Rattle.paper.specs.Format.{Format}

@@ -18,13 +18,7 @@ pub struct Types {
 }
 
 // The first listed type with this parent and label.
-pub fn find_type(
-    parents: &[u8],
-    labels: &[u16],
-    count: usize,
-    p: u8,
-    a: u16,
-) -> Option<usize>
+pub fn find_type(parents: &[u8], labels: &[u16], count: usize, p: u8, a: u16) -> Option<usize>
     requires { (count ≤ length parents.now) × (count ≤ length labels.now) }
     ensures { MatchOption result (NotListed parents.now labels.now count p a) (Found parents.now labels.now count p a) }
 {

@@ -1,6 +1,6 @@
 -- `list::list_types`: a row is of a listed type, of a new one, or of one too many. Assumes nothing.
 use native.Mathlib.Omega.{arith}
-use mathlib.Core.Path.{◌≡◌, refl}
+use mathlib.Core.Path.{refl}
 use Rattle.paper.proofs.Calls.{count-rows}
 use Rattle.types.proofs.Listed.{lists_end, walk_known, walk_new, walk_full}
 use Rattle.types.proofs.list.list_types.Goals as goal
