@@ -1,6 +1,7 @@
 -- What is read along the rows' type numbers: the children of type k between a row of type p and the next, and the level of each type. Assumes nothing.
-use Rattle.std.specs.Prelude.{ℕ, zero, suc, ◌<◌, min, max, ◌≡◌, true, false, List, [], ◌∷◌, eqb, get_or}
+use Rattle.std.specs.Prelude.{ℕ, suc, ◌<◌, min, max, ◌≡◌, true, false, List, [], ◌∷◌, eqb, get_or, Option, None, Some}
 use Rattle.paper.specs.Lists.{least, most}
+use Rattle.adorned.specs.declared.Range.{Range}
 
 -- those of type k before the next of type p
 abbrev pub lead : ℕ → ℕ → List ℕ → ℕ
@@ -16,14 +17,10 @@ runs p k (x ∷ xs) = elim (eqb x p) [ true ↦ lead p k xs ∷ runs p k xs | fa
 abbrev pub CountRange : List ℕ → ℕ → ℕ → Type 0
 CountRange counts lo hi = (lo ≡ least counts) × (hi ≡ most (λ x. x) counts)
 
--- the least and the greatest after one more count, where so many have been seen
-abbrev pub low : ℕ → ℕ → ℕ → ℕ
-low zero l c = c
-low (suc m) l c = min l c
-
-abbrev pub high : ℕ → ℕ → ℕ → ℕ
-high zero g c = c
-high (suc m) g c = max g c
+-- the range after one more count, of the range of those before, if any
+abbrev pub with_count : Option Range → ℕ → Range
+with_count None c = record { least = c; greatest = c }
+with_count (Some r) c = record { least = min r.least c; greatest = max r.greatest c }
 
 -- at each row's type stands the level of a row of that type
 abbrev pub TypeLevels : ℕ → List ℕ → List ℕ → List ℕ → Type 0

@@ -8,7 +8,7 @@ ghost use Rattle.std.specs.Prelude.{◌≡◌, [], map, ◌≤◌, length, take}
 ghost use Rattle.paper.specs.Format.{most_types};
 ghost use Rattle.octets.specs.Served.{Served};
 ghost use Rattle.closest.specs.Runs.{Rows};
-ghost use Rattle.adorned.specs.Runs.{runs, low, high, CountRange, TypeLevels};
+ghost use Rattle.adorned.specs.Runs.{runs, with_count, CountRange, TypeLevels};
 ghost use Rattle.adorned.specs.Told.{told, no_summary, placed, Summarises, SummariesOf, Says, adorn_figures};
 
 use closest::rows::{RowsRead, read_rows};
@@ -22,51 +22,50 @@ pub struct Range {
     pub greatest: usize,
 }
 
-// One count more, where so many have been seen.
-fn with_count(r: Range, counts: usize, c: usize) -> Range
-    ensures { (result.least ≡ low counts r.least c) × (result.greatest ≡ high counts r.greatest c) }
+// One count more, where r is the range of those before, if any.
+fn with_count(r: Option<Range>, c: usize) -> Range
+    ensures { result ≡ with_count r c }
 {
-    if counts == 0 {
-        return Range {
+    match r {
+        Some(r) => Range {
+            least: r.least.min(c),
+            greatest: r.greatest.max(c),
+        },
+        None => Range {
             least: c,
             greatest: c,
-        };
-    }
-    Range {
-        least: tables::row::smaller(r.least, c),
-        greatest: tables::row::larger(r.greatest, c),
+        },
     }
 }
 
-// The least and the greatest number of children of type k under a row of type p; zeros where there is no such row.
+// The least and the greatest number of children of type k under a row of type p; zeros where there is no such row. `here` is the number under
+// the last such row so far, and r the range of those before it.
 fn children_range(types: &[u8], rows: usize, p: usize, k: usize) -> Range
     requires { rows ≤ length types.now }
     ensures { CountRange (runs p k (take rows types.now)) result.least result.greatest }
 {
-    let mut r = Range {
-        least: 0,
-        greatest: 0,
-    };
-    let mut seen = false;
-    let mut counts = 0;
-    let mut c = 0;
+    let mut r = None;
+    let mut here = None;
     for t in &types[..rows] {
         let x = octets::wide(*t);
         if x == p {
-            if seen {
-                r = with_count(r, counts, c);
-                counts += 1;
+            if let Some(c) = here {
+                r = Some(with_count(r, c));
             }
-            seen = true;
-            c = 0;
+            here = Some(0);
         } else if x == k {
-            c += 1;
+            if let Some(c) = here {
+                here = Some(c + 1);
+            }
         }
     }
-    if seen {
-        return with_count(r, counts, c);
+    match here {
+        Some(c) => with_count(r, c),
+        None => Range {
+            least: 0,
+            greatest: 0,
+        },
     }
-    r
 }
 
 // The summary of a type: its parent type (64 for none), last label, level, number of rows, and the least and the greatest number

@@ -22,8 +22,10 @@ use Rattle.closest.specs.Runs.{Levelled, NextRow}
 use Rattle.closest.proofs.Meets.{nodes_are, kind_at}
 use Rattle.closest.proofs.Levels.{meet-level, meet_above, meet_within}
 use Rattle.indexes.specs.Last.{LastRow}
-use Rattle.indexes.specs.Wrong.{FirstWrong}
-use Rattle.std.specs.Prelude.{Ok, Err}
+use Rattle.indexes.specs.Wrong.{FirstWrong, earlier}
+use Rattle.indexes.proofs.Wrong.{row_or, row_within, right_before, wrong_there, earlier_at, earlier_none}
+use Rattle.std.specs.Prelude as Std
+use Rattle.std.specs.Prelude.{Ok, Err, None, Some}
 use Rattle.paper.specs.declared.refusal.Refusal.TheVariants.{IndexTooShort, WrongIndex}
 use Rattle.indexes.specs.Tested.{Says}
 use Rattle.indexes.proofs.Counted.{kept_places, placed, first-none, first_at_lem, last_at, place_none, place_at}
@@ -121,9 +123,15 @@ module _ (f : Format) (rows : ℕ) (t levels types : List ℕ) (lv : Levelled f 
         or_true false = refl
 
     -- w is the first row at which one of the lists is wrong
-    module _ (a b : ℕ) (fa : FirstWrong rows (LastRow rows levels) last a) (fb : FirstWrong rows (NextRow rows types) next b) where
+    module _ (oa ob : Std.Option ℕ) (fa : FirstWrong rows (LastRow rows levels) last oa) (fb : FirstWrong rows (NextRow rows types) next ob) where
+      abbrev a : ℕ
+      a = row_or rows oa
+
+      abbrev b : ℕ
+      b = row_or rows ob
+
       before : (x : ℕ) → x < a → x < b → wrong x ≡ false
-      before x la lb = right_at x (omega (arith, fa.within)) (fa.right x la) (fb.right x lb)
+      before x la lb = right_at x (omega (arith, row_within rows (LastRow rows levels) last oa fa)) (right_before rows (LastRow rows levels) last oa fa x la) (right_before rows (NextRow rows types) next ob fb x lb)
 
       by_place : place (wrong_at ns last next) ns ≡ place wrong (count 0 rows)
       by_place = ap (place (wrong_at ns last next)) (nodes_are f rows t types ty) ∙ placed at (λ x. refl) (wrong_at ns last next) 0 rows
@@ -134,11 +142,11 @@ module _ (f : Format) (rows : ℕ) (t levels types : List ℕ) (lv : Levelled f 
           here : (c : Bool) → leb a b ≡ c → wrong (0 + w) ≡ true
           here true q =
               let is : a ≡ 0 + w = omega (arith, leb-true a b q) in
-              let (p, r, ne) = fa.wrong (omega arith) in
+              let (p, r, ne) = wrong_there rows (LastRow rows levels) last oa fa (omega arith) in
               ap wrong (sym is) ∙ wrong_last a p (omega arith) r ne
           here false q =
               let is : b ≡ 0 + w = omega (arith, leb-false a b q) in
-              let (p, r, ne) = fb.wrong (omega arith) in
+              let (p, r, ne) = wrong_there rows (NextRow rows types) next ob fb (omega arith) in
               ap wrong (sym is) ∙ wrong_next b p (omega arith) r ne
 
       abbrev found : ℕ → Bool → Option ℕ
@@ -148,11 +156,14 @@ module _ (f : Format) (rows : ℕ) (t levels types : List ℕ) (lv : Levelled f 
       unfolding wrong_row
       by_row w e = ap₂ (λ p n. found p (ltb p n)) (by_place ∙ e) (length-nodes (Tables.rows f t) ∙ sym ty.rows_n)
 
-      pub wrong_row_lem : (w : ℕ) → w ≡ min a b → w < rows → wrong_row (nodes (Tables.rows f t)) last next ≡ some w
-      wrong_row_lem w e lt = by_row w (first_wrong w e lt) ∙ ap (found w) (lt-ltb w rows lt)
+      pub wrong_row_lem : (w : ℕ) → Some w ≡ earlier oa ob → wrong_row (nodes (Tables.rows f t)) last next ≡ some w
+      wrong_row_lem w e =
+          let (is, lt) = earlier_at rows (LastRow rows levels) (NextRow rows types) last next oa ob fa fb w e in
+          by_row w (first_wrong w is lt) ∙ ap (found w) (lt-ltb w rows lt)
 
-      pub no_wrong_row : rows ≤ min a b → wrong_row (nodes (Tables.rows f t)) last next ≡ none
-      no_wrong_row le =
+      pub no_wrong_row : None ≡ earlier oa ob → wrong_row (nodes (Tables.rows f t)) last next ≡ none
+      no_wrong_row e =
+          let le = earlier_none rows (LastRow rows levels) (NextRow rows types) last next oa ob fa fb e in
           by_row rows (place_none wrong 0 rows (λ x a b. before x (omega arith) (omega arith))) ∙ ap (found rows) (le-ltb rows rows (omega arith))
 
 -- ---- the tests

@@ -1,5 +1,5 @@
 -- Refusals 14 and 15 of lent lists, from what the walks find. Assumes nothing.
-use Prim.Native.Nat.{ℕ, ◌≤◌, ◌<◌, min}
+use Prim.Native.Nat.{ℕ, ◌≤◌, ◌<◌}
 use native.Mathlib.Omega.{arith}
 use mathlib.Core.Path.{◌≡◌, ap₂}
 use mathlib.Core.Bool.{false, ◌||◌}
@@ -13,7 +13,7 @@ use Rattle.paper.specs.Index.{too_short}
 use Rattle.paper.proofs.Lists.{or_left, or_right}
 use Rattle.paper.proofs.Index.{index_refused}
 use Rattle.octets.specs.Served.{Served}
-use Rattle.std.specs.Prelude.{Ok, Err}
+use Rattle.std.specs.Prelude.{Option, None, Some, Ok, Err}
 use Rattle.paper.specs.Refusals.{refusal_number, refusal_place}
 use Rattle.paper.specs.declared.refusal.Refusal.{Refusal}
 use Rattle.paper.specs.declared.refusal.Refusal.TheVariants.{IndexTooShort, WrongIndex}
@@ -21,7 +21,8 @@ use Rattle.closest.specs.Runs.{Levelled, NextRow}
 use Rattle.closest.specs.Rows.{RowsIn, ReadRows}
 use Rattle.closest.specs.declared.rows.RowsRead.{RowsRead}
 use Rattle.indexes.specs.Last.{Shallow, LastRow}
-use Rattle.indexes.specs.Wrong.{FirstWrong}
+use Rattle.indexes.specs.Wrong.{FirstWrong, earlier}
+use Rattle.indexes.proofs.Wrong.{right_before, earlier_none}
 use Rattle.indexes.specs.Tested.{Holds, ReadsIndexed}
 use Rattle.indexes.proofs.Held.{wrong_row_lem, no_wrong_row, lists_short, lists_wrong, lists_right}
 
@@ -46,17 +47,17 @@ module _ (n : ℕ) (levels types last next : List ℕ) where
     fits f t lv = ap₂ ◌||◌ (le-ltb (length last) (length (rows f t)) (omega (arith, lv.typed.rows_n)))
         (le-ltb (length next) (length (rows f t)) (omega (arith, lv.typed.rows_n)))
 
-    module _ (a b w : ℕ) (fa : FirstWrong n (LastRow n levels) last a) (fb : FirstWrong n (NextRow n types) next b) (is : w ≡ min a b) where
-      pub holds_wrong : w < n → Holds n levels types last next (Err (WrongIndex w))
-      holds_wrong lt = record {
-        says = λ f t lv table. lists_wrong f t last next table (fits f t lv) w (wrong_row_lem f n t levels types lv last next a b fa fb w is lt);
+    module _ (a b : Option ℕ) (fa : FirstWrong n (LastRow n levels) last a) (fb : FirstWrong n (NextRow n types) next b) where
+      pub holds_wrong : (w : ℕ) → Some w ≡ earlier a b → Holds n levels types last next (Err (WrongIndex w))
+      holds_wrong w e = record {
+        says = λ f t lv table. lists_wrong f t last next table (fits f t lv) w (wrong_row_lem f n t levels types lv last next a b fa fb w e);
         next_in = tt;
       }
 
-      pub holds_right : n ≤ w → Holds n levels types last next (Ok tt)
-      holds_right le = record {
-        says = λ f t lv table. lists_right f t last next table (fits f t lv) (no_wrong_row f n t levels types lv last next a b fa fb (omega arith));
-        next_in = record { long = long_next; nexts = λ i lt. fb.right i (omega arith) };
+      pub holds_right : None ≡ earlier a b → Holds n levels types last next (Ok tt)
+      holds_right e = record {
+        says = λ f t lv table. lists_right f t last next table (fits f t lv) (no_wrong_row f n t levels types lv last next a b fa fb e);
+        next_in = record { long = long_next; nexts = λ i lt. right_before n (NextRow n types) next b fb i (omega (arith, earlier_none n (LastRow n levels) (NextRow n types) last next a b fa fb e)) };
       }
 
 -- ---- the rows with their index

@@ -32,18 +32,18 @@ pub fn put_last(levels: &[u8], rows: usize, last: &mut [u16])
     }
 }
 
-// The first row at whose place the list does not have its last descendant, the number of rows for none.
-pub fn wrong_last(levels: &[u8], rows: usize, last: &[u16]) -> usize
+// The first row at whose place the list does not have its last descendant.
+pub fn wrong_last(levels: &[u8], rows: usize, last: &[u16]) -> Option<usize>
     requires { (rows ≤ length last.now) × Shallow rows levels.now }
     ensures { FirstWrong rows (LastRow rows levels.now) last.now result }
 {
     let mut ends = [0u16; 9];
     let mut behind = 0;
-    let mut wrong = rows;
+    let mut wrong = None;
     for i in (0..rows).rev() {
         let l = octets::wide(levels[i]);
         let end = end_of(&mut ends, behind, l, i as u16);
-        wrong = if last[i] == end { wrong } else { i };
+        wrong = if last[i] == end { wrong } else { Some(i) };
         behind = l;
     }
     wrong

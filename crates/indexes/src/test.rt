@@ -5,13 +5,23 @@ ghost use Rattle.octets.specs.Served.{Served};
 ghost use Rattle.closest.specs.Runs.{Rows};
 ghost use Rattle.indexes.specs.Last.{Shallow};
 ghost use Rattle.indexes.specs.Tested.{Holds, ReadsIndexed};
+ghost use Rattle.indexes.specs.Wrong.{earlier};
 
 use crate::last::wrong_last;
 use crate::next::wrong_next;
 use closest::rows::{RowsRead, read_rows};
 use paper::Format;
 use paper::refusal::Refusal;
-use tables::row::smaller;
+
+// The earlier of two rows, where there is one.
+fn earlier(a: Option<usize>, b: Option<usize>) -> Option<usize>
+    ensures { result ≡ earlier a b }
+{
+    match (a, b) {
+        (Some(i), Some(j)) => Some(i.min(j)),
+        _ => a.or(b),
+    }
+}
 
 // 14 and 15: every place of a row is compared, in two walks.
 fn test_lists(
@@ -30,14 +40,12 @@ fn test_lists(
     if next.len() < rows {
         return Err(Refusal::IndexTooShort);
     }
-    let wrong = smaller(
-        wrong_last(levels, rows, last),
-        wrong_next(types, rows, next),
-    );
-    if wrong < rows {
-        return Err(Refusal::WrongIndex(wrong));
+    let in_last = wrong_last(levels, rows, last);
+    let in_next = wrong_next(types, rows, next);
+    match earlier(in_last, in_next) {
+        Some(wrong) => Err(Refusal::WrongIndex(wrong)),
+        None => Ok(()),
     }
-    Ok(())
 }
 
 // Refusals 1 to 4, then 14 and 15, or the rows, as reading them without an index finds them.

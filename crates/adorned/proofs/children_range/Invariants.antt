@@ -4,4 +4,4 @@ use Rattle.adorned.proofs.Walks.{Walk}
 use Rattle.adorned.proofs.children_range.Given as goal
 
 abbrev pub invariant-loop-t : goal.invariant-loop-t
-invariant-loop-t l = Walk (take l.rows l.types) l.p l.k l.r.least l.r.greatest l.seen l.counts l.c l.t-index
+invariant-loop-t l = Walk (take l.rows l.types) l.p l.k l.r l.here l.t-index

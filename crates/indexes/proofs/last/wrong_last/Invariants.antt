@@ -3,7 +3,7 @@ use mathlib.Core.Path.{◌≡◌}
 use lib.ListN.{length}
 use Rattle.indexes.specs.Last.{LastRow}
 use Rattle.indexes.proofs.Ends.{Ends}
-use Rattle.indexes.proofs.Wrong.{WrongFrom}
+use Rattle.indexes.specs.Wrong.{WrongFrom}
 use Rattle.indexes.proofs.last.wrong_last.Given as goal
 
 abbrev pub invariant-loop-i : goal.invariant-loop-i

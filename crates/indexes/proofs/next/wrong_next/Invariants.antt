@@ -1,7 +1,7 @@
 -- `next::wrong_next` meets its contract. Assumes nothing.
 use Rattle.closest.specs.Runs.{NextRow}
 use Rattle.closest.proofs.Index.{Firsts}
-use Rattle.indexes.proofs.Wrong.{WrongFrom}
+use Rattle.indexes.specs.Wrong.{WrongFrom}
 use Rattle.indexes.proofs.next.wrong_next.Given as goal
 
 abbrev pub invariant-loop-i : goal.invariant-loop-i

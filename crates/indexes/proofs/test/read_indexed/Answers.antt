@@ -1,6 +1,6 @@
 -- `test::read_indexed` meets its contract. Assumes nothing.
 use Rattle.std.proofs.lemmas.Result.{err_from_is_err_and}
-use Rattle.indexes.proofs.Tests.{unread, read_wrong, read_right, shallow_rows}
+use Rattle.indexes.proofs.Tests.{unread, shallow_rows}
 use Rattle.indexes.proofs.test.read_indexed.Goals as goal
 
 pub returns-in_err-read : goal.returns-in_err-read
