@@ -19,8 +19,8 @@ returns-in_err-rows c =
 
 pub list_types-requires : goal.list_types-requires
 list_types-requires c =
-    let asked = list_asked c.requires.0 (tabled (goal.at.list_types-requires c).In_ok-rows) in
-    record { rows_value = asked.0; table_value = (asked.1, c.requires.2) }
+    let ((whole, few, shallow), kept) = list_asked c.requires.0 (tabled (goal.at.list_types-requires c).In_ok-rows) in
+    record { rows_value = (omega (arith, whole), omega (arith, few), shallow); table_value = (kept, c.requires.2) }
 
 pub returns-in_err-listed : goal.returns-in_err-listed
 returns-in_err-listed c =
