@@ -7,6 +7,7 @@ from testing import ROOT, InFolder, loaded
 LOWER = """\
 // use tables::hidden; ghost use Rattle.tables.specs.Hidden.{hidden};
 pub use paper::Width;
+pub use paper::refusal::Refusal;
 pub use reshaping::reshape::Reshaped;
 pub use reading::reader;
 use tables::Inner;
@@ -55,9 +56,10 @@ class CheckImports(InFolder):
         "Rattle.paper.specs.declared.Width", "Rattle.paper.specs.declared.Width.TheVariants", "Rattle.reshaping.specs.declared.reshape.Reshaped",
         "Rattle.tables.specs.declared.Row", "Rattle.settling.proofs.Settles", "Rattle.silmezga.proofs.examine.Reads",
         "Rattle.silmezga.proofs.examine.Statement", "Rattle.silmezga.proofs.examine", "Rattle.silmezga.specs.contracts.examine",
-        "Rattle.silmezga.specs.contracts.examine.Key", "Rattle.std.specs.Prelude", "Rattle.std.proofs.Math.Option")
+        "Rattle.silmezga.specs.contracts.examine.Key", "Rattle.std.specs.Prelude", "Rattle.std.proofs.Math.Option", "Rattle.paper.proofs.Refusals",
+        "Rattle.paper.specs.declared.refusal.Refusal.TheVariants")
     NOT_PROMISED = (
-        "Rattle.paper.specs.Other", "Rattle.paper.proofs.Laws", "Rattle.paper.specs", "Rattle.paper", "Rattle.paper.specs.Call",
+        "Rattle.paper.specs.Other", "Rattle.paper.proofs.Laws", "Rattle.paper.proofs.Refusals.Laws", "Rattle.paper.specs", "Rattle.paper", "Rattle.paper.specs.Call",
         "Rattle.tables.specs.Hidden",
         "Rattle.tables.specs.Other", "Rattle.tables.specs.declared.Inner", "Rattle.tables.proofs.Rows", "Rattle.reshaping.proofs.Shown",
         "Rattle.reshaping.specs.declared.reshape.Other", "Rattle.silmezga.proofs.Unique", "Rattle.silmezga.proofs.examine.Proof",
@@ -107,6 +109,13 @@ class CheckImports(InFolder):
         self.hold("crates/totals_c/specs/Told.antt", "Rattle.silmezga_c.specs.Told", "use Rattle.silmezga_c.specs.Told.{width_of}", False)
         self.hold("crates/totals/specs/Tape.antt", "Rattle.totals_c.specs.Told", "use Rattle.totals_c.specs.Told.{x}", False)
 
+    def test_laws(self):
+        """Those of a type are cited only where the lower library exports the type."""
+        law = "Rattle.paper.proofs.Refusals"
+        self.hold("crates/totals/proofs/Unique.antt", law, f"use {law}.{{numbered}}", True)
+        self.put("crates/silmezga/src/lib.rt", LOWER.replace("pub use paper::refusal::Refusal;", "use paper::refusal::Refusal;"))
+        self.hold("crates/totals/proofs/Unique.antt", law, f"use {law}.{{numbered}}", False)
+
     def test_crates_that_are_not_there(self):
         (self.folder / "crates/totals_c/src/lib.rt").unlink()
         (self.folder / "crates/totals_c/src").rmdir()
@@ -120,6 +129,6 @@ class CheckImports(InFolder):
         promised = self.command.Promised(ROOT)
         for name, good in (("Rattle.paper.specs.Calls", True), ("Rattle.reshaping.specs.Reshaped", True), ("Rattle.paper.specs.Figures", True),
                            ("Rattle.reshaping.specs.declared.summarise.Summary", True), ("Rattle.silmezga.proofs.reshape.Reads", True),
-                           ("Rattle.paper.proofs.Lists", False), ("Rattle.lines.specs.Count", False), ("Rattle.reshaping.proofs.Shown", False),
+                           ("Rattle.paper.proofs.Refusals", True), ("Rattle.paper.proofs.Lists", False), ("Rattle.lines.specs.Count", False), ("Rattle.reshaping.proofs.Shown", False),
                            ("Rattle.silmezga.proofs.Unique", False), ("Rattle.paper.specs.samples.Marked", False)):
             self.assertEqual(promised.has_module("totals", name), good, name)

@@ -14,7 +14,10 @@ use Rattle.paper.specs.Calls.{Reply}
 use Rattle.totals.specs.Tape.{Tape, Sums, sum_tape}
 use Rattle.totals.specs.Total.{Total, most_tapes, most_sum, with, take_in}
 use Rattle.totals.specs.Told.{taken}
-use Rattle.totals.specs.declared.TakenIn.{TakenIn}
+use Rattle.std.specs.Prelude.{Ok, Err}
+use Rattle.paper.specs.Refusals.{refusal_number, refusal_place}
+use Rattle.paper.proofs.Refusals.{numbered}
+use Rattle.paper.specs.declared.refusal.Refusal.{Refusal}
 use Rattle.totals.proofs.Integers.{within_le, sfits}
 use Rattle.totals.proofs.Taking.{taken_adds, can_be, grown}
 use Rattle.totals.proofs.Tapes.{tape-within}
@@ -46,46 +49,47 @@ grows n few a b c old new is = (fits, to_z-of_z {w = w64} fits ∙ difference)
 abbrev line_by : List ℕ → Reply Total → Sums → Bool → List ℕ
 line_by name y s accepted = elim accepted [ true ↦ counted_text name s.shown s.unshown | false ↦ not_counted_text name y.number y.place ]
 
-module _ (x : Total) (t : Tape) (r : TakenIn) (told : taken r ≡ take_in x t) where
-  pub number-told : r.number ≡ (take_in x t).number
-  number-told = ap (λ y. y.number) told
-
-  pub total-told : r.total ≡ (take_in x t).rest
-  total-told = ap (λ y. y.rest) told
-
-  pub refused_line : (name : List ℕ) → (r.number ≡ 0 → ⊥) → not_counted_text name r.number r.place ≡ tape_text name x t
+module _ (x : Total) (t : Tape) where
+  pub refused_line : (e : Refusal) → taken x (Err e) ≡ take_in x t → (name : List ℕ)
+      → not_counted_text name (refusal_number e) (refusal_place e) ≡ tape_text name x t
   unfolding tape_text
-  refused_line name ne =
-      ap (line_by name (taken r) (sum_tape t).rest) (sym (ne_eqb r.number 0 ne))
+  refused_line e told name =
+      ap (line_by name (taken x (Err e)) (sum_tape t).rest) (sym (ne_eqb (refusal_number e) 0 (numbered e)))
       ∙ ap (λ y. line_by name y (sum_tape t).rest (eqb y.number 0)) told
 
-  module _ (is0 : r.number ≡ 0) where
-    pub accepted : (take_in x t).number ≡ 0
-    accepted = sym number-told ∙ is0
+  module _ (after : Total) (told : taken x (Ok after) ≡ take_in x t) where
+    accepted : (take_in x t).number ≡ 0
+    accepted = sym (ap (λ y. y.number) told)
 
-    after : r.total ≡ with x (sum_tape t).rest
-    after = total-told ∙ (taken_adds x t accepted).2
+    after-is : after ≡ with x (sum_tape t).rest
+    after-is = ap (λ y. y.rest) told ∙ (taken_adds x t accepted).2
 
-    pub shown_grows : Grows x.shown r.total.shown (sum_tape t).rest.shown
+    pub shown_grows : Grows x.shown after.shown (sum_tape t).rest.shown
     shown_grows =
         let (few, (old, _)) = can_be x (taken_adds x t accepted).1 in
         let new = within_le most_sum (sum_tape t).rest.shown (tape-within t (taken_adds x t accepted).0).0 in
-        grows x.tapes few x.shown (sum_tape t).rest.shown r.total.shown old new (ap (λ y. y.shown) after)
+        grows x.tapes few x.shown (sum_tape t).rest.shown after.shown old new (ap (λ y. y.shown) after-is)
 
-    pub unshown_grows : Grows x.unshown r.total.unshown (sum_tape t).rest.unshown
+    pub unshown_grows : Grows x.unshown after.unshown (sum_tape t).rest.unshown
     unshown_grows =
         let (few, (_, old)) = can_be x (taken_adds x t accepted).1 in
         let new = within_le most_sum (sum_tape t).rest.unshown (tape-within t (taken_adds x t accepted).0).1 in
-        grows x.tapes few x.unshown (sum_tape t).rest.unshown r.total.unshown old new (ap (λ y. y.unshown) after)
+        grows x.tapes few x.unshown (sum_tape t).rest.unshown after.unshown old new (ap (λ y. y.unshown) after-is)
 
     pub counted_line : (name : List ℕ)
-        → counted_text name (held (held r.total.shown -ℤ held x.shown)) (held (held r.total.unshown -ℤ held x.unshown))
+        → counted_text name (held (held after.shown -ℤ held x.shown)) (held (held after.unshown -ℤ held x.unshown))
         ≡ tape_text name x t
     unfolding tape_text
     counted_line name =
         ap₂ (counted_text name) shown_grows.1 unshown_grows.1
         ∙ ap (line_by name (take_in x t) (sum_tape t).rest) (sym (eq-eqb (take_in x t).number 0 accepted))
 
--- A tape is refused by its number.
-pub refused-by : (n m : ℕ) → n ≡ m → not (eqb n 0) ≡ not (eqb m 0)
-refused-by n m e = ap (λ k. not (eqb k 0)) e
+  -- A tape is refused by its number, and a refused one leaves the total that was handed in.
+  pub after_told : (after : Total) → taken x (Ok after) ≡ take_in x t
+      → (false ≡ not (eqb (take_in x t).number 0)) × (after ≡ (take_in x t).rest)
+  after_told after told = (ap (λ y. not (eqb y.number 0)) told, ap (λ y. y.rest) told)
+
+  pub refused_told : (e : Refusal) → taken x (Err e) ≡ take_in x t
+      → (true ≡ not (eqb (take_in x t).number 0)) × (x ≡ (take_in x t).rest)
+  refused_told e told =
+      (ap not (sym (ne_eqb (refusal_number e) 0 (numbered e))) ∙ ap (λ y. not (eqb y.number 0)) told, ap (λ y. y.rest) told)

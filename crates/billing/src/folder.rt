@@ -8,6 +8,7 @@ ghost use Rattle.billing.specs.Billing.{most_name};
 use crate::tape::put_taken;
 use crate::text::put_not_counted;
 use paper::Width;
+use paper::refusal::Refusal;
 use printing::out::{Stopped, print};
 use printing::tape::{Wanted, read_source, read_wanted};
 use printing::typed_tree::read_typed;
@@ -22,18 +23,12 @@ pub struct Step {
 }
 
 // A folder that is refused for its typed tree adds nothing.
-fn leave_out(
-    rt: &impl Print,
-    name: &[u8],
-    total: Total,
-    number: usize,
-    place: usize,
-) -> Result<Step, Stopped>
+fn leave_out(rt: &impl Print, name: &[u8], total: Total, refusal: Refusal) -> Result<Step, Stopped>
     requires { length name.now ≤ most_name }
     ensures { IfOk result (λ s. (s.refused ≡ true) × (s.total ≡ total)) }
 {
     let mut text = [0u8; 4096];
-    let n = put_not_counted(&mut text, name, number, place);
+    let n = put_not_counted(&mut text, name, refusal.number(), refusal.place());
     print(rt, &text[..n])?;
     Ok(Step {
         refused: true,
@@ -42,6 +37,7 @@ fn leave_out(
 }
 
 // Takes in the tape of a table and a shape.
+#[tactic(auto, using(crate::proofs::Taken::after_told, crate::proofs::Taken::refused_told))]
 fn take_tape(
     rt: &impl Print,
     name: &[u8],
@@ -57,12 +53,18 @@ fn take_tape(
 {
     let mut text = [0u8; 4096];
     let b = put_taken(&mut text, name, total, width, table, shape, entry);
-    let number = b.number;
+    let taken = b.taken;
     print(rt, &text[..b.bytes])?;
-    Ok(Step {
-        refused: number != 0,
-        total: b.total,
-    })
+    match taken {
+        Ok(after) => Ok(Step {
+            refused: false,
+            total: after,
+        }),
+        Err(_) => Ok(Step {
+            refused: true,
+            total,
+        }),
+    }
 }
 
 // Takes in the tape of a table and a typed tree.
@@ -78,11 +80,10 @@ fn take_typed(
     requires { length name.now ≤ most_name }
 {
     let mut shape = [0u8; 320];
-    let r = read_typed(width, table, text, &mut shape);
-    if r.number != 0 {
-        return leave_out(rt, name, total, r.number, r.place);
+    match read_typed(width, table, text, &mut shape) {
+        Ok(n) => take_tape(rt, name, total, width, table, &shape[..n], entry),
+        Err(refusal) => leave_out(rt, name, total, refusal),
     }
-    take_tape(rt, name, total, width, table, &shape[..r.bytes], entry)
 }
 
 // Takes in the tape of a table and the wanted tree of the folder.

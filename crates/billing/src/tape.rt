@@ -4,18 +4,18 @@ ghost use Rattle.io.specs.Counts.{IsPrefixLen};
 ghost use Rattle.paper.specs.Widths.{format_of};
 ghost use Rattle.names.specs.Put.{Put};
 ghost use Rattle.totals.specs.Total.{take_in};
-ghost use Rattle.totals.specs.Told.{tape};
+ghost use Rattle.totals.specs.Told.{tape, taken};
 ghost use Rattle.billing.specs.Billing.{most_name, tape_text};
 
 use crate::text::{put_counted, put_not_counted};
 use paper::Width;
+use paper::refusal::Refusal;
 use totals::Total;
 
-// The number of a tape's refusal, 0 for none, the total afterwards, and the bytes of the tape's line.
+// What taking a tape in answers, the total afterwards or its refusal, and the bytes of the tape's line.
 #[derive(Clone, Copy, Drop)]
 pub struct Billed {
-    pub number: usize,
-    pub total: Total,
+    pub taken: Result<Total, Refusal>,
     pub bytes: usize,
 }
 
@@ -32,27 +32,17 @@ pub fn put_taken(
     requires { length name.now ≤ most_name }
     ensures fact { let t = tape (format_of width) table.now shape.now entry in
         Put out.old 0 (tape_text name.now total t) out.new result.bytes
-        × (result.number ≡ (take_in total t).number) × (result.total ≡ (take_in total t).rest) }
+        × (taken total result.taken ≡ take_in total t) }
     ensures prefix_len { IsPrefixLen result.bytes out.new }
 {
-    let r = totals::take_in(total, width, table, shape, entry);
-    let number = r.number;
-    let place = r.place;
-    let after = r.total;
-    if number != 0 {
-        let bytes = put_not_counted(out, name, number, place);
-        return Billed {
-            number,
-            total: after,
-            bytes,
-        };
-    }
-    let shown = after.shown - total.shown;
-    let unshown = after.unshown - total.unshown;
-    let bytes = put_counted(out, name, shown, unshown);
-    Billed {
-        number: 0,
-        total: after,
-        bytes,
-    }
+    let taken = totals::take_in(total, width, table, shape, entry);
+    let bytes = match taken {
+        Ok(after) => {
+            let shown = after.shown - total.shown;
+            let unshown = after.unshown - total.unshown;
+            put_counted(out, name, shown, unshown)
+        }
+        Err(refusal) => put_not_counted(out, name, refusal.number(), refusal.place()),
+    };
+    Billed { taken, bytes }
 }

@@ -11,9 +11,9 @@ use Rattle.paper.specs.Calls.{adorn}
 use Rattle.paper.proofs.Lists.{map_append}
 use Rattle.adorned.specs.Told.{told}
 use Rattle.adorned.proofs.All.{map-replicate}
-use Rattle.adorned.specs.Lent.{adorned_types}
 use Rattle.adorned.specs.declared.TypeSummary.{TypeSummary}
-use Rattle.adorned.specs.declared.lent.AdornedTypes.{AdornedTypes}
+use Rattle.silmezga_c.specs.Numbers.{told_count}
+use Rattle.silmezga_c.specs.declared.answers.Counted.{Counted}
 use Rattle.cases.specs.Marked.{mark, LeftOf}
 
 module _ {A B : Type 0} (f : A → B) (a : A) where
@@ -28,9 +28,9 @@ module _ {A B : Type 0} (f : A → B) (a : A) where
   rest_marks (suc n) (suc m) = let q : m - n ≡ suc m - suc n = omega arith in rest_marks n m ∙ ap (λ (k : ℕ). replicate k (f a)) q
 
 -- the answer and the places after it, from what adorning ensures of the places lent
-pub left_of : (f : Format) (t : List ℕ) (n : ℕ) (xs : List TypeSummary) → n ≤ 65 → xs ≡ replicate 65 mark → (r : AdornedTypes) (zs : List TypeSummary)
-    → adorned_types r ≡ (adorn f t (map told (take n xs))).reply → map told zs ≡ (adorn f t (map told (take n xs))).summaries
-    → LeftOf f t n record { number = r.number; place = r.place; types = r.types; summaries = zs ++ drop n xs }
+pub left_of : (f : Format) (t : List ℕ) (n : ℕ) (xs : List TypeSummary) → n ≤ 65 → xs ≡ replicate 65 mark → (r : Counted) (zs : List TypeSummary)
+    → told_count r ≡ (adorn f t (map told (take n xs))).reply → map told zs ≡ (adorn f t (map told (take n xs))).summaries
+    → LeftOf f t n record { answer = r; summaries = zs ++ drop n xs }
 left_of f t n xs le e r zs er es =
     let m : map told (take n xs) ≡ replicate n (told mark) = ap (λ (l : List TypeSummary). map told (take n l)) e ∙ front_marks told mark n 65 le in
     record {

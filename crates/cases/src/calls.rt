@@ -5,16 +5,16 @@ ghost use Rattle.std.specs.Prelude.{◌+◌, ◌*◌, ◌≤◌, length};
 
 use crate::lent::record_bytes;
 use crate::marked::adorn_marked;
-use crate::print::{OUTPUT, folded, folded_bytes, hexadecimal, number};
+use crate::print::{OUTPUT, folded, folded_bytes, hexadecimal, number, print_counted};
 use silmezga::reader::{handed, handed_next};
-use silmezga::{Summary, TypeSummary, Width};
-use silmezga_c::JudgedNumbers;
+use silmezga::{TypeSummary, Width};
+use silmezga_c::answers::{JudgedNumbers, SummaryNumbers};
 
 pub fn print_examined(said: u32, t: &[u8]) {
     let e = silmezga_c::silmezga_examine(said, t);
     number(b"", e.number);
     number(b" ", e.place);
-    number(b" ", e.rows);
+    number(b" ", e.count);
 }
 
 // The place of each row, and two past the last.
@@ -52,11 +52,21 @@ fn print_found(said: u32, t: &[u8], row: usize) {
     number(b" ", c.length);
 }
 
+fn print_look_up_refusal(width: Width, t: &[u8], row: usize) {
+    match silmezga::look_up_refusal(width, t, row) {
+        Ok(()) => {
+            io::write_all(OUTPUT, b": 0 0");
+        }
+        Err(refusal) => {
+            number(b": ", refusal.number());
+            number(b" ", refusal.place());
+        }
+    }
+}
+
 // The row's bytes by the Rattle call, and where they stand by the call for C.
 pub fn print_looked_up(width: Width, said: u32, t: &[u8], row: usize) {
-    let r = silmezga::look_up_refusal(width, t, row);
-    number(b": ", r.number);
-    number(b" ", r.place);
+    print_look_up_refusal(width, t, row);
     io::write_all(OUTPUT, b" ");
     hexadecimal(silmezga::look_up(width, t, row));
     print_found(said, t, row);
@@ -102,10 +112,8 @@ fn print_summaries(all: &[TypeSummary], count: usize, mark: usize) {
 
 pub fn print_adorned(said: u32, t: &[u8], lent: usize) {
     let a = adorn_marked(said, t, lent);
-    number(b": ", a.number);
-    number(b" ", a.place);
-    number(b" ", a.types);
-    print_summaries(&a.summaries, a.types, 7777);
+    print_counted(a.answer);
+    print_summaries(&a.summaries, a.answer.count, 7777);
 }
 
 // An entry's four numbers, unless all of them are 0.
@@ -144,7 +152,7 @@ pub fn print_judged(said: u32, t: &[u8], s: &[u8]) {
     print_judgement(silmezga_c::silmezga_judge(said, t, s));
 }
 
-pub fn print_summary(r: Summary) {
+pub fn print_summary(r: SummaryNumbers) {
     number(b": ", r.number);
     number(b" ", r.place);
     print_entries(r.lines, r.rows, r.copies, r.different);

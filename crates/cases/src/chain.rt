@@ -1,15 +1,16 @@
 // A reshape of what a reshape leaves, with no test of the new table in between: a new table of at most 1,024 lines is a sound source.
 ghost use Rattle.std.specs.Prelude.{◌≡◌, ◌⊎◌, ◌<◌};
+ghost use Rattle.paper.specs.Refusals.{number_in};
 ghost use Rattle.paper.specs.Widths.{format_of};
 ghost use Rattle.cases.specs.Chain.{Source};
 
 use crate::lent::{fill_bytes, fill_places, places_room, print_told, record_bytes, records_room};
 use crate::print::OUTPUT;
-use silmezga::{Reshaped, Width, reshape};
+use silmezga::{Refusal, Width, reshape};
+use silmezga_c::answers::Counted;
 use tables::row::smaller;
 
 // Reshapes the first lines of a new table: it is accepted, or refused for the shape or the room.
-#[tactic(auto, using(crate::proofs::Chained::past4))]
 fn reshape_again(
     width: Width,
     new: &[u8],
@@ -17,9 +18,9 @@ fn reshape_again(
     again: &[u8],
     table: &mut [u8],
     sources: &mut [u32],
-) -> Reshaped
+) -> Result<usize, Refusal>
     requires { Source (format_of width) new.now lines }
-    ensures { (result.number ≡ 0) ⊎ (4 < result.number) }
+    ensures { (number_in result ≡ 0) ⊎ (4 < number_in result) }
 {
     let end = record_bytes(width) * lines;
     reshape(width, &new[..end], again, table, sources)
@@ -38,7 +39,7 @@ fn print_second(
     fill_bytes(table);
     fill_places(sources);
     let r = reshape_again(width, new, lines, again, table, sources);
-    print_told(r, table, sources);
+    print_told(Counted::from(r), table, sources);
 }
 
 // The second reshape is lent 4,100 records and places.
@@ -54,12 +55,11 @@ fn print_again(width: Width, new: &[u8], lines: usize, again: &[u8])
 // A refused reshape leaves no table, and one of more than 1,024 lines is no source.
 #[tactic(auto, using(crate::proofs::Chained::leaves_source))]
 fn print_both(width: Width, t: &[u8], s: &[u8], again: &[u8], new: &mut [u8], sources: &mut [u32]) {
-    let first = reshape(width, t, s, new, sources);
-    let lines = first.lines;
-    if first.number == 0 && lines <= 1024 {
-        print_again(width, new, lines, again);
-    } else {
-        io::write_all(OUTPUT, b": none");
+    match reshape(width, t, s, new, sources) {
+        Ok(lines) if lines <= 1024 => print_again(width, new, lines, again),
+        _ => {
+            io::write_all(OUTPUT, b": none");
+        }
     }
 }
 

@@ -6,7 +6,7 @@ use crate::ask::Ask;
 use crate::calls::{print_judgement, print_summary};
 use crate::converted::read_numbers;
 use crate::lent::{fill_bytes, fill_places, places_room, print_told, records_room};
-use crate::print::{folded, number};
+use crate::print::{folded, number, print_counted};
 use tables::row::smaller;
 
 // Room for some more places than a table has rows.
@@ -37,9 +37,7 @@ fn print_built(said: u32, t: &[u8], last: &mut [u16], next: &mut [u16]) {
     fill_rows(last);
     fill_rows(next);
     let r = silmezga_c::silmezga_build_index(said, t, last, next);
-    number(b": ", r.number);
-    number(b" ", r.place);
-    number(b" ", r.rows);
+    print_counted(r);
     number(b"; sum ", folded_rows(folded_rows(1, last), next));
 }
 

@@ -4,8 +4,9 @@ ghost use Rattle.paper.specs.Format.{row_bytes};
 ghost use Rattle.paper.specs.Widths.{format_of};
 
 use crate::ask::Ask;
-use crate::print::{folded, folded_bytes, number};
-use silmezga::{Reshaped, Width};
+use crate::print::{folded, folded_bytes, number, print_counted};
+use silmezga::Width;
+use silmezga_c::answers::Counted;
 use tables::row::smaller;
 
 // The bytes of a table's record: 24 or 28.
@@ -57,10 +58,8 @@ fn folded_places(sum: usize, p: &[u32]) -> usize {
 }
 
 // A part of a line: what a reshape answers, and the sum over all that was lent, the bytes first.
-pub fn print_told(r: Reshaped, table: &[u8], sources: &[u32]) {
-    number(b": ", r.number);
-    number(b" ", r.place);
-    number(b" ", r.lines);
+pub fn print_told(r: Counted, table: &[u8], sources: &[u32]) {
+    print_counted(r);
     number(b"; sum ", folded_places(folded_bytes(1, table), sources));
 }
 

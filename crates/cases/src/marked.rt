@@ -5,13 +5,12 @@ ghost use Rattle.silmezga_c.specs.Told.{format_numbered};
 ghost use Rattle.cases.specs.Marked.{mark, LeftOf};
 
 use silmezga::TypeSummary;
+use silmezga_c::answers::Counted;
 
 // What adorning answered, and the places after it.
 #[derive(Drop)]
 pub struct Left {
-    pub number: usize,
-    pub place: usize,
-    pub types: usize,
+    pub answer: Counted,
     pub summaries: [TypeSummary; 65],
 }
 
@@ -35,11 +34,9 @@ fn lend(said: u32, table: &[u8], n: usize) -> Left
     ensures { LeftOf (format_numbered said) table.now n result }
 {
     let mut places = marks();
-    let r = silmezga_c::silmezga_adorn(said, table, &mut places[..n]);
+    let answer = silmezga_c::silmezga_adorn(said, table, &mut places[..n]);
     Left {
-        number: r.number,
-        place: r.place,
-        types: r.types,
+        answer,
         summaries: places,
     }
 }

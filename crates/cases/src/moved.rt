@@ -4,7 +4,8 @@ ghost use Rattle.std.specs.Prelude.{◌≡◌, length};
 
 use crate::lent::fill_bytes;
 use crate::print::print_left;
-use silmezga::{Moved, Width};
+use silmezga::Width;
+use silmezga_c::answers::Counted;
 use tables::row::smaller;
 
 // Which of a case's two files.
@@ -21,21 +22,21 @@ pub fn file_room() -> [u8; 30000]
     [0; 30000]
 }
 
-fn table_moved(width: Width, t: &[u8], new: &mut [u8]) -> Moved {
+fn table_moved(width: Width, t: &[u8], new: &mut [u8]) -> Counted {
     match width {
         Width::Six => silmezga_c::silmezga_widen_table(t, new),
         Width::Eight => silmezga_c::silmezga_narrow_table(t, new),
     }
 }
 
-fn shape_moved(width: Width, s: &[u8], new: &mut [u8]) -> Moved {
+fn shape_moved(width: Width, s: &[u8], new: &mut [u8]) -> Counted {
     match width {
         Width::Six => silmezga_c::silmezga_widen_shape(s, new),
         Width::Eight => silmezga_c::silmezga_narrow_shape(s, new),
     }
 }
 
-fn moved(file: File, width: Width, b: &[u8], new: &mut [u8]) -> Moved {
+fn moved(file: File, width: Width, b: &[u8], new: &mut [u8]) -> Counted {
     fill_bytes(new);
     match file {
         File::Table => table_moved(width, b, new),
@@ -45,7 +46,7 @@ fn moved(file: File, width: Width, b: &[u8], new: &mut [u8]) -> Moved {
 
 fn print_answered(file: File, width: Width, b: &[u8], new: &mut [u8]) {
     let r = moved(file, width, b, new);
-    print_left(r.number, r.place, r.count, new);
+    print_left(r, new);
 }
 
 // Lends so many bytes, as far as there are any.

@@ -1,4 +1,5 @@
 // What every part of a line is printed with: numbers, bytes, and a sum in place of what is long.
+use silmezga_c::answers::Counted;
 
 // The channel of standard output.
 pub const OUTPUT: i32 = 1;
@@ -26,10 +27,15 @@ pub fn folded_bytes(sum: usize, b: &[u8]) -> usize {
         .fold(sum, |sum, byte| folded(sum, octets::wide(*byte)))
 }
 
+// A count, or the refusal in its place.
+pub fn print_counted(r: Counted) {
+    number(b": ", r.number);
+    number(b" ", r.place);
+    number(b" ", r.count);
+}
+
 // A part of a line: what a call answers, and the sum over all that it was lent.
-pub fn print_left(refusal: usize, place: usize, count: usize, lent: &[u8]) {
-    number(b": ", refusal);
-    number(b" ", place);
-    number(b" ", count);
+pub fn print_left(r: Counted, lent: &[u8]) {
+    print_counted(r);
     number(b"; sum ", folded_bytes(1, lent));
 }

@@ -9,7 +9,7 @@ use tables::row::smaller;
 fn print_tree_read(said: u32, t: &[u8], text: &[u8], shape: &mut [u8]) {
     fill_bytes(shape);
     let r = silmezga_c::silmezga_read_tree(said, t, text, shape);
-    print_left(r.number, r.place, r.entries, shape);
+    print_left(r, shape);
 }
 
 // Lends as many bytes as are asked for, as far as there are any.
@@ -23,8 +23,8 @@ pub fn print_text(t: &[u8], text: &[u8], ask: Ask) {
 fn print_and_read(t: &[u8], s: &[u8], line: &mut [u8], ask: Ask) {
     fill_bytes(line);
     let r = silmezga_c::silmezga_print_tree(ask.said, s, line);
-    let end = smaller(r.bytes, line.len());
-    print_left(r.number, r.place, r.bytes, line);
+    let end = smaller(r.count, line.len());
+    print_left(r, line);
     print_text(t, &line[..end], ask);
 }
 

@@ -1,11 +1,10 @@
 -- What is known of a table as tests 1 to 4 go by, and its rows at their end. Assumes nothing.
-use Prim.Native.Nat.{ℕ, ◌≤◌, ◌<◌}
+use Prim.Native.Nat.{ℕ, ◌≤◌}
 use native.Mathlib.Omega.{arith}
-use mathlib.Core.Path.{◌≡◌, refl, sym, ◌∙◌, ap, ap₂}
+use mathlib.Core.Path.{◌≡◌, refl, sym, ◌∙◌, ap}
 use mathlib.Core.List.{List}
-use mathlib.Core.Option.{Option, none, some}
+use mathlib.Core.Option.{Option, none}
 use lib.ListN.{length, take}
-use borrow.Author.Tests.{lt-ltb}
 use Rattle.paper.specs.Format.{Format, most_rows, most_types, row_bytes, whole}
 use Rattle.paper.specs.Tables.{Row, rows, types, bad_row}
 use Rattle.paper.specs.Calls.{Answer, refused, given, ◌>>=◌, refuse_at, examine, type_too_many, tests1_3, tests1_4}
@@ -14,7 +13,6 @@ use Rattle.paper.specs.Refusals.{refusal_number, refusal_place}
 use Rattle.paper.specs.declared.refusal.Refusal.{Refusal}
 use Rattle.paper.proofs.Calls.{passed1_3, pass1_4, few_rows, count-rows}
 use Rattle.octets.specs.Served.{Served}
-use Rattle.tables.specs.Place.{place_of}
 use Rattle.tables.specs.Reply.{examined}
 use Rattle.tables.proofs.Examine as table-laws
 use Rattle.types.specs.Types.{Lists}
@@ -65,23 +63,16 @@ list_asked served table = ((table.whole-rows, table.few, served.shallow), table.
 pub record Listed (f : Format) (t : List ℕ) (n : ℕ) (ks : List ℕ) (ty : Types) : Type 0 where
   pub table : Tabled f t n
   pub lists : Lists (rows f t) ks ty
-  pub late : length (rows f t) ≤ ty.over
 
-module _ {f : Format} {t : List ℕ} {n : ℕ} {ks : List ℕ} {ty : Types} (table : Tabled f t n) (lists : Lists (rows f t) ks ty) where
-  pub types-refused : ty.over < n → tests1_4 f t ≡ refused 4 ty.over
-  unfolding place_of
-  types-refused lt =
-      let inside : ty.over < length (rows f t) = omega (arith, table.whole-rows, count-rows f t) in
-      let is : place_of ty.over (length (rows f t)) ≡ some ty.over = rw (lt-ltb ty.over (length (rows f t)) inside, place_of) refl in
-      tests_are f t ∙ ap tabled table.passed ∙ ap (listed (rows f t)) (lists.over ∙ is)
-
-  pub types-listed : n ≤ ty.over → Listed f t n ks ty
-  types-listed le = record { table = table; lists = lists; late = omega (arith, table.whole-rows, count-rows f t) }
+pub types-refused : {f : Format} {t : List ℕ} {n : ℕ} → Tabled f t n → (e : Refusal)
+    → refuse_at 4 (type_too_many (rows f t)) ≡ refused (refusal_number e) (refusal_place e) → tests1_4 f t ≡ refused (refusal_number e) (refusal_place e)
+types-refused {f} {t} table e q =
+    tests_are f t ∙ ap tabled table.passed ∙ ap (λ a. a >>= (λ _. given (rows f t))) q
 
 -- ---- the rows
 module _ {f : Format} {t : List ℕ} {n : ℕ} {ks : List ℕ} {ty : Types} (served : Served f) (l : Listed f t n ks ty) where
   few_types : length (types (rows f t)) ≤ most_types
-  few_types = few_from (rows f t) ty.over (length (rows f t)) l.lists.over l.late
+  few_types = few_from (rows f t) l.lists.few
 
   -- what reading their levels asks for
   pub sound-rows : SoundRows f n t
@@ -95,7 +86,7 @@ module _ {f : Format} {t : List ℕ} {n : ℕ} {ks : List ℕ} {ty : Types} (ser
   typed-rows = record {
     sound = sound-rows.sound;
     rows_n = sound-rows.rows_n;
-    listed = ap (λ m. take m ks) sound-rows.rows_n ∙ l.lists.typed l.late;
+    listed = ap (λ m. take m ks) sound-rows.rows_n ∙ l.lists.typed;
   }
 
   module _ (levels : List ℕ) (long : length levels ≡ most_rows) (ls : LevelsOf f n t levels) where
@@ -119,6 +110,6 @@ module _ {f : Format} {t : List ℕ} {n : ℕ} {ks : List ℕ} {ty : Types} (ser
         levelled = record { typed = typed-rows; level-is = ls.level-is };
         levels_are = ls;
         rows_are = rows_are;
-        told = told (rows f t) ks ty l.lists l.late;
+        told = told (rows f t) ks ty l.lists;
       },
     )

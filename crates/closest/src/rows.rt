@@ -32,10 +32,7 @@ pub fn read_rows(
     ensures { ReadRows f table.now result levels.new types.new }
 {
     let rows = examine(table, f)?;
-    let listed = list_types(table, f, rows, types);
-    if listed.over < rows {
-        return Err(Refusal::TooManyTypes(listed.over));
-    }
+    let listed = list_types(table, f, rows, types)?;
     row_levels(table, f, rows, levels);
     let parents = listed.parents;
     let labels = listed.labels;

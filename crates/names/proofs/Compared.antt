@@ -1,10 +1,9 @@
 -- A part compared with a name that is held. Assumes nothing.
 use Prim.Native.Nat.{ℕ}
-use mathlib.Core.Path.{◌≡◌, refl, sym, ◌∙◌, ap, subst}
+use mathlib.Core.Path.{◌≡◌, refl, sym, subst}
 use mathlib.Core.Bool.{Bool, true, false, false≢true}
 use mathlib.Core.List.{List}
 use lib.Dec.{eqb}
-use lib.ListN.{length, take}
 use Rattle.std.specs.Bool.{Decides}
 use Rattle.std.specs.Cmp.Lexicographic.{pointwise}
 use Rattle.std.proofs.lemmas.Bool.Decides.{Decides-eqb}
@@ -25,7 +24,6 @@ decided : (a b : List ℕ) (t : Bool) → Decides t (b ≡ a) → t ≡ same a b
 decided a b true d = sym (eq_same (sym (d.0 refl)))
 decided a b false d = not_same a b (λ e. false≢true (d.1 (sym e)))
 
--- The first n bytes held are the name a, and b is compared with them.
-pub compared : (a b held : List ℕ) (n : ℕ) (t : Bool) → n ≡ length a → take (length a) held ≡ a → t ≡ pointwise eqb b (take n held) → t ≡ same a b
-compared a b held n t long begins e =
-    decided a b t (subst (λ l. Decides t (b ≡ l)) (ap (λ m. take m held) long ∙ begins) (slice_eq-Decides Decides-eqb b (take n held) t e))
+-- What is held is the name a, and b is compared with it.
+pub compared : (a b held : List ℕ) (t : Bool) → held ≡ a → t ≡ pointwise eqb b held → t ≡ same a b
+compared a b held t is e = decided a b t (subst (λ l. Decides t (b ≡ l)) is (slice_eq-Decides Decides-eqb b held t e))

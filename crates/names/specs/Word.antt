@@ -1,5 +1,6 @@
 -- What was read of a word. Assumes nothing.
-use Rattle.std.specs.Prelude.{ℕ, suc, ◌-◌, ◌≤◌, ◌<◌, ◌≡◌, true, false, List, [], ◌∷◌, eqb, leb, length, take, drop}
+use Rattle.std.specs.Prelude as Std
+use Rattle.std.specs.Prelude.{ℕ, suc, ◌-◌, ◌≤◌, ◌<◌, ◌≡◌, true, false, None, Some, List, [], ◌∷◌, eqb, leb, length, take, drop}
 use Rattle.std.proofs.Math.Option.{none, some}
 use Rattle.paper.specs.Lists.{first_or}
 use Rattle.paper.specs.Format.{Format}
@@ -59,14 +60,13 @@ pub record Holds (r : Word) (n : Name) : Type 0 where
   pub size_is : r.size ≡ length n.labels
   pub labels_are : take r.size r.labels ≡ take most_kept n.labels
 
--- It says that no name is spelled, and holds none.
-pub record SpellsNone (r : Word) : Type 0 where
-  pub says_none : r.spells ≡ false
-  pub empty : Holds r (record { whole = false; labels = [] })
-
--- It holds the name that the word spells, and says so, or says that the word spells none.
-pub record Reads (f : Format) (w : List ℕ) (r : Word) : Type 0 where
+-- It holds the name that the word spells.
+pub record Spelled (f : Format) (w : List ℕ) (r : Word) : Type 0 where
   pub name : Name
-  pub spells_none : r.spells ≡ false → name_of_word f w ≡ none
-  pub spells_one : r.spells ≡ true → name_of_word f w ≡ some name
+  pub spells_one : name_of_word f w ≡ some name
   pub held : Holds r name
+
+-- Or the word spells none.
+abbrev pub Reads : Format → List ℕ → Std.Option Word → Type 0
+Reads f w None = name_of_word f w ≡ none
+Reads f w (Some r) = Spelled f w r

@@ -4,15 +4,14 @@ ghost use Rattle.paper.specs.Lists.{same};
 ghost use Rattle.octets.specs.Served.{Served};
 ghost use Rattle.grammar.specs.Names.{named, name_of};
 ghost use Rattle.grammar.specs.Reader.{label_of};
-ghost use Rattle.names.specs.Word.{longest_name, Guessed, NamedBy, NumberOf, PartEnds, first_at, SpellsNone, Reads};
+ghost use Rattle.names.specs.Word.{longest_name, Guessed, NamedBy, NumberOf, PartEnds, first_at, Reads};
 
-use crate::names::{name_bytes, name_length};
+use crate::names::name_bytes;
 use paper::Format;
 
-// A name as it was read: whether the word spells one at all, whether a dot leads, the number of its labels, and the first eight of them.
+// A name as it was read: whether a dot leads, the number of its labels, and the first eight of them.
 #[derive(Clone, Copy, Drop)]
 pub struct Word {
-    pub spells: bool,
     pub whole: bool,
     pub size: usize,
     pub labels: [u16; 8],
@@ -23,9 +22,7 @@ fn is_name(part: &[u8], k: usize) -> bool
     requires { k < 20 }
     ensures { result ≡ same (name_of k) part.now }
 {
-    let n = name_length(k);
-    let name = name_bytes(k);
-    part == &name[..n]
+    part == name_bytes(k)
 }
 
 // The name that a part may be, less one, told by its first byte and its length, and 20 where there is none: of the twenty names no two agree in this sum.
@@ -116,20 +113,8 @@ fn first_at(word: &[u8]) -> usize
     }
 }
 
-// What is read of a word that spells no name.
-fn no_name() -> Word
-    ensures { SpellsNone result }
-{
-    Word {
-        spells: false,
-        whole: false,
-        size: 0,
-        labels: [0u16; 8],
-    }
-}
-
-// The name that a word spells.
-pub fn read_word(word: &[u8], f: Format) -> Word
+// The name that a word spells, if it spells one.
+pub fn read_word(word: &[u8], f: Format) -> Option<Word>
     requires { Served f × (length word.now ≤ 1536) }
     ensures { Reads f word.now result }
 {
@@ -141,7 +126,7 @@ pub fn read_word(word: &[u8], f: Format) -> Word
         let end = part_end(word, p);
         let label = label_of(&word[p..end], f);
         if label == 0 {
-            return no_name();
+            return None;
         }
         if size < 8 {
             labels[size] = label as u16;
@@ -149,10 +134,9 @@ pub fn read_word(word: &[u8], f: Format) -> Word
         size += 1;
         p = end + 1;
     }
-    Word {
-        spells: true,
+    Some(Word {
         whole: start == 1,
         size,
         labels,
-    }
+    })
 }

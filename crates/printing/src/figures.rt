@@ -41,9 +41,8 @@ fn print_entries(rt: &impl Print, shape: &[u8], f: Format, s: &Summary) -> Writt
 
 // Prints the refusal of a summary, or its figures.
 pub fn print_summary(rt: &impl Print, width: Width, table: &[u8], shape: &[u8]) -> Written {
-    let s = silmezga::summarise(width, table, shape);
-    if s.number != 0 {
-        return print_refused(rt, s.number, s.place);
+    match silmezga::summarise(width, table, shape) {
+        Ok(s) => print_entries(rt, shape, served(width), &s),
+        Err(refusal) => print_refused(rt, refusal),
     }
-    print_entries(rt, shape, served(width), &s)
 }

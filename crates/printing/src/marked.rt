@@ -3,6 +3,7 @@ use crate::out::{Stopped, Written, report};
 use crate::report::{report_answer, report_at_fault};
 use facts::tree::put_marked;
 use paper::Width;
+use silmezga::Refusal;
 
 // Is the byte one of a word?
 fn in_word(b: u8) -> bool {
@@ -41,19 +42,18 @@ pub fn report_typed(
     width: Width,
     table: &[u8],
     text: &[u8],
-    number: usize,
-    place: usize,
+    refusal: Refusal,
 ) -> Written {
     let Some(channel) = channel else {
         return Ok(());
     };
-    report_answer(channel, number, place)?;
-    match number {
-        12 => report_marked(channel, text, place),
-        6 | 13 => {
-            let start = word_start(text, place).unwrap_or(text.len());
+    report_answer(channel, refusal)?;
+    match refusal {
+        Refusal::NoTree(at) => report_marked(channel, text, at),
+        Refusal::BadEntry(e) | Refusal::NoOneType(e) => {
+            let start = word_start(text, e).unwrap_or(text.len());
             report_marked(channel, text, start)
         }
-        _ => report_at_fault(channel, width, table, b"", number, place),
+        _ => report_at_fault(channel, width, table, b"", refusal),
     }
 }

@@ -10,12 +10,12 @@ use listing::answers::{put_refused, put_verdict};
 use listing::line::put_line;
 use paper::{Format, Width};
 use silmezga::reader::{make, next, row};
-use silmezga::{Reshaped, Verdict};
+use silmezga::{Refusal, Verdict};
 
 // Prints a refusal, as every screen does.
-pub fn print_refused(rt: &impl Print, number: usize, place: usize) -> Written {
+pub fn print_refused(rt: &impl Print, refusal: Refusal) -> Written {
     let mut text = [0u8; 256];
-    let n = put_refused(&mut text, number, place);
+    let n = put_refused(&mut text, refusal.number(), refusal.place());
     print(rt, &text[..n])
 }
 
@@ -64,11 +64,24 @@ fn reshape_into(
     shape: &[u8],
     table: &mut [u8],
     sources: &mut [u32],
-) -> Reshaped
+) -> Result<usize, Refusal>
     requires { 28672 ≤ length table.old }
 {
     let room = 1024 * octets::row_bytes(served(width));
     silmezga::reshape(width, source, shape, &mut table[..room], sources)
+}
+
+// Prints the refusal of a listing, and reports what it names.
+fn print_refusal(
+    rt: &impl Print,
+    width: Width,
+    source: &[u8],
+    shape: &[u8],
+    refusal: Refusal,
+    channel: Option<i32>,
+) -> Written {
+    print_refused(rt, refusal)?;
+    report_refused(channel, width, source, shape, refusal)
 }
 
 // Reshapes a table into what is lent, prints the listing, and reports the answer.
@@ -83,16 +96,19 @@ fn print_reshaped(
 ) -> Written
     requires { 28672 ≤ length table.old }
 {
-    let r = reshape_into(width, source, shape, table, sources);
-    if r.number != 0 {
-        print_refused(rt, r.number, r.place)?;
-        return report_refused(channel, width, source, shape, r.number, r.place);
+    let lines = match reshape_into(width, source, shape, table, sources) {
+        Ok(lines) => lines,
+        Err(refusal) => return print_refusal(rt, width, source, shape, refusal, channel),
+    };
+    match silmezga::judge(width, source, shape) {
+        Ok(j) => {
+            print_verdict(rt, j.verdict)?;
+            report_verdict(channel, width, source, shape, j.verdict, j.none_apart)?;
+            print_lines(rt, width, table, sources, lines)?;
+            print_edges(rt, width, shape, j, channel)
+        }
+        Err(refusal) => print_refusal(rt, width, source, shape, refusal, channel),
     }
-    let j = silmezga::judge(width, source, shape);
-    print_verdict(rt, j.verdict)?;
-    report_verdict(channel, width, source, shape, j.verdict, j.none_apart)?;
-    print_lines(rt, width, table, sources, r.lines)?;
-    print_edges(rt, width, shape, j, channel)
 }
 
 // Prints the listing of a table and a shape, with room for 1,024 lines. The answer and what it names are reported where there is a channel.

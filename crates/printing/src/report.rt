@@ -6,8 +6,8 @@ use facts::entry::{put_entry, put_entry_fields};
 use facts::row::{put_row, put_row_fields};
 use listing::answers::{put_refused, put_verdict};
 use paper::Width;
-use silmezga::Verdict;
 use silmezga::reader::handed;
+use silmezga::{Refusal, Verdict};
 use tables::row::smaller;
 
 // One more row: where it has a level, its label stands there, and the level is the length of the type.
@@ -80,9 +80,9 @@ fn report_broken_entry(channel: i32, width: Width, shape: &[u8], e: usize) -> Wr
 }
 
 // A refusal.
-pub fn report_answer(channel: i32, number: usize, place: usize) -> Written {
+pub fn report_answer(channel: i32, refusal: Refusal) -> Written {
     let mut text = [0u8; 256];
-    let n = put_refused(&mut text, number, place);
+    let n = put_refused(&mut text, refusal.number(), refusal.place());
     report(channel, &text[..n])
 }
 
@@ -92,14 +92,13 @@ pub fn report_at_fault(
     width: Width,
     table: &[u8],
     shape: &[u8],
-    number: usize,
-    place: usize,
+    refusal: Refusal,
 ) -> Written {
-    match number {
-        3 => report_broken_row(channel, width, table, place),
-        4 => report_row(channel, width, table, place),
-        6 => report_broken_entry(channel, width, shape, place),
-        7 => report_entry(channel, width, shape, place),
+    match refusal {
+        Refusal::BadRow(row) => report_broken_row(channel, width, table, row),
+        Refusal::TooManyTypes(row) => report_row(channel, width, table, row),
+        Refusal::BadEntry(e) => report_broken_entry(channel, width, shape, e),
+        Refusal::TypeMissing(e) => report_entry(channel, width, shape, e),
         _ => Ok(()),
     }
 }
@@ -110,14 +109,13 @@ pub fn report_refused(
     width: Width,
     table: &[u8],
     shape: &[u8],
-    number: usize,
-    place: usize,
+    refusal: Refusal,
 ) -> Written {
     let Some(channel) = channel else {
         return Ok(());
     };
-    report_answer(channel, number, place)?;
-    report_at_fault(channel, width, table, shape, number, place)
+    report_answer(channel, refusal)?;
+    report_at_fault(channel, width, table, shape, refusal)
 }
 
 // The row or the two entries that a verdict names.

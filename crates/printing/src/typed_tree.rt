@@ -1,11 +1,12 @@
 // The wanted tree as a line of text: how it comes to the program, and how it is printed from a shape.
-ghost use Rattle.std.specs.Prelude.{◌≤◌, length, IfSome};
+ghost use Rattle.std.specs.Prelude.{◌≤◌, length, IfOk, IfSome};
 ghost use Rattle.io.specs.Counts.{IsPrefixLen};
 
 use crate::new_table::print_refused;
 use crate::out::{Stopped, Written, print};
 use crate::width::served;
 use paper::Width;
+use silmezga::Refusal;
 use std::env::{Env, FillError};
 
 // Puts the tree that the program was started with, as its i-th word, into what is lent, and answers its length, if there is such a word. One that is
@@ -30,37 +31,27 @@ pub fn without_end(text: &[u8]) -> usize
     }
 }
 
-// What reading a text over a table answers: a refusal, or the bytes of its shape.
-#[derive(Clone, Copy, Drop)]
-pub struct TypedRead {
-    pub number: usize,
-    pub place: usize,
-    pub bytes: usize,
-}
-
-// Reads a typed tree over a table into what is lent, with room for every shape.
-pub fn read_typed(width: Width, table: &[u8], text: &[u8], shape: &mut [u8]) -> TypedRead
+// Reads a typed tree over a table into what is lent, with room for every shape: the bytes of its shape.
+pub fn read_typed(
+    width: Width,
+    table: &[u8],
+    text: &[u8],
+    shape: &mut [u8],
+) -> Result<usize, Refusal>
     requires { 320 ≤ length shape.old }
-    ensures { IsPrefixLen result.bytes shape.new }
+    ensures { IfOk result (λ n. IsPrefixLen n shape.new) }
 {
-    let r = silmezga::read_tree(width, table, text, shape);
-    TypedRead {
-        number: r.number,
-        place: r.place,
-        bytes: r.entries * octets::entry_bytes(served(width)),
-    }
+    let entries = silmezga::read_tree(width, table, text, shape)?;
+    Ok(entries * octets::entry_bytes(served(width)))
 }
 
 // Prints the refusal of printing, or the shape as a line of text.
 pub fn print_shape(rt: &impl Print, width: Width, shape: &[u8]) -> Written {
     let mut text = [0u8; 1536];
-    let p = silmezga::print_tree(width, shape, &mut text);
-    if p.number != 0 {
-        return print_refused(rt, p.number, p.place);
-    }
-    if 1536 < p.bytes {
-        return Err(Stopped);
-    }
-    print(rt, &text[..p.bytes])?;
+    let n = match silmezga::print_tree(width, shape, &mut text) {
+        Ok(n) => n,
+        Err(refusal) => return print_refused(rt, refusal),
+    };
+    print(rt, text.get(..n).ok_or(Stopped)?)?;
     print(rt, b"\n")
 }

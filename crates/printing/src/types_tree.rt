@@ -58,9 +58,8 @@ fn print_tree(rt: &impl Print, all: &[TypeSummary]) -> Written {
 
 // Prints the refusal of adorning, or the tree. The figures are those that `adorn` stores in what it is lent.
 pub fn print_types(rt: &impl Print, width: Width, table: &[u8]) -> Written {
-    let a = adorn_by_value(table, served(width), 64);
-    if a.number != 0 {
-        return print_refused(rt, a.number, a.place);
+    match adorn_by_value(table, served(width), 64) {
+        Ok(a) => print_tree(rt, &a.summaries[..smaller(a.count, 64)]),
+        Err(refusal) => print_refused(rt, refusal),
     }
-    print_tree(rt, &a.summaries[..smaller(a.count, 64)])
 }

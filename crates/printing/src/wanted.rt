@@ -18,13 +18,14 @@ pub fn print_typed(
     channel: i32,
 ) -> Written {
     let mut shape = [0u8; 320];
-    let r = read_typed(width, table, text, &mut shape);
-    if r.number != 0 {
-        print_refused(rt, r.number, r.place)?;
-        let channel = channel_of(screen, channel);
-        return report_typed(channel, width, table, text, r.number, r.place);
+    match read_typed(width, table, text, &mut shape) {
+        Ok(n) => print_of(rt, width, table, &shape[..n], screen, channel),
+        Err(refusal) => {
+            print_refused(rt, refusal)?;
+            let channel = channel_of(screen, channel);
+            report_typed(channel, width, table, text, refusal)
+        }
     }
-    print_of(rt, width, table, &shape[..r.bytes], screen, channel)
 }
 
 // Prints a screen of a table and the wanted tree of two files: the shape file where it opens, else the file of a typed tree where that opens, else

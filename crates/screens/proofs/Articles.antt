@@ -5,13 +5,13 @@ use mathlib.Core.Path.{◌≡◌, refl, sym, ◌∙◌, ap, ap₂}
 use mathlib.Core.Bool.{Bool, true, false, not, ◌||◌}
 use mathlib.Core.List.{List, [], ◌∷◌, ◌++◌}
 use lib.Dec.{eqb, ltb}
-use lib.ListN.{length, get_or, take}
+use lib.ListN.{get_or}
 use borrow.Author.Tests.{eq-eqb, ne_eqb, eqb-true, eqb-false, ltb-true, not-true}
 use Rattle.std.specs.List.{list_any}
 use Rattle.paper.specs.Lists.{any, first_or, count}
 use Rattle.paper.proofs.Lists.{all-has, has-count}
 use Rattle.grammar.specs.Text.{ascii, digit, digits_in, decimal}
-use Rattle.grammar.specs.Names.{names, named, name_of, name_text}
+use Rattle.grammar.specs.Names.{named, name_of, name_text}
 use Rattle.names.proofs.Naming.{has_name}
 use Rattle.screens.specs.Screens.{vowel, article}
 
@@ -75,25 +75,14 @@ unfolding decimal
 number-first l e = sym (figure_no_vowel (digits_figure l l (omega arith))) ∙ ap (λ t. vowel (first_or 0 t)) e
 
 -- ---- a name
--- What is held for a text begins as it does.
-first_held : (held text : List ℕ) → 0 < length text → take (length text) held ≡ text → get_or held 0 0 ≡ first_or 0 text
-first_held held [] lt e = absurd (omega arith)
-first_held [] (x ∷ xs) lt e = ap (first_or 0) e
-first_held (y ∷ ys) (x ∷ xs) lt e = ap (first_or 0) e
-
--- the name of label k + 1 has a byte
-some : ℕ → Bool
-some k = ltb 0 (length (name_of k))
-
--- Every name has one.
-name_some : (k : ℕ) → k < named → 0 < length (name_of k)
-unfolding names name_of some
-name_some k lt = ltb-true 0 (length (name_of k)) (all-has some k (count 0 named) refl (has-count 0 named k (omega arith) (omega arith)))
+-- A text begins with its byte 0.
+first_byte : (text : List ℕ) → get_or text 0 0 ≡ first_or 0 text
+first_byte [] = refl
+first_byte (x ∷ xs) = refl
 
 -- A label that has a name begins with a vowel where what is held for the name does.
-pub name_first : (l k : ℕ) (held : List ℕ) → l ≡ k + 1 → k < named → take (length (name_of k)) held ≡ name_of k
-    → vowel (get_or held 0 0) ≡ vowel (first_or 0 (name_text l))
-name_first l k held e lt begins = ap vowel (first_held held (name_of k) (name_some k lt) begins ∙ ap (first_or 0) (has_name l k e (omega arith)))
+pub name_first : (l k : ℕ) (held : List ℕ) → l ≡ k + 1 → k < named → held ≡ name_of k → vowel (get_or held 0 0) ≡ vowel (first_or 0 (name_text l))
+name_first l k held e lt is = ap vowel (first_byte held ∙ ap (first_or 0) (is ∙ has_name l k e (omega arith)))
 
 -- ---- the article
 module _ (name : List ℕ) (b : Bool) (is : b ≡ vowel (first_or 0 name)) where

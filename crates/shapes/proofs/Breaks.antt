@@ -5,13 +5,13 @@ use native.Mathlib.Omega.{arith}
 use mathlib.Core.Path.{◌≡◌, refl, sym, ◌∙◌, ap, ap₂}
 use mathlib.Core.Bool.{true, false}
 use mathlib.Core.List.{List, ◌∷◌}
+use mathlib.Core.Option.{none, some}
 use lib.ListN.{drop}
 use Rattle.paper.specs.Lists.{first_break}
 use Rattle.paper.specs.Format.{Format, entry_bytes, byte, whole}
 use Rattle.paper.specs.Shapes.{Entry, entry_of, entries, entry_kept, bad_entry}
 use Rattle.paper.proofs.Shapes.{level_of}
-use Rattle.tables.specs.Place.{place_of}
-use Rattle.tables.proofs.Rows.{rec, some-place, none-place}
+use Rattle.tables.proofs.Rows.{rec}
 use Rattle.shapes.proofs.Entries.{entries_from_lem, entries_end}
 
 -- ---- the walk: from entry i on, after one of level `before`, the first break is the shape's
@@ -32,8 +32,8 @@ module _ (f : Format) (s : List ℕ) (n : ℕ) (counted : n ≡ whole (entry_byt
         ∙ ap {B = List Entry} (λ b. entry_of f b ∷ drop (suc i) (entries f s)) (sym is-entry))
 
     -- An entry that breaks a rule is the first that does.
-    pub search_stop : entry_kept f before (entry_of f e) ≡ false → bad_entry f (entries f s) ≡ place_of i n
-    search_stop breaks = some-place (bad_entry f (entries f s)) i n lt (unrolled ∙ rw (breaks, first_break) refl)
+    pub search_stop : entry_kept f before (entry_of f e) ≡ false → bad_entry f (entries f s) ≡ some i
+    search_stop breaks = unrolled ∙ rw (breaks, first_break) refl
 
     -- After an entry that keeps the rules the walk goes on from its level.
     pub search_step : entry_kept f before (entry_of f e) ≡ true → (level : ℕ) → level ≡ byte e 0 → level ≤ 255 → Search f s level (i + 1)
@@ -45,7 +45,5 @@ module _ (f : Format) (s : List ℕ) (n : ℕ) (counted : n ≡ whole (entry_byt
     )
 
   -- Past the last entry none breaks a rule.
-  pub search_end : n ≤ i → bad_entry f (entries f s) ≡ place_of n n
-  search_end le =
-      none-place (bad_entry f (entries f s)) n
-      (sym walk.1 ∙ ap (first_break (entry_kept f) level_of i before) (entries_end f s i (omega arith)))
+  pub search_end : n ≤ i → bad_entry f (entries f s) ≡ none
+  search_end le = sym walk.1 ∙ ap (first_break (entry_kept f) level_of i before) (entries_end f s i (omega arith))

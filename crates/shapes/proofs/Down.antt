@@ -16,7 +16,7 @@ use Rattle.paper.specs.Format.{most_types}
 use Rattle.paper.specs.Tables.{type_number}
 use Rattle.paper.proofs.Lists.{same_self, same_eq, get_d_has, up_snoc, last_snoc, up_last}
 use Rattle.paper.proofs.Tables.{number_at, number_same}
-use Rattle.types.specs.Types.{parent_of, Found, Told}
+use Rattle.types.specs.Types.{parent_of, Found, NotListed, Told}
 use Rattle.shapes.specs.EntryTypes.{Numbers}
 
 -- ---- the number of a type
@@ -83,10 +83,11 @@ module _ (ts : List (List ℕ)) (parents labels : List ℕ) (count : ℕ) (told 
       go [] lt = absurd (not-suc-le-zero lt)
       go (x ∷ u) lt = up_last x u
 
-  module _ (u : List ℕ) (p a q : ℕ) (known : Known u) (ep : p ≡ parent_of ts u) (f : Found parents labels count p a q) where
+  module _ (u : List ℕ) (p a : ℕ) (known : Known u) (ep : p ≡ parent_of ts u) where
     -- a listed type that is u and the label a is not passed over
-    not_passed : Has (u ++ (a ∷ [])) ts → q ≤ type_number ts (u ++ (a ∷ []))
-    not_passed h = go (leb q (type_number ts (u ++ (a ∷ [])))) refl (number_at (u ++ (a ∷ [])) ts h)
+    not_passed : (q : ℕ) → ((k : ℕ) → k < q → get_or parents k 0 ≡ p → get_or labels k 0 ≡ a → ⊥) → Has (u ++ (a ∷ [])) ts
+        → q ≤ type_number ts (u ++ (a ∷ []))
+    not_passed q passed h = go (leb q (type_number ts (u ++ (a ∷ [])))) refl (number_at (u ++ (a ∷ [])) ts h)
       where
         go : (b : Bool) → leb q (type_number ts (u ++ (a ∷ []))) ≡ b
             → (type_number ts (u ++ (a ∷ [])) < length ts) × (get_or ts (type_number ts (u ++ (a ∷ []))) [] ≡ u ++ (a ∷ [])) → q ≤ type_number ts (u ++ (a ∷ []))
@@ -94,51 +95,52 @@ module _ (ts : List (List ℕ)) (parents labels : List ℕ) (count : ℕ) (told 
         go false e (lt, is) =
             let j = type_number ts (u ++ (a ∷ [])) in
             let lc : j < count = omega (arith, told.count-is) in
-            absurd (f.passed j (leb-false q j e) (told.parent j lc ∙ ap (λ z. parent_of ts (up z)) is ∙ ap (parent_of ts) (up_snoc u a) ∙ sym ep)
+            absurd (passed j (leb-false q j e) (told.parent j lc ∙ ap (λ z. parent_of ts (up z)) is ∙ ap (parent_of ts) (up_snoc u a) ∙ sym ep)
             (told.label j lc ∙ ap (last_or 0) is ∙ last_snoc 0 u a))
 
-    -- the type that is found is u and the label a
-    found_type : q < count → get_or ts q [] ≡ u ++ (a ∷ [])
-    found_type lt =
-        let v = get_or ts q [] in
-        let h : Has v ts = get_d_has [] ts q (omega (arith, told.count-is)) in
-        let (e, l) = f.found lt in
-        let eu : up v ≡ u = number-one (up v) u (known_up v h) known (sym (told.parent q lt) ∙ e ∙ ep) in
-        in_two v h ∙ ap₂ (λ x y. x ++ (y ∷ [])) eu (sym (told.label q lt) ∙ l)
+    module _ (q : ℕ) (f : Found parents labels count p a q) where
+      -- the type that is found is u and the label a
+      found_type : get_or ts q [] ≡ u ++ (a ∷ [])
+      found_type =
+          let v = get_or ts q [] in
+          let h : Has v ts = get_d_has [] ts q (omega (arith, told.count-is, f.within)) in
+          let (e, l) = f.found in
+          let eu : up v ≡ u = number-one (up v) u (known_up v h) known (sym (told.parent q f.within) ∙ e ∙ ep) in
+          in_two v h ∙ ap₂ (λ x y. x ++ (y ∷ [])) eu (sym (told.label q f.within) ∙ l)
 
-    found_listed : q < count → Has (u ++ (a ∷ [])) ts
-    found_listed lt = subst (λ v. Has v ts) (found_type lt) (get_d_has [] ts q (omega (arith, told.count-is)))
+      found_listed : Has (u ++ (a ∷ [])) ts
+      found_listed = subst (λ v. Has v ts) found_type (get_d_has [] ts q (omega (arith, told.count-is, f.within)))
 
-    -- q is its number
-    found_number : q < count → q ≡ type_number ts (u ++ (a ∷ []))
-    found_number lt =
-        let le : type_number ts (get_or ts q []) ≤ q = number-first ts q (omega (arith, told.count-is)) in
-        omega (arith, not_passed (found_listed lt), ap (type_number ts) (found_type lt))
+      -- q is its number
+      found_number : q ≡ type_number ts (u ++ (a ∷ []))
+      found_number =
+          let le : type_number ts (get_or ts q []) ≤ q = number-first ts q (omega (arith, told.count-is, f.within)) in
+          omega (arith, not_passed q f.passed found_listed, ap (type_number ts) found_type)
 
     -- where none is found, it is no listed type
-    found_none : count ≤ q → Has (u ++ (a ∷ [])) ts → ⊥
-    found_none le h = omega (arith, not_passed h, (number_at (u ++ (a ∷ [])) ts h).0, told.count-is)
+    found_none : NotListed parents labels count p a → Has (u ++ (a ∷ [])) ts → ⊥
+    found_none none h = omega (arith, not_passed count none h, (number_at (u ++ (a ∷ [])) ts h).0, told.count-is)
 
 -- ---- the walk: whatever types are listed, p is the number of the first k labels
 module _ (parents labels : List ℕ) (count : ℕ) where
   abbrev pub Walked : List ℕ → ℕ → ℕ → Type 0
   Walked l k p = (ts : List (List ℕ)) → Told ts parents labels count → (p ≡ parent_of ts (take k l)) × ((take k l ≡ []) ⊎ Has (take k l) ts)
 
-  module _ (l : List ℕ) (k p a q : ℕ) (w : Walked l k p) (lt : k < length l) (ea : a ≡ get_or l k 0) (f : Found parents labels count p a q) where
+  module _ (l : List ℕ) (k p a : ℕ) (w : Walked l k p) (lt : k < length l) (ea : a ≡ get_or l k 0) where
     one_more : take (suc k) l ≡ take k l ++ (a ∷ [])
     one_more = take-suc l k 0 lt ∙ ap (λ x. take k l ++ (x ∷ [])) (sym ea)
 
-    pub walk_step : q < count → Walked l (k + 1) q
-    walk_step lq ts told =
+    pub walk_step : (q : ℕ) → Found parents labels count p a q → Walked l (k + 1) q
+    walk_step q f ts told =
         let (e, known) = w ts told in
         let n : take (k + 1) l ≡ take k l ++ (a ∷ []) = ap (λ m. take m l) (add-one k) ∙ one_more in (
-          found_number ts parents labels count told (take k l) p a q known e f lq ∙ sym (ap (type_number ts) n) ∙ some_number ts (take (k + 1) l) (omega (arith, ap length n, length-append (take k l) (a ∷ []))),
-          inr (subst (λ v. Has v ts) (sym n) (found_listed ts parents labels count told (take k l) p a q known e f lq)),
+          found_number ts parents labels count told (take k l) p a known e q f ∙ sym (ap (type_number ts) n) ∙ some_number ts (take (k + 1) l) (omega (arith, ap length n, length-append (take k l) (a ∷ []))),
+          inr (subst (λ v. Has v ts) (sym n) (found_listed ts parents labels count told (take k l) p a known e q f)),
         )
 
-    pub walk-stop : (size : ℕ) → k < size → size ≤ length l → count ≤ q → Numbers parents labels count (take size l) count
-    walk-stop size ls fits lq ts told =
+    pub walk-stop : NotListed parents labels count p a → (size : ℕ) → k < size → size ≤ length l → Numbers parents labels count (take size l) count
+    walk-stop none size ls fits ts told =
         let (e, known) = w ts told in
         told.count-is
-        ∙ sym (number-none ts (take size l) (λ h. found_none ts parents labels count told (take k l) p a q known e f lq
+        ∙ sym (number-none ts (take size l) (λ h. found_none ts parents labels count told (take k l) p a known e none
         (subst (λ v. Has v ts) (take-take (suc k) size l ls ∙ one_more) (told.above (take size l) h (suc k) (omega arith) (omega (arith, length-take size l))))))

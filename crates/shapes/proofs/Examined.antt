@@ -92,12 +92,12 @@ module _ (f : Format) (s : List ℕ) where
     replied_right : (o : Option ℕ) → bad_entry f (entries f s) ≡ o → shape_reply f s ≡ replied (tested false o (entries f s))
     replied_right o e = reply-is ∙ ap₂ (λ b x. replied (tested b x (entries f s))) right e
 
-    pub refused_6 : (p n : ℕ) → bad_entry f (entries f s) ≡ place_of p n → p < n → record { number = 6; place = p; rest = 0 } ≡ shape_reply f s
-    refused_6 p n e lt = sym (replied_right (some p) (e ∙ place-some p n lt))
+    pub refused_6 : (p : ℕ) → bad_entry f (entries f s) ≡ some p → record { number = 6; place = p; rest = 0 } ≡ shape_reply f s
+    refused_6 p e = sym (replied_right (some p) e)
 
-    pub accepted : (p n : ℕ) → bad_entry f (entries f s) ≡ place_of p n → n ≤ p → record { number = 0; place = 0; rest = whole (entry_bytes f) s } ≡ shape_reply f s
-    accepted p n e late =
-        ap (λ m. record { number = 0; place = 0; rest = m }) (sym (count_entries f s)) ∙ sym (replied_right none (e ∙ place_none p n late))
+    pub accepted : bad_entry f (entries f s) ≡ none → record { number = 0; place = 0; rest = whole (entry_bytes f) s } ≡ shape_reply f s
+    accepted e =
+        ap (λ m. record { number = 0; place = 0; rest = m }) (sym (count_entries f s)) ∙ sym (replied_right none e)
 
   -- ---- what examining tells of the tests
   module _ (k p c : ℕ) (e : ◌≡◌ {A = Reply ℕ} (record { number = k; place = p; rest = c }) (shape_reply f s)) where

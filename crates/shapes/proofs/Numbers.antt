@@ -6,21 +6,25 @@ use mathlib.Core.Path.{◌≡◌, refl, sym, ◌∙◌, ap, ap₂, subst}
 use mathlib.Core.Logic.{⊎_elim}
 use mathlib.Core.Bool.{Bool, true, false, not, false≢true}
 use mathlib.Core.List.{List, map}
+use lib.Dec.{ltb}
 use lib.ListN.{length, get_or, take, drop, set}
+use borrow.Author.Tests.{lt-ltb, le-ltb}
 use lib.Seq.{get_or-set_same, get_or-set_other}
-use Rattle.paper.specs.Lists.{Has, any, place, same}
+use Rattle.paper.specs.Lists.{Has, any, place, first_place, same}
 use Rattle.paper.specs.Format.{Format, entry_bytes, byte, words, whole}
 use Rattle.paper.specs.Tables.{type_number}
+use Rattle.paper.specs.Calls.{refused, refuse_at}
 use Rattle.paper.specs.Shapes.{Entry, entry_of, entries, named}
 use Rattle.paper.proofs.Lists.{same_eq, same_self, any_has, has_any}
 use Rattle.paper.proofs.Tables.{number_at}
+use Rattle.paper.proofs.Calls.{count_entries}
 use Rattle.tables.proofs.Rows.{rec}
 use Rattle.types.proofs.Step.{below}
 use Rattle.types.proofs.Listed.{at_drop}
 use Rattle.shapes.proofs.Entries.{entry, entries_from_lem, entries_end}
 use Rattle.shapes.proofs.Down.{number-none}
 use Rattle.types.specs.Types.{Told}
-use Rattle.shapes.specs.EntryTypes.{Numbers, NumbersEach}
+use Rattle.shapes.specs.EntryTypes.{Numbers, TypesAre}
 
 -- the number of the labels that are read from entry i is that of the type that it names
 pub read_numbers : (f : Format) (s parents labels : List ℕ) (count i : ℕ) (b : List ℕ) (size k : ℕ) → b ≡ rec (entry_bytes f) i s → size ≡ byte b 1
@@ -82,25 +86,22 @@ module _ (f : Format) (s parents labels : List ℕ) (count : ℕ) where
             let here = ap (λ m. get_or (set ks i k) m 0) e ∙ get_or-set_same ks i k 0 room in
             (here ∙ is ts told ∙ sym (ap (λ m. get_or (map (number ts) (entries f s)) m 0) e ∙ at_drop (number ts) 0 (entries f s) i (entry f s i) (drop (suc i) (entries f s)) (entries_from_lem f s i lt)), omega (arith, here))
 
-    pub numbered_stop : count ≤ k → (n : ℕ) → n ≡ whole (entry_bytes f) s → NumbersEach parents labels count (entries f s) n (record { place = i; types = ks })
-    numbered_stop le n e ts told =
+    pub numbered_stop : count ≤ k → (ts : List (List ℕ)) → Told ts parents labels count → refuse_at 7 (first_place (missing ts) (entries f s)) ≡ refused 7 i
+    numbered_stop le ts told =
         let here : missing ts (entry f s i) ≡ true = ap not (number-not ts (named (entry f s i)) (omega (arith, is ts told, told.count-is))) in
         let at : place (missing ts) (drop i (entries f s)) ≡ 0 = ap (place (missing ts)) (entries_from_lem f s i lt) ∙ rw (here, place) refl in
-        record {
-          place_is = omega (arith, (num ts told).0);
-          within = omega arith;
-          type_is = λ late. let z : ⊥ = omega arith in absurd z;
-          known = λ late. let z : ⊥ = omega arith in absurd z;
-        }
+        let first : place (missing ts) (entries f s) ≡ i = omega (arith, (num ts told).0) in
+        let inside : ltb (place (missing ts) (entries f s)) (length (entries f s)) ≡ true =
+        lt-ltb (place (missing ts) (entries f s)) (length (entries f s)) (omega (arith, count_entries f s)) in
+        rw (inside, first, first_place) refl
 
   pub numbered_end : (i : ℕ) (ks : List ℕ) → Numbered i ks → (n : ℕ) → n ≡ whole (entry_bytes f) s → i ≡ n
-      → NumbersEach parents labels count (entries f s) n (record { place = n; types = ks })
+      → (ts : List (List ℕ)) → Told ts parents labels count → TypesAre ts (entries f s) n ks
   numbered_end i ks num n e q ts told =
       let at : place (missing ts) (drop i (entries f s)) ≡ 0 =
       ap (place (missing ts)) (entries_end f s i (omega arith)) in
       record {
-        place_is = omega (arith, (num ts told).0);
-        within = omega arith;
-        type_is = λ late j lj. ((num ts told).1 j (omega arith)).0;
-        known = λ late j lj. omega (arith, ((num ts told).1 j (omega arith)).1, told.count-is);
+        none_missing = rw (le-ltb (place (missing ts) (entries f s)) (length (entries f s)) (omega (arith, count_entries f s, (num ts told).0)), first_place) refl;
+        type_is = λ j lj. ((num ts told).1 j (omega arith)).0;
+        known = λ j lj. omega (arith, ((num ts told).1 j (omega arith)).1, told.count-is);
       }

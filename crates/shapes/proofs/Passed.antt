@@ -1,6 +1,5 @@
 -- What is known of a shape as the tests go by, over the types of a table, and what was read at their end. Assumes nothing.
-use Prim.Native.Nat.{ℕ, ◌≤◌, ◌<◌}
-use native.Mathlib.Omega.{arith}
+use Prim.Native.Nat.{ℕ, ◌≤◌}
 use mathlib.Core.Path.{◌≡◌, refl, sym, ◌∙◌, ap}
 use mathlib.Core.List.{List, []}
 use mathlib.Core.Option.{none}
@@ -8,7 +7,7 @@ use lib.ListN.{length}
 use Rattle.paper.specs.Format.{Format, most_entries, entry_bytes, whole}
 use Rattle.paper.specs.Tables.{rows, types}
 use Rattle.paper.specs.Shapes.{entries, bad_entry, shape_over, entry_kept}
-use Rattle.paper.specs.Calls.{refused, given, tests1_4, tests5_6, tests1_7}
+use Rattle.paper.specs.Calls.{refused, given, type_missing, tests1_4, tests5_6, tests1_7}
 use Rattle.paper.proofs.Tables.{none-rules}
 use Rattle.paper.proofs.Shapes.{level_of, size}
 use Rattle.paper.proofs.Calls.{count_entries}
@@ -20,11 +19,10 @@ use Rattle.types.specs.Types.{Told}
 use Rattle.shapes.specs.EntryTypes.{TypesAre, NumbersEach}
 use Rattle.shapes.specs.Ways.{Laid, way_at}
 use Rattle.shapes.specs.Tests.{shape_reply, shape_examined, shape_in, Read, Passed}
-use Rattle.shapes.specs.declared.entry_types.EntryTypes.{EntryTypes}
 use Rattle.shapes.specs.declared.ways.Fields.{Fields}
 use Rattle.shapes.specs.declared.tests.Tested.{Tested}
 use Rattle.shapes.proofs.Examined as shape-laws
-use Rattle.shapes.proofs.Tested.{missing_some, missing_none, refused-shape, refused_missing, none-refused, work_of}
+use Rattle.shapes.proofs.Tested.{refused-shape, refused_missing, none-refused, work_of}
 
 -- ---- tests 5 and 6
 -- the shape passes them, and has so many entries
@@ -54,33 +52,31 @@ shape_asked served shape = ((shape.whole-entries, shape.few, served.shallow), sh
 
 -- ---- test 7, and what was read
 module _ {f : Format} (t : List ℕ) {s parents labels : List ℕ} {count m : ℕ} (table : tests1_4 f t ≡ given (rows f t))
-    (told : Told (types (rows f t)) parents labels count) (h : Shaped f s m) (es : EntryTypes)
-    (k : NumbersEach parents labels count (entries f s) m es) where
-  numbered : TypesAre (types (rows f t)) (entries f s) m es
-  numbered = k (types (rows f t)) told
-
+    (told : Told (types (rows f t)) parents labels count) (h : Shaped f s m) where
   entries_m : m ≡ length (entries f s)
   entries_m = h.whole-entries ∙ sym (count_entries f s)
 
-  pub types_missing : es.place < m → tests1_7 f t s ≡ refused 7 es.place
-  types_missing lt =
-      refused_missing f t s table h.passed es.place
-      (missing_some (rows f t) (entries f s) es.place numbered.place_is (omega (arith, entries_m)))
+  pub types_missing : (e : Refusal) → NumbersEach parents labels count (entries f s) m (Err e)
+      → tests1_7 f t s ≡ refused (refusal_number e) (refusal_place e)
+  unfolding type_missing
+  types_missing e k = refused_missing f t s table h.passed (refusal_number e) (refusal_place e) (k (types (rows f t)) told)
 
-  module _ (le : m ≤ es.place) (fs : Fields) (ways : List ℕ) (laid : Laid (shape_over [] (entries f s)) m fs ways) where
+  module _ (ks : List ℕ) (k : NumbersEach parents labels count (entries f s) m (Ok ks)) (fs : Fields) (ways : List ℕ) (laid : Laid (shape_over [] (entries f s)) m fs ways) where
+    numbered : TypesAre (types (rows f t)) (entries f s) m ks
+    numbered = k (types (rows f t)) told
+
     abbrev read : Tested
     read = record {
       entries = m;
       levels = fs.levels;
       labels = fs.labels;
       parents = fs.parents;
-      types = es.types;
+      types = ks;
     }
 
     all_passed : tests1_7 f t s ≡ given (work_of (rows f t) (entries f s))
-    all_passed =
-        none-refused f t s table h.passed
-        (missing_none (rows f t) (entries f s) es.place numbered.place_is (omega (arith, entries_m)))
+    unfolding type_missing
+    all_passed = none-refused f t s table h.passed numbered.none_missing
 
     ways_m : m ≡ length (shape_in f t s).ways
     unfolding bad_entry
@@ -96,9 +92,9 @@ module _ {f : Format} (t : List ℕ) {s parents labels : List ℕ} {count m : �
       level = laid.level;
       label = laid.label;
       parent_is = laid.parent_is;
-      type_is = numbered.type_is le;
+      type_is = numbered.type_is;
       way_is = λ e lt. ap (way_at ways e) (laid.level e lt) ∙ laid.way_is e lt;
     }
 
     pub passes : Passed f t s read ways
-    passes = record { given_is = all_passed; known = numbered.known le; reads = held }
+    passes = record { given_is = all_passed; known = numbered.known; reads = held }

@@ -1,33 +1,13 @@
 -- Refusals 5 to 7 in their order, after those of the table: what the tests answer once each is known. Assumes nothing.
-use Prim.Native.Nat.{ℕ, ◌≤◌, ◌<◌}
-use mathlib.Core.Path.{◌≡◌, refl, sym, ◌∙◌, ap}
-use mathlib.Core.Bool.{Bool, true, false, not}
+use Prim.Native.Nat.{ℕ}
+use mathlib.Core.Path.{◌≡◌, refl, ◌∙◌, ap}
 use mathlib.Core.List.{List}
-use mathlib.Core.Option.{Option, none, some}
-use lib.Dec.{ltb}
-use lib.ListN.{length}
-use borrow.Author.Tests.{lt-ltb, le-ltb}
-use Rattle.paper.specs.Lists.{any, place, same}
+use mathlib.Core.Option.{Option, none}
 use Rattle.paper.specs.Format.{Format}
 use Rattle.paper.specs.Tables.{Row, rows, types}
 use Rattle.paper.specs.Closeness.{nodes}
-use Rattle.paper.specs.Shapes.{Entry, entries, named, shape_over}
+use Rattle.paper.specs.Shapes.{Entry, entries, shape_over}
 use Rattle.paper.specs.Calls.{Answer, refused, given, ◌>>=◌, refuse_at, Work, type_missing, tests1_4, tests5_6, tests5_7, tests1_7}
-
--- ---- the first entry whose type has no row, from its place
-module _ (rs : List Row) (es : List Entry) (p : ℕ) (first : p ≡ place (λ e. not (any (same (named e)) (types rs))) es) where
-  abbrev at : ℕ → Bool → Option ℕ
-  at i b = elim b [ true ↦ some i | false ↦ none ]
-
-  missing_at : type_missing rs es ≡ at p (ltb p (length es))
-  unfolding type_missing
-  missing_at = ap (λ i. at i (ltb i (length es))) (sym first)
-
-  pub missing_some : p < length es → type_missing rs es ≡ some p
-  missing_some lt = missing_at ∙ ap (at p) (lt-ltb p (length es) lt)
-
-  pub missing_none : length es ≤ p → type_missing rs es ≡ none
-  missing_none le = missing_at ∙ ap (at p) (le-ltb p (length es) le)
 
 -- ---- the tests, from what each finds
 -- what the layers above work on
@@ -56,8 +36,8 @@ module _ (f : Format) (t s : List ℕ) where
       from-shape : tests1_7 f t s ≡ missed (rows f t) (entries f s) (type_missing (rows f t) (entries f s))
       from-shape = from-table ∙ ap (shaped (rows f t)) shape
 
-      pub refused_missing : (p : ℕ) → type_missing (rows f t) (entries f s) ≡ some p → tests1_7 f t s ≡ refused 7 p
-      refused_missing p e = from-shape ∙ ap (missed (rows f t) (entries f s)) e
+      pub refused_missing : (k p : ℕ) → refuse_at 7 (type_missing (rows f t) (entries f s)) ≡ refused k p → tests1_7 f t s ≡ refused k p
+      refused_missing k p e = from-shape ∙ ap (λ a. a >>= (λ _. given (work_of (rows f t) (entries f s)))) e
 
       pub none-refused : type_missing (rows f t) (entries f s) ≡ none → tests1_7 f t s ≡ given (work_of (rows f t) (entries f s))
       none-refused e = from-shape ∙ ap (missed (rows f t) (entries f s)) e

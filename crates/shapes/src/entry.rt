@@ -1,10 +1,10 @@
 // One entry of a shape: the entry rules, and the first entry that breaks one.
-ghost use Rattle.std.specs.Prelude.{◌≡◌, ◌≤◌, length, take};
+ghost use Rattle.std.specs.Prelude.{◌≡◌, ◌≤◌, ◌<◌, IfSome, length, take};
 ghost use Rattle.paper.specs.Lists.{all, between};
 ghost use Rattle.paper.specs.Format.{entry_bytes, words, whole};
 ghost use Rattle.paper.specs.Shapes as Shapes;
 ghost use Rattle.paper.specs.Shapes.{entry_of, level_kept, entry_kept, bad_entry};
-ghost use Rattle.tables.specs.Place.{place_of};
+ghost use Rattle.paper.specs.Refusals.{found};
 
 use paper::Format;
 
@@ -49,19 +49,19 @@ fn entry_kept(entry: &[u8], f: Format, before: usize) -> bool
         && level_kept(before, level)
 }
 
-// The first entry that breaks a rule, the number of entries for none.
-pub fn bad_entry(shape: &[u8], f: Format, entries: usize) -> usize
+// The first entry that breaks a rule.
+pub fn bad_entry(shape: &[u8], f: Format, entries: usize) -> Option<usize>
     requires { (entries ≡ whole (entry_bytes f) shape.now) × (f.levels ≤ 255) }
-    ensures { (bad_entry f (Shapes.entries f shape.now) ≡ place_of result entries) × (result ≤ entries) }
+    ensures { (found result ≡ bad_entry f (Shapes.entries f shape.now)) × IfSome result (λ e. e < entries) }
 {
     let w = octets::entry_bytes(f);
     let mut before = 0;
     for e in 0..entries {
         let entry = octets::record(shape, w, e);
         if !entry_kept(entry, f, before) {
-            return e;
+            return Some(e);
         }
         before = octets::wide(entry[0]);
     }
-    entries
+    None
 }

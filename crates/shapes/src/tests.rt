@@ -21,11 +21,10 @@ pub fn examine_shape(shape: &[u8], f: Format) -> Result<usize, Refusal>
         return Err(Refusal::NoShape);
     }
     let entries = shape.len() / w;
-    let bad = bad_entry(shape, f, entries);
-    if bad < entries {
-        return Err(Refusal::BadEntry(bad));
+    match bad_entry(shape, f, entries) {
+        Some(bad) => Err(Refusal::BadEntry(bad)),
+        None => Ok(entries),
     }
-    Ok(entries)
 }
 
 // The number of entries with the level, last label, parent and type number of each.
@@ -52,20 +51,16 @@ pub fn tests5_7<'a>(
     ensures { PassesEach f parents.now labels.now count shape.now result ways.new }
 {
     let entries = examine_shape(shape, f)?;
-    let named = entry_types(shape, f, entries, parents, labels, count);
-    if named.place < entries {
-        return Err(Refusal::TypeMissing(named.place));
-    }
+    let types = entry_types(shape, f, entries, parents, labels, count)?;
     let laid = entry_ways(shape, f, entries, ways);
     let entry_levels = laid.levels;
     let entry_labels = laid.labels;
     let entry_parents = laid.parents;
-    let entry_types = named.types;
     Ok(Tested {
         entries,
         levels: entry_levels,
         labels: entry_labels,
         parents: entry_parents,
-        types: entry_types,
+        types,
     })
 }

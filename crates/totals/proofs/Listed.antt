@@ -11,9 +11,8 @@ use Rattle.paper.specs.Format.{Format, most_rows, value_bytes, row_bytes, entry_
 use Rattle.paper.specs.Tables.{Row, row_of, rows}
 use Rattle.paper.specs.Closeness.{Node}
 use Rattle.paper.specs.Shapes.{entries, kind}
-use Rattle.paper.specs.Calls.{Work, room_in, reshape}
+use Rattle.paper.specs.Calls.{Reply, Work, room_in, reshape}
 use Rattle.reshaping.specs.Reshaped.{Reshapes}
-use Rattle.reshaping.specs.declared.reshape.Reshaped.{Reshaped}
 use Rattle.totals.specs.Alone.{alone}
 use Rattle.totals.specs.Tape.{value_of, type_rows}
 use Rattle.totals.specs.Rows.{RowsOf, value_at}
@@ -95,22 +94,25 @@ module _ (f : Format) (b sb : List ℕ) (w : Work) (past : Passed f b sb w) (e :
   values_of r h = value_at_lem f b r (row_below r (type_row r h)) ∙ ap (λ rs. value_of rs r) (sym past.rows_are)
 
 -- what a reshape to the entry alone leaves
-pub record Listed (w : Work) (e : ℕ) (r : Reshaped) (sources : List ℕ) : Type 0 where
-  pub rows_are : take r.lines sources ≡ places (type_rows w e)
-  pub long : r.lines ≤ length sources
-  pub few : r.lines ≤ most_rows
+pub record Listed (w : Work) (e : ℕ) (r : Reply ℕ) (sources : List ℕ) : Type 0 where
+  pub accepted : r.number ≡ 0
+  pub rows_are : take r.rest sources ≡ places (type_rows w e)
+  pub long : r.rest ≤ length sources
+  pub few : r.rest ≤ most_rows
 
 pub listed : (f : Format) (b sb : List ℕ) (w : Work) (past : Passed f b sb w) (e : ℕ) → e < length (entries f sb)
     → (new sources : List ℕ) → most_rows ≤ room_in f new sources → (one : List ℕ) → one ≡ alone f sb e
-    → {r : Reshaped} {new' sources' : List ℕ} → Reshapes f b one new sources r new' sources' → Listed w e r sources'
+    → {r : Reply ℕ} {new' sources' : List ℕ} → Reshapes f b one new sources r new' sources' → Listed w e r sources'
 listed f b sb w past e inside new sources room one is-alone {r} {new'} {sources'} x =
     let rows = type_rows w e in
     let few = type_rows_few f b sb w past e in
     let whole = alone-reshaped f b sb w past e inside new sources (omega (arith, few, room)) in
     let asked : reshape f b one new sources ≡ reshape f b (alone f sb e) new sources = ap (λ s. reshape f b s new sources) is-alone in
-    let count : r.lines ≡ length rows = ap (λ y. y.rest) (x.answer ∙ ap (λ y. y.reply) asked ∙ whole.0) in
+    let answer = x.answer ∙ ap (λ y. y.reply) asked ∙ whole.0 in
+    let count : r.rest ≡ length rows = ap (λ (y : Reply ℕ). y.rest) answer in
     let left : sources' ≡ places rows ++ drop (length rows) sources = x.places ∙ ap (λ y. y.sources) asked ∙ whole.1 in
     let size = length-map rows (λ (y : Node). y.place) in record {
+      accepted = ap (λ (y : Reply ℕ). y.number) answer;
       rows_are = (λ j. take ((count ∙ sym size) j) (left j)) ∙ take-append_seam (places rows) (drop (length rows) sources);
       long = omega (arith, count, size, ap length left, length-append (places rows) (drop (length rows) sources));
       few = omega (arith, count, few);

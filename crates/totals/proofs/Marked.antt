@@ -14,7 +14,6 @@ use Rattle.paper.specs.NewTable.{Line, source_list}
 use Rattle.paper.specs.Figures.{Figures, entry_lines, appears, figures}
 use Rattle.paper.specs.Calls.{Reply, given, Work, tests1_7, test8, room_in, summarise}
 use Rattle.reshaping.specs.Reshaped.{Reshapes}
-use Rattle.reshaping.specs.declared.reshape.Reshaped.{Reshaped}
 use Rattle.totals.specs.Tape.{type_rows, shown_rows}
 use Rattle.totals.specs.Rows.{is_marked, is_shown, Marks, AllMarked}
 use Rattle.totals.specs.Work.{HasEntry, MarksShown}
@@ -80,27 +79,33 @@ module _ (f : Format) (b sb : List ℕ) (e : ℕ) (has : HasEntry f b sb e) wher
 
   -- ---- by the source list of the reshape
   module _ (new sources : List ℕ) (room : room_in f new sources ≡ most_lines)
-      {r : Reshaped} {new' sources' : List ℕ} (x : Reshapes f b sb new sources r new' sources') where
+      {r : Reply ℕ} {new' sources' : List ℕ} (x : Reshapes f b sb new sources r new' sources') where
     module _ (w : Work) (ls : List Line) (past1_7 : tests1_7 f b sb ≡ given w) (past8 : test8 f w most_lines ≡ given ls) where
       written : Written f b sb new sources most_lines w ls
       written = reshape_written f b sb new sources most_lines room w ls past1_7 past8
 
-      count : r.lines ≡ length ls
-      count = ap (λ z. z.rest) (x.answer ∙ written.reply-is)
+      accepted : r.number ≡ 0
+      accepted = ap (λ (z : Reply ℕ). z.number) (x.answer ∙ written.reply-is)
+
+      count : r.rest ≡ length ls
+      count = ap (λ (z : Reply ℕ). z.rest) (x.answer ∙ written.reply-is)
 
       left : sources' ≡ source_list ls ++ drop (length ls) sources
       left = x.places ∙ written.sources_are
 
-      fit : r.lines ≤ length sources'
+      fit : r.rest ≤ length sources'
       fit = omega (arith, count, length_sources ls, ap length left, length-append (source_list ls) (drop (length ls) sources))
 
-      lines_are : take r.lines sources' ≡ source_list ls
+      lines_are : take r.rest sources' ≡ source_list ls
       lines_are = (λ j. take ((count ∙ sym (length_sources ls)) j) (left j)) ∙ take-append_seam (source_list ls) (drop (length ls) sources)
 
-    pub lines_fit : r.lines ≤ length sources'
+    pub lines_accepted : r.number ≡ 0
+    lines_accepted = accepted has.work has.shown has.passes1_7 has.passes8
+
+    pub lines_fit : r.rest ≤ length sources'
     lines_fit = fit has.work has.shown has.passes1_7 has.passes8
 
-    pub marks_lines : (before marks : List ℕ) → before ≡ replicate most_rows 0 → Marks e (take r.lines sources') before marks → MarksShown f b sb e marks
+    pub marks_lines : (before marks : List ℕ) → before ≡ replicate most_rows 0 → Marks e (take r.rest sources') before marks → MarksShown f b sb e marks
     marks_lines before marks fresh m w ls past1_7 past8 q h =
         let past = passed f b sb w past1_7 in
         let row = type_row f b sb w past e q h in

@@ -9,15 +9,17 @@ use lib.Dec.{leb}
 use lib.IntN.{ℤ, pos, ◌+ℤ◌, +ℤ_idl}
 use lib.ListN.{length}
 use borrow.Author.Tests.{le-leb, lt-leb}
+use Rattle.std.specs.Prelude.{Result, Ok, Err, IfOk}
 use Rattle.paper.specs.Lists.{keep}
 use Rattle.paper.specs.Format.{Format, most_lines, row_bytes, entry_bytes}
 use Rattle.paper.specs.Closeness.{Node}
 use Rattle.paper.specs.NewTable.{Line}
 use Rattle.paper.specs.Figures.{Figures, entry_lines, appears}
-use Rattle.paper.specs.Calls.{given, refuse, refuse_at, Reply, reply, Work, tests1_7, test8, summarise, ◌>>=◌}
+use Rattle.paper.specs.Calls.{refused, given, refuse, refuse_at, Reply, reply, Work, tests1_7, test8, summarise, ◌>>=◌}
+use Rattle.paper.specs.declared.refusal.Refusal.{Refusal}
 use Rattle.totals.specs.Sums.{sum_of}
 use Rattle.totals.specs.Tape.{Tape, value_of, type_rows, out_of_range, shown_rows, unshown_rows, first_of, Sums, no_sums, sum_tape, sum_of_type}
-use Rattle.totals.specs.Told.{tape, summed, refused_sums}
+use Rattle.totals.specs.Told.{tape, summed}
 use Rattle.totals.specs.Rows.{is_marked, value_at}
 use Rattle.totals.specs.Work.{HasEntry, MarksShown, SumsRows}
 use Rattle.totals.specs.declared.TapeSums.{TapeSums}
@@ -29,12 +31,14 @@ use Rattle.totals.proofs.Listed.{values_of}
 use Rattle.totals.proofs.AddedUp.{added_up_lem}
 use Rattle.totals.proofs.Tapes.{tape-together}
 
--- what is told of a tape that is accepted are its sums, and both together those of all rows of the type
-pub told-together : (t : Tape) (r : TapeSums) → summed r ≡ sum_tape t → (summed r ≡ sum_tape t) × (r.number ≡ 0 → r.shown +ℤ r.unshown ≡ sum_of_type t)
-told-together t r e = (
-  e,
-  λ zero. (λ i. (e i).rest.shown +ℤ (e i).rest.unshown) ∙ tape-together t (sym (ap (λ x. x.number) e) ∙ zero),
-)
+-- both sums that are told of an accepted tape, together, are the sum over all rows of the type
+pub told-together : (t : Tape) (r : Result TapeSums Refusal) → summed r ≡ sum_tape t → IfOk r (λ s. s.shown +ℤ s.unshown ≡ sum_of_type t)
+told-together t (Ok s) e = (λ i. (e i).rest.shown +ℤ (e i).rest.unshown) ∙ tape-together t (sym (ap (λ (x : Reply Sums). x.number) e))
+told-together t (Err d) e = tt
+
+-- refused, with no sums
+abbrev refused_sums : ℕ → ℕ → Reply Sums
+refused_sums k p = reply no_sums (refused k p)
 
 module _ (f : Format) (b sb : List ℕ) (e : ℕ) (x : Reply Figures) (says : x ≡ summarise f b sb) where
   abbrev t : Tape
@@ -43,12 +47,12 @@ module _ (f : Format) (b sb : List ℕ) (e : ℕ) (x : Reply Figures) (says : x 
   -- refused as the summary is
   pub as_summarised : (x.number ≡ 0 → ⊥) → refused_sums x.number x.place ≡ sum_tape t
   unfolding sum_tape
-  as_summarised refused = go (outcome f b sb)
+  as_summarised ne = go (outcome f b sb)
     where
       go : Outcome f b sb → refused_sums x.number x.place ≡ sum_tape t
       go (refusal k p numbered tests y) =
           (λ j. refused_sums ((says ∙ y) j).number ((says ∙ y) j).place) ∙ sym (ap (reply no_sums) (sums_refused t k p tests))
-      go (figured w ls past past8 y) = absurd (refused (ap (λ z. z.number) (says ∙ y)))
+      go (figured w ls past past8 y) = absurd (ne (ap (λ z. z.number) (says ∙ y)))
 
   -- accepted: 1 to 8 are passed
   module _ (accepted : x.number ≡ 0) where

@@ -9,11 +9,15 @@ use lib.IntN.{ℤ, nat_abs, ◌+ℤ◌}
 use mir.Syntax.{w64}
 use mir.Val.{SFits, to_z, of_z}
 use mir.Facts.{to_z-of_z}
-use Rattle.paper.specs.Calls.{Answer, refused, given, reply}
+use Rattle.std.specs.Prelude.{Ok, Err}
+use Rattle.paper.specs.Calls.{Answer, refused, given, Reply, reply}
+use Rattle.paper.specs.declared.refusal.Refusal.{Refusal}
+use Rattle.paper.specs.declared.refusal.Refusal.TheVariants.{NoTotal}
+use Rattle.paper.proofs.Refusals.{numbered as never_0}
 use Rattle.totals.specs.Sums.{within}
 use Rattle.totals.specs.Tape.{Tape, Sums, no_sums, sums_of, sum_tape}
 use Rattle.totals.specs.Total.{Total, most_tapes, most_sum, cannot_be, with, total_with, take_in}
-use Rattle.totals.specs.Told.{summed}
+use Rattle.totals.specs.Told.{summed, taken}
 use Rattle.totals.specs.declared.TapeSums.{TapeSums}
 use Rattle.totals.proofs.Refusals.{Numbered, numbered, is_numbered}
 use Rattle.totals.proofs.Integers.{within_le, sfits}
@@ -44,7 +48,7 @@ module _ (n : ℕ) (few : n < most_tapes) (a b : ℤ) (old : nat_abs a ≤ n * m
   sum_held = to_z-of_z {w = w64} sum_fits ∙ both_held
 
 -- ---- the answer
-module _ (x : Total) (t : Tape) (r : TapeSums) (told : summed r ≡ sum_tape t) where
+module _ (x : Total) (t : Tape) where
   -- how it ends, by what the tape says
   ends : (a : Answer Sums) → Numbered a → (full : Bool)
       → let y = reply no_sums a in
@@ -58,21 +62,21 @@ module _ (x : Total) (t : Tape) (r : TapeSums) (told : summed r ≡ sum_tape t) 
   )
   ends (given s) n full = (λ ne. absurd (ne refl), λ e f i. ending x (given s) (sym f i), λ e f i. ending x (given s) (sym f i))
 
-  number_is : r.number ≡ (sum_tape t).number
-  number_is = ap (λ y. y.number) told
-
   -- refused as the tape is
-  pub as_summed : (r.number ≡ 0 → ⊥) → record { number = r.number; place = r.place; rest = x } ≡ take_in x t
+  pub as_summed : (d : Refusal) → summed (Err d) ≡ sum_tape t → taken x (Err d) ≡ take_in x t
   unfolding take_in total_with sum_tape
-  as_summed ne =
+  as_summed d told =
       (λ i. record { number = (told i).number; place = (told i).place; rest = x })
-      ∙ (ends (sums_of t) (numbered t) (cannot_be x)).0 (λ e. ne (number_is ∙ e))
+      ∙ (ends (sums_of t) (numbered t) (cannot_be x)).0 (λ e. never_0 d (ap (λ (y : Reply Sums). y.number) told ∙ e))
 
-  module _ (accepted : r.number ≡ 0) where
+  module _ (s : TapeSums) (told : summed (Ok s) ≡ sum_tape t) where
+    accepted : (sum_tape t).number ≡ 0
+    accepted = sym (ap (λ (y : Reply Sums). y.number) told)
+
     -- 18
-    pub total-refused : cannot_be x ≡ true → record { number = 18; place = 0; rest = x } ≡ take_in x t
+    pub total-refused : cannot_be x ≡ true → taken x (Err NoTotal) ≡ take_in x t
     unfolding take_in total_with sum_tape
-    total-refused full = (ends (sums_of t) (numbered t) (cannot_be x)).1 (sym number_is ∙ accepted) full
+    total-refused full = (ends (sums_of t) (numbered t) (cannot_be x)).1 accepted full
 
     module _ (can : cannot_be x ≡ false) where
       pub tapes_few : x.tapes < most_tapes
@@ -81,18 +85,18 @@ module _ (x : Total) (t : Tape) (r : TapeSums) (told : summed r ≡ sum_tape t) 
       pub sums_sound : Sound most_sum x
       sums_sound = (can_be x can).1
 
-      pub tape-sound : (nat_abs r.shown ≤ most_sum) × (nat_abs r.unshown ≤ most_sum)
+      pub tape-sound : (nat_abs s.shown ≤ most_sum) × (nat_abs s.unshown ≤ most_sum)
       tape-sound =
-          let within_both = tape-within t (sym number_is ∙ accepted) in (
-            within_le most_sum r.shown (ap (λ y. within most_sum y.rest.shown) told ∙ within_both.0),
-            within_le most_sum r.unshown (ap (λ y. within most_sum y.rest.unshown) told ∙ within_both.1),
+          let within_both = tape-within t accepted in (
+            within_le most_sum s.shown (ap (λ (y : Reply Sums). within most_sum y.rest.shown) told ∙ within_both.0),
+            within_le most_sum s.unshown (ap (λ (y : Reply Sums). within most_sum y.rest.unshown) told ∙ within_both.1),
           )
 
       -- the total with the tape
-      pub total_with_lem : (s u : ℤ) → s ≡ x.shown +ℤ r.shown → u ≡ x.unshown +ℤ r.unshown
-          → record { number = 0; place = 0; rest = record { shown = s; unshown = u; tapes = x.tapes + 1 } } ≡ take_in x t
+      pub total_with_lem : (a b : ℤ) → a ≡ x.shown +ℤ s.shown → b ≡ x.unshown +ℤ s.unshown
+          → taken x (Ok (record { shown = a; unshown = b; tapes = x.tapes + 1 })) ≡ take_in x t
       unfolding take_in total_with sum_tape
-      total_with_lem s u e f =
+      total_with_lem a b e f =
           (λ i. record { number = 0; place = 0; rest = record { shown = e i; unshown = f i; tapes = add-one x.tapes i } })
           ∙ (λ i. record { number = 0; place = 0; rest = with x (told i).rest })
-          ∙ (ends (sums_of t) (numbered t) (cannot_be x)).2 (sym number_is ∙ accepted) can
+          ∙ (ends (sums_of t) (numbered t) (cannot_be x)).2 accepted can

@@ -1,22 +1,24 @@
 -- What both calls answer, in the words of the definitions: what the public contracts name. Assumes nothing.
-use Rattle.std.specs.Prelude.{ℕ, List}
+use Rattle.std.specs.Prelude.{ℕ, List, Result}
 use Rattle.paper.specs.Format.{Format}
 use Rattle.paper.specs.Calls.{Reply}
+use Rattle.paper.specs.Refusals.{reply_of}
+use Rattle.paper.specs.declared.refusal.Refusal.{Refusal}
 use Rattle.totals.specs.Tape.{Tape, Sums, no_sums}
 use Rattle.totals.specs.Total.{Total}
 use Rattle.totals.specs.declared.TapeSums.{TapeSums}
-use Rattle.totals.specs.declared.TakenIn.{TakenIn}
 
 abbrev pub tape : Format → List ℕ → List ℕ → ℕ → Tape
 tape f table shape entry = record { format = f; table = table; shape = shape; entry = entry }
 
+-- both sums
+abbrev pub sums_told : TapeSums → Sums
+sums_told r = record { shown = r.shown; unshown = r.unshown }
+
 -- number, place, both sums
-abbrev pub summed : TapeSums → Reply Sums
-summed r = record { number = r.number; place = r.place; rest = record { shown = r.shown; unshown = r.unshown } }
+abbrev pub summed : Result TapeSums Refusal → Reply Sums
+summed r = reply_of no_sums sums_told r
 
-abbrev pub refused_sums : ℕ → ℕ → Reply Sums
-refused_sums number place = record { number = number; place = place; rest = no_sums }
-
--- number, place, the total
-abbrev pub taken : TakenIn → Reply Total
-taken r = record { number = r.number; place = r.place; rest = r.total }
+-- number, place, the total; refused, it is the one handed in, which the caller still has
+abbrev pub taken : Total → Result Total Refusal → Reply Total
+taken handed r = reply_of handed (λ x. x) r

@@ -2,12 +2,12 @@
 ghost use Rattle.std.specs.Prelude.{◌≡◌, ◌+◌, ◌*◌, ◌≤◌, ◌<◌, ◌∷◌, pos, length, take, drop};
 ghost use Rattle.paper.specs.Format.{most_rows, most_entries, row_bytes, entry_bytes};
 ghost use Rattle.paper.specs.Widths.{format_of};
-ghost use Rattle.totals.specs.Told.{summed, refused_sums};
+ghost use Rattle.totals.specs.Told.{summed};
 ghost use Rattle.totals.specs.Rows.{Marks, AllMarked, RowsOf, value_at, is_marked, added_up};
 
 use crate::TapeSums;
 use crate::value::{lies_within, value_at, wide32};
-use silmezga::Width;
+use silmezga::{Refusal, Width};
 
 // The bytes of a row.
 pub fn row_bytes(width: Width) -> usize
@@ -60,17 +60,6 @@ pub fn mark_all(marks: &mut [u8])
     marks.fill(1);
 }
 
-pub fn refused(number: usize, place: usize) -> TapeSums
-    ensures { summed result ≡ refused_sums number place }
-{
-    TapeSums {
-        number,
-        place,
-        shown: 0,
-        unshown: 0,
-    }
-}
-
 // Adds up the values of rows, those marked and the others, up to the first value that is out of range. A row has so many bytes, and so many
 // stand before its value.
 pub fn add_up(
@@ -80,7 +69,7 @@ pub fn add_up(
     rows: &[u32],
     count: usize,
     marks: &[u8],
-) -> TapeSums
+) -> Result<TapeSums, Refusal>
     requires count_in_bounds { (count ≤ length rows.now) × (count ≤ most_rows) × (length marks.now ≡ most_rows) × (before + 8 ≤ bytes) × (bytes ≤ 255) }
     requires rows_of { RowsOf bytes table.now (take count rows.now) }
     ensures { let value = value_at bytes before table.now in
@@ -92,7 +81,7 @@ pub fn add_up(
         let row = wide32(*number);
         let value = value_at(table, bytes * row + before);
         if !lies_within(1000000000000, value) {
-            return refused(17, row);
+            return Err(Refusal::ValueOutOfRange(row));
         }
         if marks[row] == 1 {
             shown += value;
@@ -100,10 +89,5 @@ pub fn add_up(
             unshown += value;
         }
     }
-    TapeSums {
-        number: 0,
-        place: 0,
-        shown,
-        unshown,
-    }
+    Ok(TapeSums { shown, unshown })
 }

@@ -1,30 +1,32 @@
--- The contract of each exported call, as this crate's source has it, says what that of Rattle's call says, at the width that the number names. So it asks
--- nothing, settles the answer, and has each property that is proved of Rattle's. A clause taken away or weakened is refused here. Assumes nothing.
-use Prim.Native.Nat.{ℕ}
-use Rattle.paper.specs.declared.Width.{Width}
-use Rattle.settling.proofs.Settles.{Settled-too, Holds-too, settled_too, holds_too}
-use Rattle.totals.specs.declared.Total.{Total}
-use Rattle.totals.proofs.Unique as rattle
-use Rattle.totals_c.specs.Numbered.{width_of}
+-- The contract of each exported call, as this crate's source has it, asks nothing, settles the answer, and has each property that is proved of Rattle's
+-- call, at the width that the number names. A clause taken away or weakened is refused here. Assumes nothing.
+use mathlib.Core.Path.{◌≡◌, sym, ◌∙◌, ap}
+use mathlib.Core.List.{List, ◌∷◌}
+use lib.IntN.{◌+ℤ◌}
+use Rattle.paper.specs.Calls.{Reply}
+use Rattle.settling.proofs.Settles.{Settled, Promises}
+use Rattle.totals.specs.Tape.{Tape, sum_of_type}
+use Rattle.totals.specs.Total.{Total}
+use Rattle.totals.specs.History.{after_all}
+use Rattle.totals.specs.Told.{tape}
+use Rattle.totals_c.specs.Numbered.{format_numbered}
+use Rattle.totals_c.proofs.Told.{sums_same, taken_same}
 use Rattle.totals_c.proofs.totals_sum_tape.Reads as sum-tape
 use Rattle.totals_c.proofs.totals_take_in.Reads as take_in
 
--- the arguments of a call, or what it has of them at exit, as Rattle's call has them: a caller in C names the width by a number
-abbrev wide : {X : Type 0} → ℕ × X → Width × X
-wide a = (width_of a.0, a.1)
+pub sum_tape_settled : Settled sum-tape.Asked sum-tape.Learnt (λ κs r e. r)
+sum_tape_settled = ((λ κs a. tt), λ κs a r s e f x y. sums_same r s (x.0 ∙ sym y.0))
 
--- the same behind a total
-abbrev wide_behind : {X : Type 0} → Total × (ℕ × X) → Total × (Width × X)
-wide_behind a = (a.0, wide a.1)
+pub take_in_settled : Settled take_in.Asked take_in.Learnt (λ κs r e. r)
+take_in_settled = ((λ κs a. tt), λ κs a r s e f x y. taken_same r s (x ∙ sym y))
 
-pub sum_tape_settled : Settled-too wide wide sum-tape.Learnt sum-tape.Asked rattle.sum_tape_settled
-sum_tape_settled = settled_too wide wide sum-tape.Learnt rattle.sum_tape_settled (λ κs a. tt) (λ κs a r e x. x)
+-- Both sums that a caller is told, together, are the sum over all rows of the type.
+pub sum_tape_together : Promises sum-tape.Learnt (λ κs a r e.
+    r.number ≡ 0 → r.shown +ℤ r.unshown ≡ sum_of_type (tape (format_numbered a.0) a.1.0.now a.1.1.0.now a.1.1.1.0))
+sum_tape_together κs a r e x = x.1
 
-pub sum_tape_together : Holds-too wide wide sum-tape.Learnt rattle.sum_tape_together
-sum_tape_together = holds_too wide wide sum-tape.Learnt rattle.sum_tape_together (λ κs a r e x. x)
-
-pub take_in_settled : Settled-too wide_behind wide_behind take_in.Learnt take_in.Asked rattle.take_in_settled
-take_in_settled = settled_too wide_behind wide_behind take_in.Learnt rattle.take_in_settled (λ κs a. tt) (λ κs a r e x. x)
-
-pub take_in_next : Holds-too wide_behind wide_behind take_in.Learnt rattle.take_in_next
-take_in_next = holds_too wide_behind wide_behind take_in.Learnt rattle.take_in_next (λ κs a r e x. x)
+-- A history goes on from the answer's total as it does from the total handed in, with this tape before the others.
+pub take_in_next : Promises take_in.Learnt (λ κs a r e.
+    (ts : List Tape)
+    → after_all r.total ts ≡ after_all a.0 (tape (format_numbered a.1.0) a.1.1.0.now a.1.1.1.0.now a.1.1.1.1.0 ∷ ts))
+take_in_next κs a r e x ts = ap (λ (y : Reply Total). after_all y.rest ts) x

@@ -3,14 +3,18 @@
 // archive, exports them. Neither asks anything of its caller beyond slices that are there.
 #![tactic(auto)]
 
+pub mod answers;
+
 ghost use Rattle.std.specs.Prelude.{◌≡◌, ◌+ℤ◌};
 ghost use Rattle.totals.specs.Tape.{sum_tape, sum_of_type};
 ghost use Rattle.totals.specs.Total.{take_in};
-ghost use Rattle.totals.specs.Told.{tape, summed, taken};
+ghost use Rattle.totals.specs.Told.{tape};
 ghost use Rattle.totals_c.specs.Numbered.{width_of, format_numbered};
+ghost use Rattle.totals_c.specs.Told.{told_sums, told_taken};
 
+use answers::{TakenIn, TapeSumsNumbers, taken_in};
 use silmezga::Width;
-use totals::{TakenIn, TapeSums, Total};
+use totals::Total;
 
 // The width that a number names.
 fn width_of(number: u32) -> Width
@@ -24,11 +28,16 @@ fn width_of(number: u32) -> Width
 
 // Refusals 1 to 8, 16 and 17, or both sums of the entry.
 #[unsafe(no_mangle)]
-pub extern "C" fn totals_sum_tape(width: u32, table: &[u8], shape: &[u8], entry: usize) -> TapeSums
-    ensures result_value { summed result ≡ sum_tape (tape (format_numbered width) table.now shape.now entry) }
+pub extern "C" fn totals_sum_tape(
+    width: u32,
+    table: &[u8],
+    shape: &[u8],
+    entry: usize,
+) -> TapeSumsNumbers
+    ensures result_value { told_sums result ≡ sum_tape (tape (format_numbered width) table.now shape.now entry) }
     ensures unshown_value { result.number ≡ 0 → result.shown +ℤ result.unshown ≡ sum_of_type (tape (format_numbered width) table.now shape.now entry) }
 {
-    totals::sum_tape(width_of(width), table, shape, entry)
+    totals::sum_tape(width_of(width), table, shape, entry).into()
 }
 
 // Refusals 1 to 8, 16, 17 and 18, with the total as it was handed in, or the total with this tape.
@@ -40,7 +49,10 @@ pub extern "C" fn totals_take_in(
     shape: &[u8],
     entry: usize,
 ) -> TakenIn
-    ensures { taken result ≡ take_in total (tape (format_numbered width) table.now shape.now entry) }
+    ensures { told_taken result ≡ take_in total (tape (format_numbered width) table.now shape.now entry) }
 {
-    totals::take_in(total, width_of(width), table, shape, entry)
+    taken_in(
+        total,
+        totals::take_in(total, width_of(width), table, shape, entry),
+    )
 }

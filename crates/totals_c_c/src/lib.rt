@@ -5,15 +5,22 @@
 ghost use Rattle.std.specs.Prelude.{◌≡◌, ◌+ℤ◌};
 ghost use Rattle.totals.specs.Tape.{sum_tape, sum_of_type};
 ghost use Rattle.totals.specs.Total.{take_in};
-ghost use Rattle.totals.specs.Told.{tape, summed, taken};
+ghost use Rattle.totals.specs.Told.{tape};
 ghost use Rattle.totals_c.specs.Numbered.{format_numbered};
+ghost use Rattle.totals_c.specs.Told.{told_sums, told_taken};
 
-use totals::{TakenIn, TapeSums, Total};
+use totals::Total;
+use totals_c::answers::{TakenIn, TapeSumsNumbers};
 
 // Refusals 1 to 8, 16 and 17, or both sums of the entry.
 #[unsafe(no_mangle)]
-pub extern "C" fn totals_sum_tape(width: u32, table: &[u8], shape: &[u8], entry: usize) -> TapeSums
-    ensures result_value { summed result ≡ sum_tape (tape (format_numbered width) table.now shape.now entry) }
+pub extern "C" fn totals_sum_tape(
+    width: u32,
+    table: &[u8],
+    shape: &[u8],
+    entry: usize,
+) -> TapeSumsNumbers
+    ensures result_value { told_sums result ≡ sum_tape (tape (format_numbered width) table.now shape.now entry) }
     ensures unshown_value { result.number ≡ 0 → result.shown +ℤ result.unshown ≡ sum_of_type (tape (format_numbered width) table.now shape.now entry) }
 {
     totals_c::totals_sum_tape(width, table, shape, entry)
@@ -28,7 +35,7 @@ pub extern "C" fn totals_take_in(
     shape: &[u8],
     entry: usize,
 ) -> TakenIn
-    ensures { taken result ≡ take_in total (tape (format_numbered width) table.now shape.now entry) }
+    ensures { told_taken result ≡ take_in total (tape (format_numbered width) table.now shape.now entry) }
 {
     totals_c::totals_take_in(total, width, table, shape, entry)
 }

@@ -71,10 +71,7 @@ fn keep_word<'a>(
     requires { Served f × (length word.now ≤ most_text) × (depth ≤ most_text) × (w.entries ≤ most_text) × Lists parents.now labels.now count }
     ensures { Keeps f word.now depth parents.now labels.now count w result }
 {
-    let name = read_word(word, f);
-    if !name.spells {
-        return None;
-    }
+    let name = read_word(word, f)?;
     let entries = w.entries;
     let mut levels = w.levels;
     let mut types = w.types;

@@ -12,13 +12,12 @@ use borrow.Author.Tests.{lt-ltb, le-ltb}
 use Rattle.paper.specs.Lists.{Has, place, same, distinct, last_or, up, ways}
 use Rattle.paper.specs.Format.{Format, most_types, row_bytes, byte, word, whole}
 use Rattle.paper.specs.Tables.{Row, row_of, rows, dewey, row_kept, bad_row, row_types, types, type_number}
-use Rattle.paper.specs.Calls.{type_too_many}
+use Rattle.paper.specs.Calls.{refused, refuse_at, type_too_many}
 use Rattle.paper.specs.Faithful.{Chain}
 use Rattle.paper.proofs.Forest.{follows_lt}
 use Rattle.paper.proofs.Tables.{Levelled, none-rules, rules-each, kept_chain, rows_laid, step, length-ways}
 use Rattle.paper.proofs.Calls.{count-rows}
-use Rattle.tables.specs.Place.{place_of}
-use Rattle.tables.proofs.Rows.{rec, rows_from_lem, kept_level, some-place, none-place}
+use Rattle.tables.proofs.Rows.{rec, rows_from_lem, kept_level}
 use Rattle.types.specs.Types.{kinds, parent_of, Lists}
 use Rattle.types.proofs.Ways.{before_or, before}
 use Rattle.types.proofs.Pass.{seen, number_or, Pass, found_type, new_type}
@@ -91,40 +90,34 @@ module _ (f : Format) (t : List ℕ) (sound : bad_row f (rows f t) ≡ none) whe
   level_next (suc i) lt = levels_from [] [] (rows f t) (suc i) refl chain.0 chain.1 lt
 
 -- ---- the answer
-module _ (rs : List Row) (i count : ℕ) (ks parents labels stack : List ℕ) where
-  -- a 65th type begins at row i
-  pub lists_full : i < length rs → (most_types < length (distinct (ways [] (map step rs))))
-      × (place (same (get_or (distinct (ways [] (map step rs))) most_types [])) (ways [] (map step rs)) ≡ i)
-      → Lists rs ks (record { count = 64; over = i; parents = parents; labels = labels })
-  unfolding type_too_many types row_types
-  lists_full lt (more, at) =
-      let late : length rs ≤ i → ⊥ = λ le. omega arith in
-      record {
-        over = some-place (type_too_many rs) i (length rs) lt (rw (lt-ltb most_types (length (distinct (ways [] (map step rs)))) more, type_too_many) (ap {B = Option ℕ} some at));
-        count = λ le. absurd (late le);
-        typed = λ le. absurd (late le);
-        label = λ le. absurd (late le);
-        parent = λ le. absurd (late le);
-      }
+-- a 65th type begins at row i
+pub lists_full : (rs : List Row) (i : ℕ) → (most_types < length (distinct (ways [] (map step rs))))
+    × (place (same (get_or (distinct (ways [] (map step rs))) most_types [])) (ways [] (map step rs)) ≡ i)
+    → refuse_at 4 (type_too_many rs) ≡ refused 4 i
+unfolding type_too_many types row_types
+lists_full rs i (more, at) =
+    let e : type_too_many rs ≡ some i =
+    rw (lt-ltb most_types (length (distinct (ways [] (map step rs)))) more, type_too_many) (ap {B = Option ℕ} some at) in
+    ap (refuse_at 4) e
 
+module _ (rs : List Row) (i count : ℕ) (ks parents labels stack : List ℕ) where
   pub lists_end : length rs ≡ i → length rs ≤ length ks → Pass (map step rs) i count ks parents labels stack
-      → Lists rs ks (record { count = count; over = i; parents = parents; labels = labels })
+      → Lists rs ks (record { count = count; parents = parents; labels = labels })
   unfolding type_too_many types row_types kinds
   lists_end e long pass =
       let ws = ways [] (map step rs) in
       let n : length ws ≡ length rs = length-ways [] (map step rs) ∙ length-map rs step in
       let q : seen (map step rs) i ≡ distinct ws = pass_end (map step rs) count ks parents labels stack i pass (omega arith) in
       record {
-        over = subst (λ m. type_too_many rs ≡ place_of i m) (sym e) (none-place (type_too_many rs) i
-            (rw (le-ltb most_types (length (distinct ws)) (omega (arith, pass.counted, pass.few, ap length q)), type_too_many) refl));
-        count = λ le. pass.counted ∙ ap length q;
-        typed = λ le. ext_get_or 0 (take (length rs) ks) (map (type_number (distinct ws)) ws)
+        few = rw (le-ltb most_types (length (distinct ws)) (omega (arith, pass.counted, pass.few, ap length q)), type_too_many) refl;
+        count = pass.counted ∙ ap length q;
+        typed = ext_get_or 0 (take (length rs) ks) (map (type_number (distinct ws)) ws)
             (omega (arith, length-take (length rs) ks, length-map ws (type_number (distinct ws))))
             (λ j lj. let lt : j < length rs = omega (arith, length-take (length rs) ks) in
             get_or-take (length rs) ks j 0 lt ∙ pass.numbered j (omega arith) ∙ ap (λ ts. type_number ts (get_or ws j [])) q
             ∙ sym (map_at (type_number (distinct ws)) ws j (omega arith)));
-        label = λ le k lk. pass.names k lk ∙ ap (λ ts. last_or 0 (get_or ts k [])) q;
-        parent = λ le k lk. pass.parented k lk ∙ ap (λ ts. number_or ts (up (get_or ts k []))) q ∙ same_number (distinct ws) (up (get_or (distinct ws) k []));
+        label = λ k lk. pass.names k lk ∙ ap (λ ts. last_or 0 (get_or ts k [])) q;
+        parent = λ k lk. pass.parented k lk ∙ ap (λ ts. number_or ts (up (get_or ts k []))) q ∙ same_number (distinct ws) (up (get_or (distinct ws) k []));
       }
     where
       same_number : (ts : List (List ℕ)) (u : List ℕ) → number_or ts u ≡ parent_of ts u
@@ -200,9 +193,9 @@ module _ (f : Format) (t : List ℕ) (sound : bad_row f (rows f t) ≡ none) (i 
         stack_long = length-set stack l count ∙ walk.stack_long;
       }
 
-      pub walk_full : count ≡ most_types → Lists (rows f t) ks (record { count = 64; over = i; parents = parents; labels = labels })
+      pub walk_full : count ≡ most_types → refuse_at 4 (type_too_many (rows f t)) ≡ refused 4 i
       walk_full full =
-          lists_full (rows f t) i count ks parents labels stack in_rows
+          lists_full (rows f t) i
           (pass_full (map step (rows f t)) i l a in_ways l_is a_is l_pos l_next count p ks parents labels stack walk.pass ep'
           (omega (arith, walk.ks_long)) (omega (arith, walk.stack_long, l_fits)) out full)
 

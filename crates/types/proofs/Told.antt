@@ -29,13 +29,13 @@ type_above rs v h k pos le =
     has-distinct (take k v) ws
     (subst (λ l. Has (take k v) l) all (closed (map step rs) (length ws) v (subst (λ l. Has v l) (sym all) (distinct-has v ws h)) k pos le))
 
--- a type list with no type too many tells the table's types
-pub told : (rs : List Row) (ks : List ℕ) (ty : Types) → Lists rs ks ty → length rs ≤ ty.over → Told (types rs) ty.parents ty.labels ty.count
-told rs ks ty l le = record {
-  count-is = l.count le;
-  few = omega (arith, l.count le, few_from rs ty.over (length rs) l.over le);
-  parent = l.parent le;
-  label = l.label le;
+-- a type list tells the table's types
+pub told : (rs : List Row) (ks : List ℕ) (ty : Types) → Lists rs ks ty → Told (types rs) ty.parents ty.labels ty.count
+told rs ks ty l = record {
+  count-is = l.count;
+  few = omega (arith, l.count, few_from rs l.few);
+  parent = l.parent;
+  label = l.label;
   whole = whole_type rs;
   above = type_above rs;
 }

@@ -4,30 +4,30 @@ ghost use Rattle.std.proofs.Math.Option.{none};
 ghost use Rattle.paper.specs.Format.{most_rows, row_bytes, whole};
 ghost use Rattle.paper.specs.Tables as Tables;
 ghost use Rattle.paper.specs.Tables.{bad_row};
-ghost use Rattle.types.specs.Types.{Lists, Found, FoundNear, NotListed};
+ghost use Rattle.types.specs.Types.{ListsTypes, Found, FoundNear, NotListed};
 
 use paper::Format;
+use paper::refusal::Refusal;
 
-// Each type's parent type (64 for none) and last label. `over` is the first row of the 65th type, or the number of rows.
+// How many types there are, and of each its parent type (64 for none) and last label.
 #[derive(Clone, Copy, Drop)]
 pub struct Types {
     pub count: usize,
-    pub over: usize,
     pub parents: [u8; 64],
     pub labels: [u16; 64],
 }
 
-// The listed type with this parent and label, count for none.
-pub fn find_type(parents: &[u8], labels: &[u16], count: usize, p: u8, a: u16) -> usize
+// The first listed type with this parent and label.
+pub fn find_type(parents: &[u8], labels: &[u16], count: usize, p: u8, a: u16) -> Option<usize>
     requires { (count ≤ length parents.now) × (count ≤ length labels.now) }
-    ensures { Found parents.now labels.now count p a result }
+    ensures { MatchOption result (NotListed parents.now labels.now count p a) (Found parents.now labels.now count p a) }
 {
     for k in 0..count {
         if parents[k] == p && labels[k] == a {
-            return k;
+            return Some(k);
         }
     }
-    count
+    None
 }
 
 // A listed type with this parent and label. It is looked for at two guesses first.
@@ -49,19 +49,18 @@ fn find_near(
     if other < count && parents[other] == p && labels[other] == a {
         return Some(other);
     }
-    let k = find_type(parents, labels, count, p, a);
-    if k < count { Some(k) } else { None }
+    find_type(parents, labels, count, p, a)
 }
 
-// The type list of a table that keeps the row rules, and each row's type number in the lent list. What came last after a row of the same
+// Refusal 4, or the type list of a table that keeps the row rules, and each row's type number in the lent list. What came last after a row of the same
 // type is the first guess for a row's type: `after` has it for each type, and for none before the first row. Where rows follow each other
 // without a pattern this guess is mostly wrong, and a search is dear: the second guess is the last type that is listed at the place of the
 // row's parent and label in `near`.
 #[tactic(auto, using(crate::proofs::Listed::level_some, crate::proofs::Listed::level_most, tables::proofs::Rows::row_in))]
-pub fn list_types(table: &[u8], f: Format, rows: usize, types: &mut [u8]) -> Types
+pub fn list_types(table: &[u8], f: Format, rows: usize, types: &mut [u8]) -> Result<Types, Refusal>
     requires rows_value { (rows ≡ whole (row_bytes f) table.now) × (rows ≤ most_rows) × (f.levels ≤ 8) }
     requires table_value { (bad_row f (Tables.rows f table.now) ≡ none) × (length types.old ≡ most_rows) }
-    ensures { Lists (Tables.rows f table.now) types.new result }
+    ensures { ListsTypes (Tables.rows f table.now) types.new result }
 {
     let mut parents = [0u8; 64];
     let mut labels = [0u16; 64];
@@ -88,12 +87,7 @@ pub fn list_types(table: &[u8], f: Format, rows: usize, types: &mut [u8]) -> Typ
             }
             None => {
                 if count == 64 {
-                    return Types {
-                        count: 64,
-                        over: i,
-                        parents,
-                        labels,
-                    };
+                    return Err(Refusal::TooManyTypes(i));
                 }
                 parents[count] = p;
                 labels[count] = a;
@@ -106,10 +100,9 @@ pub fn list_types(table: &[u8], f: Format, rows: usize, types: &mut [u8]) -> Typ
             }
         }
     }
-    Types {
+    Ok(Types {
         count,
-        over: rows,
         parents,
         labels,
-    }
+    })
 }

@@ -3,4 +3,4 @@ use Rattle.cases.proofs.Marks.{left_of}
 use Rattle.cases.proofs.marked.lend.Goals as goal
 
 pub returns : goal.returns
-returns c = left_of _ _ c.args.n c.marks-places.result c.requires c.marks-places.ensures c.silmezga_adorn-r.result c.silmezga_adorn-r.new.summaries c.silmezga_adorn-r.ensures.result_value c.silmezga_adorn-r.ensures.summaries_after
+returns c = left_of _ _ c.args.n c.marks-places.result c.requires c.marks-places.ensures c.silmezga_adorn-answer.result c.silmezga_adorn-answer.new.summaries c.silmezga_adorn-answer.ensures.result_value c.silmezga_adorn-answer.ensures.summaries_after

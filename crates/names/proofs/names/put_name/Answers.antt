@@ -1,7 +1,7 @@
 -- `names::put_name`: a label that has no name is put as its number. Assumes nothing.
 use native.Mathlib.Omega.{arith}
 use mathlib.Core.Path.{◌∙◌}
-use Rattle.names.proofs.Naming.{no_name_below, no_name_above, has_name, name_part, part_long}
+use Rattle.names.proofs.Naming.{no_name_below, no_name_above, has_name}
 use Rattle.names.proofs.Putting.{put_as}
 use Rattle.names.proofs.names.put_name.Goals as goal
 use Rattle.names.proofs.names.put_name.Goals.{then-label-lt1-via-then-label-lt1, then-label-lt1-via-else-label-lt1+then-label-gt20}
@@ -15,6 +15,5 @@ returns-then-label-lt1 c =
 
 pub returns : goal.returns
 returns c =
-    let long = part_long _ c.name_length-n.result c.name_bytes-name.result c.name_length-n.ensures.0 c.name_bytes-name.ensures in
-    let name = name_part _ c.name_length-n.result c.name_bytes-name.result c.name_length-n.ensures.0 c.name_bytes-name.ensures in
-    (put_as c.put_bytes.ensures (name ∙ has_name c.args.label _ (omega arith) (omega arith)), omega (arith, c.put_bytes.ensures.ends, c.name_length-n.ensures.1))
+    let name = c.name_bytes.ensures.name in
+    (put_as c.put_bytes.ensures (name ∙ has_name c.args.label _ (omega arith) (omega arith)), omega (arith, c.put_bytes.ensures.ends, c.name_bytes.ensures.upper_bound))

@@ -1,8 +1,7 @@
 -- `word::read_word`: the labels of the parts passed are read. Assumes nothing.
 use Prim.Native.Nat.{◌<◌}
 use native.Mathlib.Omega.{arith}
-use mathlib.Core.Path.{refl, sym, ◌∙◌, ap, subst}
-use mathlib.Core.Bool.{true≢false, false≢true}
+use mathlib.Core.Path.{refl, sym, ap, subst}
 use lib.Dec.{eqb}
 use Rattle.names.proofs.Labelled.{label_small}
 use Rattle.names.proofs.Reading.{Read, first-within, none_read, no_label_read, held_read, full_read, all_read}
@@ -16,13 +15,7 @@ loop-p-init c =
 
 pub returns-then-label-eq0 : goal.returns-then-label-eq0
 returns-then-label-eq0 c =
-    let none = c.no_name.ensures in
-    record {
-      name = _;
-      spells_none = λ _. no_label_read c.loop-p.invariant.2 c.part_end-end.ensures c.label_of-label.result c.label_of-label.ensures c.if-label-eq0.true;
-      spells_one = λ q. absurd (false≢true (sym none.says_none ∙ q));
-      held = none.empty;
-    }
+    no_label_read c.loop-p.invariant.2 c.part_end-end.ensures c.label_of-label.result c.label_of-label.ensures c.if-label-eq0.true
 
 pub overflow_cast-labels : goal.overflow_cast-labels
 overflow_cast-labels c =
@@ -47,7 +40,6 @@ returns c =
     let r = c.loop-p.invariant.2 in
     record {
       name = _;
-      spells_none = λ q. absurd (true≢false q);
-      spells_one = λ _. all_read r c.loop-p-test.false;
+      spells_one = all_read r c.loop-p-test.false;
       held = record { whole_is = ap (λ i. eqb i 1) c.first_at-start.ensures; size_is = r.sized; labels_are = r.kept };
     }

@@ -1,4 +1,4 @@
--- `words::vowel_first`: a label with no name is a number, and what is held for a name begins as the name does. Assumes nothing.
+-- `words::vowel_first`: a label with no name is a number, and what is held for a name is the name. Assumes nothing.
 use native.Mathlib.Omega.{arith}
 use mathlib.Core.Path.{◌∙◌}
 use Rattle.names.proofs.Naming.{no_name_below, no_name_above}
@@ -14,4 +14,4 @@ returns-then-label-lt1 c =
     ]
 
 pub returns : goal.returns
-returns c = c.is_vowel.ensures ∙ name_first c.args.label _ c.name_bytes-name.result (omega arith) (omega arith) c.name_bytes-name.ensures
+returns c = c.is_vowel.ensures ∙ name_first c.args.label _ c.name_bytes-name.result.now (omega arith) (omega arith) c.name_bytes-name.ensures.name

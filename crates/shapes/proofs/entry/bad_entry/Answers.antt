@@ -19,7 +19,7 @@ pub returns-then-not-entry_kept : goal.returns-then-not-entry_kept
 returns-then-not-entry_kept c =
     let a = c.args in
     let stop = search_stop a.f a.shape.now a.entries c.requires.0 c.loop-e.before c.loop-e.e c.loop-e.invariant (omega arith) c.record-entry.result.now cc in
-    (stop (sym c.entry_kept.ensures ∙ c.if-not-entry_kept.true), omega arith)
+    (sym (stop (sym c.entry_kept.ensures ∙ c.if-not-entry_kept.true)), omega arith)
 
 pub loop-e-preserved : goal.loop-e-preserved
 loop-e-preserved c =
@@ -30,4 +30,4 @@ loop-e-preserved c =
 pub returns : goal.returns
 returns c =
     let a = c.args in
-    (search_end a.f a.shape.now a.entries c.requires.0 c.loop-e.before c.loop-e.e c.loop-e.invariant (omega arith), omega arith)
+    (sym (search_end a.f a.shape.now a.entries c.requires.0 c.loop-e.before c.loop-e.e c.loop-e.invariant (omega arith)), tt)

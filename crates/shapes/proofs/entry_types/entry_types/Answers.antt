@@ -30,7 +30,6 @@ returns-in_default c =
     let number = read_numbers a.f a.shape.now a.parents.now a.labels.now a.count e.e c.record-entry.result.now c.wide-size.result a.count is
     c.wide-size.ensures.0 c.in_default.ensures.number in
     numbered_stop a.f a.shape.now a.parents.now a.labels.now a.count e.e e.types e.invariant.numbered (omega arith) a.count number (omega arith)
-    a.entries c.requires.entries_value.0
 
 pub loop-e-preserved : goal.loop-e-preserved
 loop-e-preserved c =

@@ -14,15 +14,16 @@ returns-in_err-entries c t table told =
     let p = err_from_is_err_and c.from_residual.result c.from_residual.ensures.1 in
     rw (p.1, p.2) (shape-refused c.args.f c.args.shape.now c.in_err-entries.field-0.0 c.in_err-entries.ensures t table)
 
-pub entry_types-named-requires : goal.entry_types-named-requires
-entry_types-named-requires c =
-    let ((whole, some, deep), kept) = shape_asked c.requires.served.0 (shaped (goal.at.entry_types-named-requires c).In_ok-entries) in
+pub entry_types-requires : goal.entry_types-requires
+entry_types-requires c =
+    let ((whole, some, deep), kept) = shape_asked c.requires.served.0 (shaped (goal.at.entry_types-requires c).In_ok-entries) in
     record { entries_value = (whole, some, omega arith); shape_value = kept; count_in_bounds = c.requires.count_in_bounds }
 
-pub returns-then-named-entries : goal.returns-then-named-entries
-returns-then-named-entries c t table told =
-    types_missing t table told (shaped (goal.at.returns-then-named-entries c).In_ok-entries) c.entry_types-named.result c.entry_types-named.ensures
-    (omega (arith, c.if-named-entries.true))
+pub returns-in_err-types : goal.returns-in_err-types
+returns-in_err-types c t table told =
+    let p = err_from_is_err_and c.from_residual-in_err-types.result c.from_residual-in_err-types.ensures.1 in
+    rw (p.1, p.2)
+    (types_missing t table told (shaped (goal.at.returns-in_err-types c).In_ok-entries) c.in_err-types.field-0.0 c.in_err-types.ensures)
 
 pub entry_ways-laid-requires : goal.entry_ways-laid-requires
 entry_ways-laid-requires c =
@@ -31,5 +32,5 @@ entry_ways-laid-requires c =
 
 pub returns : goal.returns
 returns c t table told =
-    passes t table told (shaped (goal.at.returns c).In_ok-entries) c.entry_types-named.result c.entry_types-named.ensures
-    (omega (arith, c.if-named-entries.false)) c.entry_ways-laid.result c.entry_ways-laid.new.ways c.entry_ways-laid.ensures
+    passes t table told (shaped (goal.at.returns c).In_ok-entries) c.in_ok-types.types c.in_ok-types.ensures
+    c.entry_ways-laid.result c.entry_ways-laid.new.ways c.entry_ways-laid.ensures

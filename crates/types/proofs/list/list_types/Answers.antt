@@ -1,6 +1,6 @@
 -- `list::list_types`: a row is of a listed type, of a new one, or of one too many. Assumes nothing.
 use native.Mathlib.Omega.{arith}
-use mathlib.Core.Path.{◌≡◌, refl}
+use mathlib.Core.Path.{refl}
 use Rattle.paper.proofs.Calls.{count-rows}
 use Rattle.types.proofs.Listed.{lists_end, walk_known, walk_new, walk_full}
 use Rattle.types.proofs.list.list_types.Goals as goal
@@ -34,5 +34,4 @@ pub returns : goal.returns
 returns c =
     let walk = c.loop-i.invariant.0 in
     let count = count-rows c.args.f c.args.table.now in
-    let all : c.loop-i.i ≡ c.args.rows = omega arith in
-    rw (← all) (lists_end _ _ _ _ _ _ _ (omega (arith, count)) (omega (arith, count, walk.ks_long)) walk.pass)
+    lists_end _ _ _ _ _ _ _ (omega (arith, count)) (omega (arith, count, walk.ks_long)) walk.pass
