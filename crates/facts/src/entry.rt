@@ -11,7 +11,6 @@ use listing::line::put_list;
 use names::names::put_name;
 use names::put::{put_byte, put_bytes, put_number};
 use paper::Format;
-use tables::row::smaller;
 
 // The names of the first n labels of an entry's record, a space before each.
 fn put_names(out: &mut [u8], at: usize, entry: &[u8], n: usize) -> usize
@@ -32,7 +31,7 @@ pub fn put_labels(out: &mut [u8], at: usize, entry: &[u8], f: Format) -> usize
     requires at_in_bounds { (at + 168 ≤ length out.old) × (entry_bytes f ≤ length entry.now) }
     ensures { Put out.old at (labels_text f entry.now) out.new result × (result ≤ at + 168) }
 {
-    let n = smaller(octets::wide(entry[1]), f.levels);
+    let n = octets::wide(entry[1]).min(f.levels);
     put_names(out, at, entry, n)
 }
 

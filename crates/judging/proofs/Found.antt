@@ -2,20 +2,16 @@
 use Prim.Native.Nat.{ℕ}
 use native.Mathlib.Omega.{arith}
 use mathlib.Core.Path.{◌≡◌, refl, ap}
-use mathlib.Core.Logic.{⊎_elim}
 use mathlib.Core.List.{List, [], ◌∷◌, ◌++◌, map}
 use Rattle.paper.specs.Lists.{first_or}
 use Rattle.paper.specs.Verdict
 use Rattle.paper.specs.Verdict.{kept, missing, verdict_numbers}
-use types.Run.{OneOf}
-use denote.Enum.Declared.{tag_of}
 use Rattle.shapes.specs.declared.shape.Shape.{Shape}
 use Rattle.partners.specs.Closest.{alone_rows}
 use Rattle.judging.specs.Told.{told}
 use Rattle.judging.specs.Lone.{lone_from}
 use Rattle.judging.specs.declared.verdict.Verdict.{Verdict}
 use Rattle.judging.specs.declared.verdict.Verdict.TheVariants.{Kept, Missing, Apart, Unsure}
-use Rattle.judging.specs.contracts.verdict.Verdict.{the_type}
 use Rattle.judging.proofs.Earned.{join_related, FirstIn, first_more, first_fault_lem}
 
 -- a verdict of another variant is not kept

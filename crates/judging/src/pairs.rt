@@ -15,7 +15,7 @@ fn shared_way(levels: [u8; 16], ways: &[u8], e: usize, f: usize) -> usize
     requires { WayFits ways.now e (get_or levels e 0) × WayFits ways.now f (get_or levels f 0) }
     ensures { result ≡ shared (way_of levels ways.now e) (way_of levels ways.now f) }
 {
-    let most = tables::row::smaller(octets::wide(levels[e]), octets::wide(levels[f]));
+    let most = octets::wide(levels[e]).min(octets::wide(levels[f]));
     for k in 0..most {
         if ways[8 * e + k] != ways[8 * f + k] {
             return k;
@@ -40,7 +40,7 @@ fn least_level(
     let mut least = b;
     for i in k..size {
         let c = octets::wide(ways[8 * e + i]);
-        least = tables::row::smaller(least, octets::wide(edges[c]));
+        least = least.min(octets::wide(edges[c]));
     }
     least
 }

@@ -11,7 +11,6 @@ ghost use Rattle.names.specs.Put.{Put};
 use names::names::put_name;
 use names::put::{put_after, put_byte, put_number};
 use paper::Format;
-use tables::row::smaller;
 
 // The numbers after the first of the list that a record holds, n of them, each with a dot before it.
 fn put_further(out: &mut [u8], at: usize, held: &[u8], n: usize) -> usize
@@ -43,7 +42,7 @@ pub fn put_dewey(out: &mut [u8], at: usize, row: &[u8], f: Format) -> usize
     requires at_in_bounds { (at + 167 ≤ length out.old) × (length row.now ≡ row_bytes f) }
     ensures { Put out.old at (dewey_text (dewey (row_of f row.now))) out.new result × (result ≤ at + 167) }
 {
-    let n = smaller(octets::wide(row[0]), f.levels);
+    let n = octets::wide(row[0]).min(f.levels);
     put_list(out, at, row, n)
 }
 

@@ -4,7 +4,6 @@ ghost use Rattle.paper.specs.Format.{most_rows, most_entries};
 ghost use Rattle.reshaping.specs.Figures.{held_by, different_in, Figured};
 
 use crate::summarise::Summary;
-use tables::row::smaller;
 
 // An entry's rows: those of its type, and how many different ones its lines show.
 #[derive(Clone, Copy, Drop)]
@@ -25,7 +24,7 @@ fn entry_rows(types: &[u8], rows: usize, k: u8, shows: &[u16], e: usize) -> Entr
     for i in 0..rows {
         if types[i] == k {
             held += 1;
-            different += smaller(octets::wide16(shows[entry_at + i]), 1);
+            different += octets::wide16(shows[entry_at + i]).min(1);
         }
     }
     EntryRows { held, different }

@@ -20,10 +20,7 @@ fn room_in(bytes: usize, f: Format, places: usize) -> usize
     requires { Served f }
     ensures { result ≡ min (bytes / row_bytes f) (min places most_lines) }
 {
-    tables::row::smaller(
-        bytes / octets::row_bytes(f),
-        tables::row::smaller(places, 4096),
-    )
+    (bytes / octets::row_bytes(f)).min(places.min(4096))
 }
 
 // Refusals 5 to 8, or the lines of the new table, for the rows of a table that were read and the next row of each row's type. They are written

@@ -9,7 +9,7 @@ pub fn meeting(meetings: &[u8], types: [u8; 16], e: usize, f: usize) -> usize
 {
     let down = meetings[16 * octets::wide(types[f]) + e];
     let up = meetings[16 * octets::wide(types[e]) + f];
-    tables::row::larger(octets::wide(down), octets::wide(up))
+    octets::wide(down).max(octets::wide(up))
 }
 
 // The level of each edge.

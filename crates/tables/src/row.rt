@@ -1,5 +1,5 @@
 // One row, and two: its own fields, how far two rows agree, and whether one follows the other.
-ghost use Rattle.std.specs.Prelude.{◌≡◌, true, ◌+◌, ◌*◌, ◌≤◌, ◌<◌, min, max, eqb, leb, length, get_or, drop};
+ghost use Rattle.std.specs.Prelude.{◌≡◌, true, ◌+◌, ◌*◌, ◌≤◌, ◌<◌, min, eqb, leb, length, get_or, drop};
 ghost use Rattle.paper.specs.Lists.{all};
 ghost use Rattle.paper.specs.Format.{row_bytes, entry_bytes, byte, words};
 ghost use Rattle.paper.specs.Tables.{row_of, dewey, fields_kept, follows};
@@ -57,12 +57,6 @@ pub fn smaller(a: usize, b: usize) -> usize
     ensures { result ≡ min a b }
 {
     if a < b { a } else { b }
-}
-
-pub fn larger(a: usize, b: usize) -> usize
-    ensures { result ≡ max a b }
-{
-    if a < b { b } else { a }
 }
 
 // Do two rows agree in their first n components? They do where they meet at n or deeper.

@@ -13,6 +13,6 @@ unfolding entry_of labels_text
 returns c =
     let a = c.args in
     let entry = a.entry.now in
-    let least = c.smaller-n.ensures ∙ ap (λ k. min k a.f.levels) c.wide.ensures.0 in
-    let all = sym (take_words (get_or entry 1 0) a.f.levels c.smaller-n.result entry 4 least) in
+    let least = c.min-n.ensures ∙ ap (λ k. min k a.f.levels) c.wide.ensures.0 in
+    let all = sym (take_words (get_or entry 1 0) a.f.levels c.min-n.result entry 4 least) in
     (put_as c.put_names.ensures.0 (ap names_text all), c.put_names.ensures.1)

@@ -13,6 +13,6 @@ unfolding row_of
 returns c =
     let a = c.args in
     let row = a.row.now in
-    let least = c.smaller-n.ensures ∙ ap (λ k. min k a.f.levels) c.wide.ensures.0 in
-    let all = sym (take_words (get_or row 0 0) a.f.levels c.smaller-n.result row 4 least) in
+    let least = c.min-n.ensures ∙ ap (λ k. min k a.f.levels) c.wide.ensures.0 in
+    let all = sym (take_words (get_or row 0 0) a.f.levels c.min-n.result row 4 least) in
     (put_as c.put_list.ensures.0 (ap dewey_text all), c.put_list.ensures.1)

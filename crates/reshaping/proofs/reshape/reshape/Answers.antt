@@ -1,5 +1,4 @@
 -- `reshaping::reshape::reshape` meets its contract. Assumes nothing.
-use native.Mathlib.Omega.{arith}
 use mathlib.Core.Path.{refl}
 use Rattle.std.proofs.lemmas.Result.{err_from_is_err_and}
 use Rattle.paper.specs.Calls.{tests1_4}
