@@ -28,7 +28,7 @@ pub fn word(b: &[u8], i: usize) -> usize
     requires { i + 1 < length b.now }
     ensures { (result ≡ word b.now i) × (result < 65536) }
 {
-    wide(b[i]) + 256 * wide(b[i + 1])
+    wide16(u16::from_le_bytes([b[i], b[i + 1]]))
 }
 
 // The 64-bit number at byte i.
@@ -36,9 +36,17 @@ pub fn long(b: &[u8], i: usize) -> usize
     requires { i + 7 < length b.now }
     ensures { result ≡ number (span 8 b.now i) }
 {
-    let low = word(b, i) + 65536 * word(b, i + 2);
-    let high = word(b, i + 4) + 65536 * word(b, i + 6);
-    low + 4294967296 * high
+    let n = u64::from_le_bytes([
+        b[i],
+        b[i + 1],
+        b[i + 2],
+        b[i + 3],
+        b[i + 4],
+        b[i + 5],
+        b[i + 6],
+        b[i + 7],
+    ]);
+    n as usize
 }
 
 // The bytes of an entry of a shape.
@@ -79,6 +87,5 @@ pub fn put_word(new: &mut [u8], at: usize, x: u16)
     requires { at + 2 ≤ length new.old }
     ensures { new.new ≡ sets new.old at (bytes 2 x) }
 {
-    new[at] = (x % 256) as u8;
-    new[at + 1] = (x / 256) as u8;
+    new[at..at + 2].copy_from_slice(&x.to_le_bytes());
 }
