@@ -2,7 +2,7 @@
 use Prim.Native.Nat.{ℕ}
 use native.Mathlib.Omega.{arith}
 use mathlib.Core.Path.{◌≡◌, refl, sym, ◌∙◌, ap, ap₂}
-use mathlib.Core.Bool.{Bool, true, false}
+use mathlib.Core.Bool.{true, false}
 use lib.Dec.{eqb}
 use Rattle.std.specs.Prelude.{Ok, Err, Result, IfOk}
 use Rattle.paper.specs.Calls.{Reply}
@@ -39,27 +39,87 @@ numbered NoRoom z = omega (arith, z)
 -- ---- number and place tell which refusal it is
 named : ℕ → ℕ → Refusal
 named n p =
-    elim (eqb n 1) [ true ↦ TooManyRows | false ↦
-    elim (eqb n 2) [ true ↦ HalfRow | false ↦
-    elim (eqb n 3) [ true ↦ BadRow p | false ↦
-    elim (eqb n 4) [ true ↦ TooManyTypes p | false ↦
-    elim (eqb n 5) [ true ↦ NoShape | false ↦
-    elim (eqb n 6) [ true ↦ BadEntry p | false ↦
-    elim (eqb n 7) [ true ↦ TypeMissing p | false ↦
-    elim (eqb n 8) [ true ↦ TooManyLines | false ↦
-    elim (eqb n 10) [ true ↦ TooFewSummaries | false ↦
-    elim (eqb n 11) [ true ↦ NoSuchRow p | false ↦
-    elim (eqb n 12) [ true ↦ NoTree p | false ↦
-    elim (eqb n 13) [ true ↦ NoOneType p | false ↦
-    elim (eqb n 14) [ true ↦ IndexTooShort | false ↦
-    elim (eqb n 15) [ true ↦ WrongIndex p | false ↦
-    elim (eqb n 16) [ true ↦ NoSuchEntry | false ↦
-    elim (eqb n 17) [ true ↦ ValueOutOfRange p | false ↦
-    elim (eqb n 18) [ true ↦ NoTotal | false ↦
-    elim (eqb n 24) [ true ↦ TooDeep p | false ↦
-    elim (eqb n 25) [ true ↦ BadPair p | false ↦
-    elim (eqb n 26) [ true ↦ Unlisted p | false ↦
-    NoRoom ] ] ] ] ] ] ] ] ] ] ] ] ] ] ] ] ] ] ] ]
+    elim (eqb n 1) [
+      | true ↦ TooManyRows
+      | false ↦
+          elim (eqb n 2) [
+            | true ↦ HalfRow
+            | false ↦
+                elim (eqb n 3) [
+                  | true ↦ BadRow p
+                  | false ↦
+                      elim (eqb n 4) [
+                        | true ↦ TooManyTypes p
+                        | false ↦
+                            elim (eqb n 5) [
+                              | true ↦ NoShape
+                              | false ↦
+                                  elim (eqb n 6) [
+                                    | true ↦ BadEntry p
+                                    | false ↦
+                                        elim (eqb n 7) [
+                                          | true ↦ TypeMissing p
+                                          | false ↦
+                                              elim (eqb n 8) [
+                                                | true ↦ TooManyLines
+                                                | false ↦
+                                                    elim (eqb n 10) [
+                                                      | true ↦ TooFewSummaries
+                                                      | false ↦
+                                                          elim (eqb n 11) [
+                                                            | true ↦ NoSuchRow p
+                                                            | false ↦
+                                                                elim (eqb n 12) [
+                                                                  | true ↦ NoTree p
+                                                                  | false ↦
+                                                                      elim (eqb n 13) [
+                                                                        | true ↦ NoOneType p
+                                                                        | false ↦
+                                                                            elim (eqb n 14) [
+                                                                              | true ↦ IndexTooShort
+                                                                              | false ↦
+                                                                                  elim (eqb n 15) [
+                                                                                    | true ↦ WrongIndex p
+                                                                                    | false ↦
+                                                                                        elim (eqb n 16) [
+                                                                                          | true ↦ NoSuchEntry
+                                                                                          | false ↦
+                                                                                              elim (eqb n 17) [
+                                                                                                | true ↦ ValueOutOfRange p
+                                                                                                | false ↦
+                                                                                                    elim (eqb n 18) [
+                                                                                                      | true ↦ NoTotal
+                                                                                                      | false ↦
+                                                                                                          elim (eqb n 24) [
+                                                                                                            | true ↦ TooDeep p
+                                                                                                            | false ↦
+                                                                                                                elim (eqb n 25) [
+                                                                                                                  | true ↦ BadPair p
+                                                                                                                  | false ↦
+                                                                                                                      elim (eqb n 26) [
+                                                                                                                        | true ↦ Unlisted p
+                                                                                                                        | false ↦
+                                                                                                                            NoRoom
+                                                                                                                      ]
+                                                                                                                ]
+                                                                                                          ]
+                                                                                                    ]
+                                                                                              ]
+                                                                                        ]
+                                                                                  ]
+                                                                            ]
+                                                                      ]
+                                                                ]
+                                                          ]
+                                                    ]
+                                              ]
+                                        ]
+                                  ]
+                            ]
+                      ]
+                ]
+          ]
+    ]
 
 told_apart : (e : Refusal) → named (refusal_number e) (refusal_place e) ≡ e
 unfolding named

@@ -8,27 +8,27 @@ use std::fmt;
 
 #[derive(Clone, Copy, Debug, PartialEq, Eq)]
 pub enum Refusal {
-    TooManyRows,            // 1
-    HalfRow,                // 2
-    BadRow(usize),          // 3
-    TooManyTypes(usize),    // 4: the first row of the 65th type
-    NoShape,                // 5: no entry, more than 16, or half of one
-    BadEntry(usize),        // 6
-    TypeMissing(usize),     // 7: the first entry whose type has no row
-    TooManyLines,           // 8
-    TooFewSummaries,        // 10
-    NoSuchRow(usize),       // 11
-    NoTree(usize),          // 12: the byte at which the text stops being a tree
-    NoOneType(usize),       // 13: the first entry whose name matches no type, or several
-    IndexTooShort,          // 14
-    WrongIndex(usize),      // 15: the first row at which a list is not this table's
-    NoSuchEntry,            // 16
+    TooManyRows, // 1
+    HalfRow, // 2
+    BadRow(usize), // 3
+    TooManyTypes(usize), // 4: the first row of the 65th type
+    NoShape, // 5: no entry, more than 16, or half of one
+    BadEntry(usize), // 6
+    TypeMissing(usize), // 7: the first entry whose type has no row
+    TooManyLines, // 8
+    TooFewSummaries, // 10
+    NoSuchRow(usize), // 11
+    NoTree(usize), // 12: the byte at which the text stops being a tree
+    NoOneType(usize), // 13: the first entry whose name matches no type, or several
+    IndexTooShort, // 14
+    WrongIndex(usize), // 15: the first row at which a list is not this table's
+    NoSuchEntry, // 16
     ValueOutOfRange(usize), // 17
-    NoTotal,                // 18
-    TooDeep(usize),         // 24: the first row or entry with more levels than the other width has
-    BadPair(usize),         // 25
-    Unlisted(usize),        // 26: the first row, else the first entry, with a label above 99 that is in no pair
-    NoRoom,                 // 29
+    NoTotal, // 18
+    TooDeep(usize), // 24: the first row or entry with more levels than the other width has
+    BadPair(usize), // 25
+    Unlisted(usize), // 26: the first row, else the first entry, with a label above 99 that is in no pair
+    NoRoom, // 29
 }
 
 impl Refusal {

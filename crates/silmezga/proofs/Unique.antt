@@ -1,7 +1,7 @@
 -- The contract of each call, as the root file has it, asks nothing and settles what a caller sees: of any two results that it allows
 -- both are one, and so is what they leave of what was lent. A clause taken away or weakened is refused here. Assumes nothing.
 use Prim.Native.Nat.{ℕ, ◌*◌}
-use mathlib.Core.Path.{◌≡◌, refl, sym, ◌∙◌, ap}
+use mathlib.Core.Path.{◌≡◌, refl, sym, ◌∙◌}
 use mathlib.Core.List.{List, map}
 use lib.ListN.{length, take}
 use Rattle.paper.specs.Format.{Format, row_bytes}

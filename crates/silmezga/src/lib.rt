@@ -66,11 +66,7 @@ fn adorned_at(width: Width, table: &[u8], lent: usize) -> Result<Adorned, Refusa
 
 // Adorns a table: refusals 1 to 4, then 10, or the count of types, with one summary a type at the front of what was lent; what lies past
 // them stays as it was.
-pub fn adorn(
-    width: Width,
-    table: &[u8],
-    summaries: &mut [TypeSummary],
-) -> Result<usize, Refusal>
+pub fn adorn(width: Width, table: &[u8], summaries: &mut [TypeSummary]) -> Result<usize, Refusal>
     ensures result_value { adorned_types result ≡ (adorn (format_of width) table.now (map told summaries.old)).reply }
     ensures summaries_after { map told summaries.new ≡ (adorn (format_of width) table.now (map told summaries.old)).summaries }
 {
@@ -177,7 +173,12 @@ pub fn convert_labels(
 // 6 with the first entry whose level is too deep; 13 with the first entry whose name matches no type of the table, or several; then 29, or the count of
 // entries, with the records of the shape at the front of what was lent. What lies past them stays as it was. No call refuses that shape with 5, 6 or
 // 7 over the same table.
-pub fn read_tree(width: Width, table: &[u8], text: &[u8], shape: &mut [u8]) -> Result<usize, Refusal>
+pub fn read_tree(
+    width: Width,
+    table: &[u8],
+    text: &[u8],
+    shape: &mut [u8],
+) -> Result<usize, Refusal>
     ensures { ReadsTree (format_of width) table.now text.now shape.old (counted result) shape.new }
 {
     typed::read::read_tree(table, text, paper::format_of(width), shape)
@@ -195,7 +196,12 @@ pub fn print_tree(width: Width, shape: &[u8], text: &mut [u8]) -> Result<usize, 
 // Builds the index of a table: refusals 1 to 3; 14 where either list has fewer places than the table has rows; or the count of rows, with each row's
 // last descendant, itself if none, and the next row of its type, 65,535 for none, at the front of what was lent; places past the rows stay as they
 // were. A table may have more than 64 types.
-pub fn build_index(width: Width, table: &[u8], last: &mut [u16], next: &mut [u16]) -> Result<usize, Refusal>
+pub fn build_index(
+    width: Width,
+    table: &[u8],
+    last: &mut [u16],
+    next: &mut [u16],
+) -> Result<usize, Refusal>
     ensures { Builds (format_of width) table.now last.old next.old (built result) last.new next.new }
 {
     indexes::build::build_index(table, paper::format_of(width), last, next)

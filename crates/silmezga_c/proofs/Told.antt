@@ -1,24 +1,20 @@
 -- Laws of the answers in numbers: where a looked-up row stands, the verdict and the second answer. Assumes nothing.
 use Prim.Native.Nat.{ℕ, ◌*◌, ◌≤◌, ◌<◌}
 use native.Mathlib.Omega.{arith}
-use mathlib.Core.Path.{◌≡◌, refl, sym, ◌∙◌, ap}
+use mathlib.Core.Path.{◌≡◌, sym, ◌∙◌, ap}
 use mathlib.Core.List.{List, [], ◌∷◌, ◌++◌}
 use lib.ListN.{length, take, drop, get_or}
 use Rattle.paper.specs.Lists.{padded}
 use Rattle.paper.specs.Format.{Format, most_rows, row_bytes, whole}
 use Rattle.paper.specs.Tables.{rows}
-use Rattle.paper.specs.Verdict as paper
-use Rattle.paper.specs.Verdict.{Judgement, kept, missing, apart, unsure, verdict_numbers}
+use Rattle.paper.specs.Verdict.{Judgement}
 use Rattle.paper.specs.Calls.{given, Reply, tests1_3, look_up}
 use Rattle.std.specs.Prelude.{Result, Ok, Err}
 use Rattle.paper.specs.Figures.{Figures}
 use Rattle.paper.specs.Labels as Labels
-use Rattle.paper.specs.Refusals.{refusal_number, refusal_place}
 use Rattle.paper.specs.declared.refusal.Refusal.{Refusal}
 use Rattle.judging.specs.Judged.{InNumbers, judged, in_numbers}
 use Rattle.judging.specs.declared.judge.Judged.{Judged}
-use Rattle.judging.specs.declared.verdict.Verdict.{Verdict}
-use Rattle.judging.specs.declared.verdict.Verdict.TheVariants.{Kept, Missing, Apart, Unsure}
 use Rattle.paper.proofs.Calls.{passed1_3}
 use Rattle.octets.proofs.Laws.{record_length}
 use Rattle.tables.specs.Reply.{start_of}

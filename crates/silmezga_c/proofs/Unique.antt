@@ -159,8 +159,8 @@ pub read_tree_settled : Settled {X = Counted × List ℕ} read-tree.Asked read-t
 read_tree_settled = (
   (λ κs a. tt),
   λ κs a r s e f x y. (
-    let u = read_tree_unique (format_numbered a.0) (width_named (width_of a.0)) _ _ _ (reading_of (told_count r) _) (reading_of (told_count s) _) x y in
-    both (count_told r s (ap (λ (z : Reading). z.reply) u), ap (λ (z : Reading). z.shape) u)),
+      let u = read_tree_unique (format_numbered a.0) (width_named (width_of a.0)) _ _ _ (reading_of (told_count r) _) (reading_of (told_count s) _) x y in
+      both (count_told r s (ap (λ (z : Reading). z.reply) u), ap (λ (z : Reading). z.shape) u)),
 )
 
 pub print_tree_settled : Settled {X = Counted × List ℕ} print-tree.Asked print-tree.Learnt (λ κs r e. (r, e.1.1.0.now))

@@ -26,8 +26,8 @@ ghost use Rattle.silmezga_c.specs.Told.{width_of, format_numbered, LooksUp, in_f
 ghost use Rattle.silmezga_c.specs.Numbers.{told_count, told_summary, told_converted};
 
 use adorned::TypeSummary;
-use silmezga::{Refusal, Width};
 use answers::{ConvertedNumbers, Counted, JudgedNumbers, SummaryNumbers};
+use silmezga::{Refusal, Width};
 
 // The width that a number names.
 fn width_of(number: u32) -> Width
@@ -93,11 +93,7 @@ pub extern "C" fn silmezga_look_up(width: u32, table: &[u8], row: usize) -> Look
 // Refusals 1 to 4, then 10, or the count of types, with one summary a type at the front of what was lent; what lies past them stays as it
 // was.
 #[unsafe(no_mangle)]
-pub extern "C" fn silmezga_adorn(
-    width: u32,
-    table: &[u8],
-    summaries: &mut [TypeSummary],
-) -> Counted
+pub extern "C" fn silmezga_adorn(width: u32, table: &[u8], summaries: &mut [TypeSummary]) -> Counted
     ensures result_value { told_count result ≡ (adorn (format_numbered width) table.now (map told summaries.old)).reply }
     ensures summaries_after { map told summaries.new ≡ (adorn (format_numbered width) table.now (map told summaries.old)).summaries }
 {

@@ -9,7 +9,6 @@ use Rattle.paper.specs.Format.{row_bytes, whole}
 use Rattle.paper.specs.Widths.{format_of}
 use Rattle.octets.proofs.Laws.{format_served}
 use Rattle.reading.proofs.Reading.{reader_next-row, reader_next_end}
-use borrow.Author.Rules.{rules}
 use Rattle.reading.proofs.reader.place_after.Goals as goal
 use Rattle.reading.proofs.reader.place_after.Goals.{After-row_bytes-w}
 

@@ -9,7 +9,6 @@ use Rattle.paper.specs.Widths.{format_of}
 use Rattle.octets.specs.Part.{OwnFrom}
 use Rattle.octets.proofs.Laws.{record_in, format_served}
 use Rattle.reading.proofs.Reading.{row_handed, end_handed}
-use borrow.Author.Rules.{rules}
 use Rattle.reading.proofs.reader.row_at.Goals as goal
 use Rattle.reading.proofs.reader.row_at.Goals.{After-row_bytes-w}
 

@@ -6,7 +6,6 @@ use lib.ListN.{drop}
 use Rattle.paper.specs.Lists.{all}
 use Rattle.paper.specs.Format.{words}
 use Rattle.tables.proofs.Laws.{no_level, too_deep, spare_set, no_label, no_such_label, zeros_decide}
-use borrow.Author.Rules.{rules}
 use Rattle.tables.proofs.row.fields_kept.Goals as goal
 
 pub returns-then-level-lt1 : goal.returns-then-level-lt1

@@ -1,7 +1,6 @@
 -- `row::follows`: each branch is one way to follow, or to break it. Assumes nothing.
 use mathlib.Core.Path.{sym, ◌∙◌}
 use Rattle.tables.proofs.Follows.{Read, rows_longer, rows_apart, rows_child, rows_next}
-use borrow.Author.Rules.{rules}
 use Rattle.tables.proofs.row.follows.Goals as goal
 use Rattle.tables.proofs.row.follows.Goals.{After-wide-b}
 

@@ -1,6 +1,6 @@
 -- `row::zeros_from`: what is left to look at decides. Assumes nothing.
 use Prim.Native.Nat.{◌<◌}
-use mathlib.Core.Path.{◌≡◌, sym, ◌∙◌}
+use mathlib.Core.Path.{sym, ◌∙◌}
 use lib.ListN.{length}
 use Rattle.paper.specs.Format.{words}
 use Rattle.paper.proofs.Tables.{length-words}

@@ -6,7 +6,6 @@ use mathlib.Core.List.{[]}
 use Rattle.paper.specs.Tables.{row_of, fields_kept}
 use Rattle.tables.proofs.Laws.{fields_level}
 use Rattle.tables.proofs.Rows.{kept_fields, first-deep, first_decides}
-use borrow.Author.Rules.{rules}
 use Rattle.tables.proofs.table.first_kept.Goals as goal
 use Rattle.tables.proofs.table.first_kept.Goals.{Else-not-fields_kept}
 

@@ -4,7 +4,6 @@ use mathlib.Core.Path.{sym, ◌∙◌}
 use Rattle.paper.specs.Tables.{row_of, dewey}
 use Rattle.tables.proofs.Laws.{fields_level}
 use Rattle.tables.proofs.Rows.{kept_fields, kept_follows}
-use borrow.Author.Rules.{rules}
 use Rattle.tables.proofs.table.row_kept.Goals as goal
 
 pub returns-then-not-fields_kept : goal.returns-then-not-fields_kept
