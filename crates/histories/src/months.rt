@@ -15,7 +15,7 @@ fn is_mark(rt: &impl Env, i: usize) -> bool {
 }
 
 // The first mark from word `from` on, before word `last`.
-fn mark_from(rt: &impl Env, from: usize, last: usize) -> Option<usize>
+pub fn mark_from(rt: &impl Env, from: usize, last: usize) -> Option<usize>
     ensures { IfSome result (λ mark. (from ≤ mark) × (mark < last)) }
 {
     (from..last).find(|i| is_mark(rt, *i))

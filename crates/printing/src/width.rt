@@ -27,11 +27,13 @@ pub fn entry_at(shape: &[u8], f: Format, e: usize) -> Option<&[u8]>
     }
 }
 
-// The last label of an entry's type.
+// The last label of an entry's type; 0 for a part that is no whole entry.
 pub fn last_label(entry: &[u8], f: Format) -> usize
-    requires served { Served f }
-    requires len { length entry.now ≡ entry_bytes f }
+    requires { Served f }
 {
+    if entry.len() != octets::entry_bytes(f) {
+        return 0;
+    }
     let size = smaller(octets::wide(entry[1]), f.levels);
     octets::word(entry, 2 + 2 * size)
 }
