@@ -27,18 +27,21 @@ fn read_on<F: io::Read>(
     }
 }
 
-// Reads the file of this name that was opened, no further than the buffer, and answers how many bytes were read. One that can't be read to its end
-// has no such number, so that a part of it never passes for the whole.
-pub fn read_open<F: io::Read>(
-    file: &mut F,
+// Reads the file of this name that was opened, no further than the buffer, and answers how many bytes were read. One that could not be opened counts
+// as empty; one that can't be read to its end has no such number, so that a part of it never passes for the whole.
+pub fn read_open<F: io::Read + Drop>(
+    file: Option<F>,
     path: &[u8],
     buffer: &mut [u8],
 ) -> Result<usize, Stopped>
     ensures { IfOk result (λ n. IsPrefixLen n buffer.new) }
 {
+    let Some(mut file) = file else {
+        return Ok(0);
+    };
     let mut n = 0;
     while n < buffer.len() {
-        let end = read_on(file, path, buffer, n)?;
+        let end = read_on(&mut file, path, buffer, n)?;
         if end == n {
             break;
         }
@@ -81,9 +84,9 @@ pub fn read_file(
         );
         return Err(Stopped);
     };
-    let Ok(mut file) = fs::open(rt, name) else {
+    let Ok(file) = fs::open(rt, name) else {
         return Ok(None);
     };
-    let n = read_open(&mut file, path, &mut buffer[..most])?;
+    let n = read_open(Some(file), path, &mut buffer[..most])?;
     Ok(Some(n))
 }

@@ -32,12 +32,20 @@ use Rattle.adorned.proofs.Unique.{told_same}
 use Rattle.reshaping.specs.Reshaped.{Reshapes}
 use Rattle.reshaping.proofs.Unique as reshaping
 use Rattle.settling.proofs.Settles.{Settled, Promises, Walk-settled, both, three, nothing, two_clauses}
+use Rattle.std.specs.Prelude.{Result}
+use Rattle.paper.specs.declared.Width.{Width}
+use Rattle.paper.specs.declared.refusal.Refusal.{Refusal}
+use Rattle.judging.specs.declared.judge.Judged.{Judged}
+use Rattle.silmezga.proofs.judge.Reads as judge'
+use Rattle.silmezga.proofs.judge_with_index.Reads as judge-with-index'
 use Rattle.silmezga.proofs.Trees.{width_named}
 use Rattle.silmezga_c.specs.Told.{width_of, format_numbered, InFour, edges_told, in_four, four_numbers}
-use Rattle.silmezga_c.specs.Numbers.{told_count, told_converted, told_summary}
+use Rattle.silmezga_c.specs.Numbers.{told_count, told_converted, told_summary, judged_numbers}
 use Rattle.silmezga_c.specs.declared.answers.Counted.{Counted}
 use Rattle.silmezga_c.specs.declared.answers.ConvertedNumbers.{ConvertedNumbers}
+use Rattle.silmezga_c.specs.declared.answers.JudgedNumbers.{JudgedNumbers}
 use Rattle.silmezga_c.proofs.Told.{look_up_unique, count_told, converted_told, summary_told, judged-same}
+use Rattle.silmezga_c.proofs.Named.{judge_told, judge_with_told}
 use Rattle.silmezga_c.proofs.silmezga_examine.Reads as examine
 use Rattle.silmezga_c.proofs.silmezga_look_up.Reads as look_up
 use Rattle.silmezga_c.specs.contracts.silmezga_adorn as adorn-call
@@ -78,6 +86,19 @@ adorn_settled = (
 )
 
 -- ---- judging
+abbrev wide : {X : Type 0} → ℕ × X → Width × X
+wide a = (width_of a.0, a.1)
+
+module _ {K A D : Type 0} (Learnt : K → ℕ × A → JudgedNumbers → ℕ × D → Type 0) (Learnt' : K → Width × A → Result Judged Refusal → Width × D → Type 0) where
+  -- whatever is learnt of the call for C, it tells an answer of Rattle's
+  abbrev Tells : Type 0
+  Tells =
+      (κs : K) (a : ℕ × A) (r : JudgedNumbers) (e : ℕ × D) → Learnt κs a r e
+      → (j : Result Judged Refusal) × (Learnt' κs (wide a) j (wide e) × (in_four r ≡ judged_numbers j))
+
+judge_tells : Tells judge-call.Learnt judge'.Learnt
+judge_tells κs a r e = judge_told (format_numbered a.0) a.1.0.now a.1.1.0.now r
+
 pub judge_settled : Settled judge-call.Asked judge-call.Learnt (λ κs r e. r)
 judge_settled = ((λ κs a. tt), λ κs a r s e f x y. judged-same r s (x ∙ sym y))
 
@@ -172,6 +193,9 @@ print_tree_settled = (
 -- ---- with an index
 pub build_index_settled : Settled {X = Counted × (List ℕ × List ℕ)} build-index.Asked build-index.Learnt (λ κs r e. (r, (e.1.1.0.now, e.1.1.1.0.now)))
 build_index_settled = ((λ κs a. tt), λ κs a r s e f x y. (let u = builds_unique x y in three (count_told r s u.0, u.1, u.2)))
+
+judge_with_index_tells : Tells judge-with-index.Learnt judge-with-index'.Learnt
+judge_with_index_tells κs a r e = judge_with_told (format_numbered a.0) a.1.0.now a.1.1.0.now a.1.1.1.0.now a.1.1.1.1.0.now r
 
 pub judge_with_index_settled : Settled judge-with-index.Asked judge-with-index.Learnt (λ κs r e. r)
 judge_with_index_settled = ((λ κs a. tt), λ κs a r s e f x y. judged-same r s (x ∙ sym y))
