@@ -108,11 +108,14 @@ as_answered x = record {
 -- an answer of Rattle's call that says what the paper's does
 spoken : (x : Answer Judgement) → Named x → (j : Result Judged Refusal) × (judged j ≡ in_numbers (reply no_judgement x))
 unfolding as_answered
-spoken x (Ok y, e) = (Ok (as_answered y), (λ i. record {
-  number = 0;
-  place = 0;
-  rest = record { verdict = (answered y.verdict).1 i; none_apart = y.none_apart; edges = y.edges };
-}) ∙ ap (λ z. in_numbers (reply no_judgement z)) (sym e))
+spoken x (Ok y, e) = (
+  Ok (as_answered y),
+  (λ i. record {
+    number = 0;
+    place = 0;
+    rest = record { verdict = (answered y.verdict).1 i; none_apart = y.none_apart; edges = y.edges };
+  }) ∙ ap (λ z. in_numbers (reply no_judgement z)) (sym e),
+)
 spoken x (Err d, e) = (Err d, ap (λ z. in_numbers (reply no_judgement z)) (sym e))
 
 module _ (f : Format) (read : Answer (List Row)) (sb : List ℕ) (n : Named read) where
@@ -122,7 +125,7 @@ module _ (f : Format) (read : Answer (List Row)) (sb : List ℕ) (n : Named read
   unfolding judge_rows
   tells r told =
       let (j, is) = spoken (do w ← tests5_7 f read sb; given (judgement w.nodes w.shape))
-          (named_bind (tests5_7 f read sb) _ (named5_7 f read sb n) (λ w. named_given (judgement w.nodes w.shape))) in
+      (named_bind (tests5_7 f read sb) _ (named5_7 f read sb n) (λ w. named_given (judgement w.nodes w.shape))) in
       (j, (is, told ∙ sym (in_four_lem j (judge_rows f read sb) is)))
 
 pub judge_told : (f : Format) (b sb : List ℕ) (r : JudgedNumbers) → in_four r ≡ four_numbers (judge f b sb)
