@@ -357,6 +357,40 @@ class Gate(InFolder):
                          ".ci/run: this project is proved with the toolchain 'a kit', and here is 'another kit'\n"))
 
 
+class CountForms(InFolder):
+    """tools/count_forms, on a folder with a place of each of some kinds."""
+
+    def test_counts(self):
+        self.put("crates/one/src/lib.rt", """pub struct Read {
+    pub number: usize,
+    pub good: bool,
+}
+// fn not_one(levels: &[u8], types: &[u8])
+fn walk(levels: &[u8], types: &[u8], rows: usize) {
+    while rows < octets::wide(levels[0]) {
+        Read {
+            number: number,
+            good,
+        }
+    }
+}
+""")
+        self.put("crates/one/proofs/lib/walk/Proof.antt", "-- a comment\n\nlaw : rows\nlaw = rows\n")
+        self.put("crates/one/out/proofs/Made.antt", "law : rows\n")
+        status, out, _ = run("count_forms", self.folder)
+        found = dict(line.rsplit(": ", 1) for line in out.decode().splitlines())
+        ones = {"1 numbers of a refusal beside an answer", "1 flags beside a value", "3 loops by while or loop", "4 fields set to their own name",
+                "4 uses of conversions and orders of our own", "5 functions with levels and types", "6 functions with a slice and a length beside it", "8 walks by hand"}
+        self.assertEqual(status, 0)
+        self.assertEqual({kind for kind, number in found.items() if number == "1"}, ones)
+        self.assertEqual({kind: number for kind, number in found.items() if number not in "01"}, {"8 lines of proofs": "2"})
+
+    def test_this_checkout(self):
+        status, out, _ = run("count_forms")
+        self.assertEqual(status, 0)
+        self.assertIn(b"8 walks by hand: 0\n", out)
+
+
 class CheckCopies(InFolder):
     """check_copies on an archive that is made up here: of each function what it calls."""
 
@@ -384,12 +418,12 @@ class CheckCopies(InFolder):
     def test_calls(self):
         status, out, _ = run("check_copies", self.archive({"silmezga_adorn": ["memcpy", "memset", "memcpy"], "one::two": ["silmezga_adorn"]}))
         self.assertEqual((status, out), (0, b"silmezga_adorn: memcpy 2, memset 1\n2 functions that call others, 0 of them copy more than they may\n"))
-        status, out, _ = run("check_copies", self.archive({"silmezga_adorn": ["memcpy"] * 3, "one::two": ["memmove", "memset"]}))
+        status, out, _ = run("check_copies", self.archive({"silmezga_adorn": ["memcpy"] * 8, "one::two": ["memmove", "memset"]}))
         self.assertEqual(status, 1)
-        self.assertIn(b"one::two: memmove 1, memset 1\nsilmezga_adorn: memcpy 3\none::two copies more", out)
+        self.assertIn(b"one::two: memmove 1, memset 1\nsilmezga_adorn: memcpy 8\none::two copies more", out)
         self.assertIn(b"silmezga_adorn copies more than it may\n2 functions that call others, 2 of them", out)
-        self.assertEqual(run("check_copies", self.archive({"silmezga_summarise": ["memcpy"] * 2}))[0], 0)
-        self.assertEqual(run("check_copies", self.archive({"silmezga_summarise": ["memcpy"] * 3}))[0], 1)
+        self.assertEqual(run("check_copies", self.archive({"silmezga_summarise": ["memcpy"] * 6}))[0], 0)
+        self.assertEqual(run("check_copies", self.archive({"silmezga_summarise": ["memcpy"] * 7}))[0], 1)
 
     def test_nothing_seen(self):
         self.assertEqual(run("check_copies", self.archive({}))[0], 1)
