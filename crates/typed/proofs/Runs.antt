@@ -17,6 +17,10 @@ use Rattle.grammar.proofs.Tokens.{run-plain}
 pub plain_byte : (b : ℕ) → (b ≡ space → ⊥) → (b ≡ open_byte → ⊥) → (b ≡ close_byte → ⊥) → plain b ≡ true
 plain_byte b no-space no_open no-close = λ i. not (ne_eqb b space no-space i) && not (ne_eqb b open_byte no_open i || ne_eqb b close_byte no-close i)
 
+-- A byte above the brackets is plain.
+pub plain_above : (b : ℕ) → close_byte < b → plain b ≡ true
+plain_above b above = plain_byte b (λ e. omega (arith, above, e)) (λ e. omega (arith, above, e)) (λ e. omega (arith, above, e))
+
 pub run_on : (text : List ℕ) (p : ℕ) → p < length text → plain (get_or text p 0) ≡ true → length (run (drop p text)) ≡ suc (length (run (drop (p + 1) text)))
 run_on text p lt e =
     ap (λ bs. length (run bs)) (drop-cons text p 0 lt) ∙ ap length (run-plain (get_or text p 0) (drop (suc p) text) e)
