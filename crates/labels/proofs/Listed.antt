@@ -79,6 +79,14 @@ place_any {A} p (x ∷ xs) = at (p x) (any p xs) (place p xs) (place_any p xs)
     at true c k e = sym (lt-ltb 0 (suc (length xs)) (omega arith))
     at false c k e = e ∙ sym (suc-ltb k (length xs))
 
+pub place_most : {A : Type 0} (p : A → Bool) (xs : List A) → place p xs ≤ length xs
+place_most p [] = omega arith
+place_most p (x ∷ xs) = at (p x) (place_most p xs)
+  where
+    at : (b : Bool) → place p xs ≤ length xs → elim b as (λ _. ℕ) [ true ↦ 0 | false ↦ suc (place p xs) ] ≤ suc (length xs)
+    at true le = omega arith
+    at false le = omega (arith, le)
+
 module _ (x : ℕ) where
   -- What a label becomes is told by the first pair that has it as its old one.
   pub converted_found : (ps : List Pair) → place (has 0 x) ps < length ps → converted ps x ≡ (get_or ps (place (has 0 x) ps) no_pair).new
