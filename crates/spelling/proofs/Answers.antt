@@ -14,8 +14,13 @@ use Rattle.paper.specs.Calls.{Answer, refused, given, ◌>>=◌, refuse, Reply, 
 use Rattle.octets.proofs.Writing.{front_written}
 use Rattle.grammar.specs.Typed.{whole_path, line_of, printing, print_tree}
 use Rattle.names.specs.Put.{Put}
+use Rattle.names.proofs.Putting.{as_long}
 use Rattle.spelling.specs.Line.{shape_line}
 use Rattle.spelling.specs.Printed.{Prints}
+
+-- What fits the buffer before fits it afterwards.
+pub still_fits : {l l' text : List ℕ} {n : ℕ} → Put l 0 text l' n → n ≤ length l → n ≤ length l'
+still_fits put fits = omega (arith, as_long put, fits)
 
 -- What is put at the front of a buffer in which it has room stands there.
 pub front_is : {l l' text : List ℕ} {n : ℕ} → Put l 0 text l' n → n ≤ length l → (n ≡ length text) × (take n l' ≡ text)
