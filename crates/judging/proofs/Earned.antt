@@ -7,7 +7,7 @@ use mathlib.Core.Bool.{Bool, true, false, ◌&&◌, ◌||◌, not, true≢false}
 use mathlib.Core.List.{List, [], ◌∷◌, ◌++◌, map}
 use lib.Dec.{eqb, leb}
 use lib.ListN.{get_or, drop}
-use borrow.Author.Tests.{eqb-true, eq-eqb, leb-true, leb-false, le-leb}
+use borrow.Author.Tests.{eqb-true, eq-eqb, ne_eqb, leb-true, leb-false, le-leb}
 use Rattle.paper.specs.Lists.{Has, all, any, is_empty, first_or, join_map, count}
 use Rattle.paper.specs.Closeness.{Node, shared}
 use Rattle.paper.specs.Shapes as Paper
@@ -15,14 +15,51 @@ use Rattle.paper.specs.Shapes.{way, side, path}
 use Rattle.paper.specs.Verdict
 use Rattle.paper.specs.Verdict.{kept, missing, apart, unsure, is_apart, verdict_numbers, is_least, over_pairs}
 use Rattle.paper.specs.Verdict.{meeting, edge_level, sure_down, meets_least, sure, pair_fault}
-use Rattle.paper.proofs.Lists.{both, and, has_left, has_right, has_all, any_has, has_any, map_append}
+use Rattle.paper.proofs.Lists.{both, and, or_left, has_left, has_right, has_all, any_has, has_any, map_append}
 use Rattle.paper.proofs.Papers.{same_test}
 use Rattle.paper.proofs.Agree.{shared-sym}
-use Rattle.judging.specs.Pairs.{lowest, levels_on, least_on, sure_on, earned_by, fault, apart_by}
+use Rattle.judging.specs.Pairs.{way_of, lowest, levels_on, least_on, sure_on, Found, earned_by, earned, fault, apart_by}
+use Rattle.judging.specs.declared.pairs.Path.{Path}
 
 -- a pair's verdict by whether its types meet at the least level and whether some edge of that level is sure
 abbrev verdict_by : ℕ → ℕ → Bool → Bool → Verdict.Verdict
 verdict_by e f t u = elim t [ true ↦ elim u [ true ↦ kept | false ↦ unsure e f ] | false ↦ apart e f ]
+
+-- ---- from what is found
+module _ {levels edges ways : List ℕ} {e f : ℕ} {path : Path} (w : Found levels edges ways e f path) (full : List Bool) (m : ℕ) where
+  abbrev k : ℕ
+  k = path.shared
+
+  abbrev l : ℕ
+  l = path.least
+
+  -- is a way sure from place k on?
+  abbrev sure_to : ℕ → Bool
+  sure_to e = sure_on edges full m (drop k (way_of levels ways e))
+
+  earned_by_lem : (t u : Bool) → eqb l m ≡ t → sure_to e || sure_to f ≡ u → verdict_by e f t u ≡ earned levels edges full ways m e f
+  earned_by_lem t u qt qu = rw (← qt, ← qu, w.least-is, w.shared-is) refl
+
+  -- the least level is another than that at which the types meet
+  pub earned_apart : (path.least ≡ m → ⊥) → apart e f ≡ earned levels edges full ways m e f
+  earned_apart ne = earned_by_lem false (sure_to e || sure_to f) (ne_eqb l m ne) refl
+
+  module _ (meets : path.least ≡ m) (x : Bool) (qx : x ≡ sure_on edges full m (drop path.shared (way_of levels ways e))) where
+    -- one way is sure
+    pub earned_down : x ≡ true → kept ≡ earned levels edges full ways m e f
+    earned_down h = earned_by_lem true true (eq-eqb l m meets) (or_left (sure_to f) (sym qx ∙ h))
+
+    module _ (lost : x ≡ false) (y : Bool) (qy : y ≡ sure_on edges full m (drop path.shared (way_of levels ways f))) where
+      earned-up : (u : Bool) → y ≡ u → verdict_by e f true u ≡ earned levels edges full ways m e f
+      earned-up u h = earned_by_lem true u (eq-eqb l m meets) (ap₂ (λ x y. x || y) (sym qx ∙ lost) (sym qy ∙ h))
+
+      -- only the other way is sure
+      pub earned_kept : y ≡ true → kept ≡ earned levels edges full ways m e f
+      earned_kept = earned-up true
+
+      -- no way is sure
+      pub earned_unsure : y ≡ false → unsure e f ≡ earned levels edges full ways m e f
+      earned_unsure = earned-up false
 
 -- ---- the least level
 lowest_le : (b : ℕ) (xs : List ℕ) → lowest b xs ≤ b
