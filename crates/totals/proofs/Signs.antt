@@ -1,18 +1,41 @@
--- Signed numbers as 64 bits hold them: the two tests of a range. Assumes nothing.
-use Prim.Native.Nat.{ℕ, zero, suc, ◌^◌, ◌<◌}
+-- Signed numbers as 64 bits hold them: a negative one by its size, and the two tests of a range. Assumes nothing.
+use Prim.Native.Nat.{ℕ, zero, suc, ◌-◌, ◌^◌, ◌<◌, ◌≤◌}
 use native.Mathlib.Omega.{arith}
 use mathlib.Core.Path.{◌≡◌, refl, sym, ◌∙◌, ap, subst}
 use mathlib.Core.Bool.{true, false, ◌&&◌}
 use mathlib.Core.List.{List}
-use lib.IntN.{ℤ, pos, neg_ℤ, ◌-ℤ◌, +ℤ_idl}
+use lib.IntN.{ℤ, pos, negsuc, neg_ℤ, ◌-ℤ◌, +ℤ_idl}
 use lib.Signed.{le_z}
 use mir.Syntax.{w64}
 use mir.Val.{SFits, to_z, of_z}
 use mir.Facts.{to_z_pos, to_z-of_z}
+use borrow.Author.Tests.{lt-ltb, le-ltb}
 use Rattle.paper.specs.Format.{number, signed}
 use Rattle.totals.specs.Sums.{within}
 use Rattle.totals.specs.Rows.{signed_bits}
 
+-- ---- from 64 bits
+minus_one : (k : ℕ) → negsuc 0 -ℤ pos k ≡ negsuc k
+minus_one zero = refl
+minus_one (suc k) = ap (λ n. negsuc (suc n)) (omega arith)
+
+-- what the bits lack of 2^64, taken from −1, in the range of 64 bits
+pub lacks : (k : ℕ) → k < 2 ^ 63 → negsuc 0 -ℤ to_z w64 k ≡ negsuc k
+lacks k h = ap (λ z. negsuc 0 -ℤ z) (to_z_pos w64 h) ∙ minus_one k
+
+pub lacks_fits : (k : ℕ) → k < 2 ^ 63 → SFits w64 (negsuc 0 -ℤ to_z w64 k)
+lacks_fits k h = subst (SFits w64) (sym (lacks k h)) (record { sfits = h })
+
+pub low_bits : (x : ℕ) → x < 2 ^ 63 → to_z w64 x ≡ signed_bits x
+low_bits x h = to_z_pos w64 h ∙ ap (λ b. elim b as (λ _. ℤ) [ true ↦ pos x | false ↦ negsuc (2 ^ 64 - 1 - x) ]) (sym (lt-ltb x (2 ^ 63) h))
+
+pub high_bits : (x : ℕ) → 2 ^ 63 ≤ x → x < 2 ^ 64 → to_z w64 (of_z w64 (negsuc 0 -ℤ to_z w64 (18446744073709551615 - x))) ≡ signed_bits x
+high_bits x h f =
+    let k : 18446744073709551615 - x < 2 ^ 63 = omega (arith, h, f) in
+    to_z-of_z {w = w64} (lacks_fits (18446744073709551615 - x) k) ∙ lacks (18446744073709551615 - x) k
+    ∙ ap (λ b. elim b as (λ _. ℤ) [ true ↦ pos x | false ↦ negsuc (2 ^ 64 - 1 - x) ]) (sym (le-ltb x (2 ^ 63) h))
+
+-- ---- the tests of a range
 -- −n, as it is computed
 down : (n : ℕ) → n < 2 ^ 63 → pos 0 -ℤ to_z w64 n ≡ neg_ℤ (pos n)
 down n h = ap (λ z. pos 0 -ℤ z) (to_z_pos w64 h) ∙ +ℤ_idl (neg_ℤ (pos n))
