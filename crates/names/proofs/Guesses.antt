@@ -72,11 +72,11 @@ module _ (part : List ℕ) where
     guess_right : (j : ℕ) → j < named → name_of j ≡ part → k ≡ j
     guess_right j lt q = guessed j lt (ap (first_or 0) q) (ap length q)
 
-    other_part : same (name_of k) part ≡ false → NamedBy part 0
+    pub other_part : same (name_of k) part ≡ false → NamedBy part 0
     other_part e =
         none_named (λ j lt q. true≢false (sym (eq_same (ap name_of (guess_right j lt q) ∙ q)) ∙ e))
 
-    named_part : k < named → same (name_of k) part ≡ true → NamedBy part (k + 1)
+    pub named_part : k < named → same (name_of k) part ≡ true → NamedBy part (k + 1)
     named_part lt e = record {
       few = omega arith;
       name_is = λ _. ap name_of (omega arith) ∙ same_eq (name_of k) part e;
