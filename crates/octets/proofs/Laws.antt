@@ -1,16 +1,29 @@
 -- Laws of words and records, over any width. Assumes nothing.
-use Prim.Native.Nat.{ℕ, ◌+◌, ◌*◌, ◌≤◌, ◌<◌}
+use Prim.Native.Nat.{ℕ, suc, ◌+◌, ◌*◌, ◌≤◌, ◌<◌}
 use native.Mathlib.Nat.{mul-le-mul_left, mul-add, mul-one}
+use native.Mathlib.Numerals.{add-one}
 use native.Mathlib.Omega.{arith}
-use mathlib.Core.Path.{◌≡◌, sym, subst}
+use mathlib.Core.Path.{◌≡◌, sym, ap, subst}
 use mathlib.Core.List.{List}
 use lib.Dec.{lit≤}
-use lib.ListN.{length, take, drop, length-take, length-drop}
-use Rattle.paper.specs.Format.{Format, base, eight}
+use lib.ListN.{length, get_or, take, drop, length-take, length-drop}
+use Rattle.paper.specs.Format.{Format, base, eight, word, number, span}
 use Rattle.paper.specs.Widths.{format_of}
 use Rattle.paper.specs.declared.Width.{Width}
 use Rattle.paper.specs.declared.Width.TheVariants.{Six, Eight}
 use Rattle.octets.specs.Served.{Served}
+
+-- two bytes, the low one first
+pub word_bytes : (b : List ℕ) (i lo hi : ℕ) → lo ≡ get_or b i 0 → hi ≡ get_or b (i + 1) 0 → lo + 256 * hi ≡ word b i
+word_bytes b i lo hi el eh =
+    let e : get_or b (i + 1) 0 ≡ get_or b (suc i) 0 = ap (λ n. get_or b n 0) (add-one i) in
+    omega (arith, e)
+
+-- eight bytes as four words, the low one first
+pub four_words : (b : List ℕ) (i : ℕ) → number (span 8 b i) ≡ (word b i + 65536 * word b (i + 2)) + 4294967296 * (word b (i + 4) + 65536 * word b (i + 6))
+four_words b i =
+    let e : (n m : ℕ) → m ≡ i + n → word b m ≡ word b (i + n) = λ n m h. ap (word b) h in
+    omega (arith, e 2 (suc (suc i)) (omega arith), e 4 (suc (suc (suc (suc i)))) (omega arith), e 6 (suc (suc (suc (suc (suc (suc i)))))) (omega arith))
 
 pub record_length : (t : List ℕ) (w i : ℕ) → w * i + w ≤ length t → length (take w (drop (w * i) t)) ≡ w
 record_length t w i h = simp (length-take, length-drop) (omega arith)
