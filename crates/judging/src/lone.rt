@@ -46,8 +46,9 @@ pub fn first_lone(
     requires { Rows rows levels.now types.now × Sized shape × AllMet levels.now types.now rows shape met from }
     ensures { told result ≡ first_or kept (lone_from levels.now types.now rows shape 1 (shape.entries - 1)) }
 {
+    let mut lone = Verdict::Kept;
     let mut first = from;
-    for c in met..shape.entries {
+    'entries: for c in met..shape.entries {
         let own = shape.types[c];
         let other = shape.types[octets::wide(shape.parents[c])];
         let bound = run_bound(shape.edges[c]);
@@ -61,10 +62,11 @@ pub fn first_lone(
                     }
                     j = next_in_run(levels, rows, bound, j);
                 }
-                return Verdict::Missing { entry: c, row: r };
+                lone = Verdict::Missing { entry: c, row: r };
+                break 'entries;
             }
         }
         first = 0;
     }
-    Verdict::Kept
+    lone
 }

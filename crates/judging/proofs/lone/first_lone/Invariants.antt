@@ -2,6 +2,7 @@
 use Rattle.std.proofs.Common.{◌≡◌, ◌-◌, ◌≤◌, ◌<◌}
 use Rattle.shapes.specs.Shape.{type_of, parent_of, edge_of}
 use Rattle.partners.specs.Edges.{MetBefore}
+use Rattle.judging.specs.declared.verdict.Verdict.TheVariants.{Kept}
 use Rattle.judging.proofs.Search.{Candidates, entries_from, Done}
 use Rattle.judging.proofs.lone.first_lone.Given as goal
 
@@ -12,10 +13,11 @@ abbrev pub decreases-loop-j : goal.decreases-loop-j
 decreases-loop-j l = l.rows - l.j
 
 abbrev pub invariant-rows : goal.invariant-rows
-invariant-rows l = Done l.levels l.types l.rows l.shape l.c l.j l.r (entries_from l.levels l.types l.rows l.shape 1)
+invariant-rows l = Done l.levels l.types l.rows l.shape l.c l.j l.r (entries_from l.levels l.types l.rows l.shape 1) × (l.lone ≡ Kept)
 
-abbrev pub invariant-loop-c : goal.invariant-loop-c
-invariant-loop-c l =
+abbrev pub invariant-entries : goal.invariant-entries
+invariant-entries l =
     (1 ≤ l.c) × (l.c ≤ l.shape.entries)
     × (entries_from l.levels l.types l.rows l.shape l.c ≡ entries_from l.levels l.types l.rows l.shape 1)
     × (l.c < l.shape.entries → MetBefore l.levels l.types l.rows l.shape l.c l.first)
+    × (l.lone ≡ Kept)
