@@ -79,7 +79,9 @@ pub fn put(out: &mut [u8], at: usize, text: &[u8])
     requires { at + length text.now ≤ length out.old }
     ensures { out.new ≡ sets out.old at text.now }
 {
-    out[at..at + text.len()].copy_from_slice(text);
+    for k in 0..text.len() {
+        out[at + k] = text[k];
+    }
 }
 
 // A 16-bit number, least byte first.

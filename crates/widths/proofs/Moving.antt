@@ -1,13 +1,13 @@
 -- Records of one format as records of another: one of them, and one after the other. Assumes nothing.
-use Prim.Native.Nat.{ℕ, ◌+◌, ◌*◌, ◌-◌, ◌≤◌, min}
+use Prim.Native.Nat.{ℕ, zero, suc, ◌+◌, ◌*◌, ◌-◌, ◌≤◌, ◌<◌, min}
 use native.Mathlib.Nat.{mul-div-le}
 use native.Mathlib.Omega.{arith}
 use mathlib.Core.Path.{◌≡◌, refl, sym, ◌∙◌, ap, subst, subst₂}
 use mathlib.Core.Bool.{Bool, true, false}
-use mathlib.Core.List.{List, ◌++◌}
+use mathlib.Core.List.{List, [], ◌∷◌, ◌++◌}
 use lib.Dec.{ltb}
-use lib.ListN.{length, take, drop, replicate, length-append, length-drop}
-use lib.Seq.{sets, take_all}
+use lib.ListN.{length, get_or, take, drop, replicate, length-append, length-drop}
+use lib.Seq.{sets, get_or-take, take_all}
 use borrow.Author.Tests.{ltb-true, ltb-false}
 use borrow.Rule.Slice.PartMut.{put_mid}
 use Rattle.std.proofs.Math.Seq.{take-append-add, take-take}
@@ -21,6 +21,17 @@ use Rattle.paper.proofs.Reread.{length-padded}
 use Rattle.octets.proofs.Writing.{all_left, part_written}
 use Rattle.tables.proofs.Walks.{joined_length}
 use Rattle.widths.specs.Moves.{fitted, moved_bytes}
+
+-- zeros behind a list are what is read past its end
+filled_at : (l : List ℕ) (m k : ℕ) → get_or (l ++ replicate m 0) k 0 ≡ get_or l k 0
+filled_at [] zero k = refl
+filled_at [] (suc m) zero = refl
+filled_at [] (suc m) (suc k) = filled_at [] m k
+filled_at (x ∷ l) m zero = refl
+filled_at (x ∷ l) m (suc k) = filled_at l m k
+
+pub padded-at : (n : ℕ) (l : List ℕ) (k : ℕ) → k < n → get_or (padded n l) k 0 ≡ get_or l k 0
+padded-at n l k lt = get_or-take n (l ++ replicate n 0) k 0 lt ∙ filled_at l n k
 
 -- A list that is cut or filled is what is kept of it, and zeros.
 module _ (r : List ℕ) (from to : ℕ) (long : from ≤ length r) where

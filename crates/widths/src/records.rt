@@ -14,9 +14,9 @@ fn put_list(r: &[u8], from: usize, to: usize, new: &mut [u8], at: usize)
     requires { (from ≤ length r.now) × (at + to ≤ length new.old) }
     ensures { new.new ≡ sets new.old at (padded to (take from r.now)) }
 {
-    let kept = from.min(to);
-    new[at..at + kept].copy_from_slice(&r[..kept]);
-    new[at + kept..at + to].fill(0);
+    for k in 0..to {
+        new[at + k] = if k < from { r[k] } else { 0 };
+    }
 }
 
 // The same, and the rest of the record behind it.
