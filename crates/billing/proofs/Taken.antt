@@ -17,7 +17,7 @@ use Rattle.totals.specs.Told.{taken}
 use Rattle.std.specs.Prelude.{Ok, Err}
 use Rattle.paper.specs.Refusals.{refusal_number, refusal_place}
 use Rattle.paper.proofs.Refusals.{numbered}
-use Rattle.paper.specs.declared.refusal.Refusal.{Refusal}
+use Rattle.totals.specs.declared.NotTaken.{NotTaken}
 use Rattle.totals.proofs.Integers.{within_le, sfits}
 use Rattle.totals.proofs.Taking.{taken_adds, can_be, grown}
 use Rattle.totals.proofs.Tapes.{tape-within}
@@ -50,14 +50,14 @@ abbrev line_by : List ℕ → Reply Total → Sums → Bool → List ℕ
 line_by name y s accepted = elim accepted [ true ↦ counted_text name s.shown s.unshown | false ↦ not_counted_text name y.number y.place ]
 
 module _ (x : Total) (t : Tape) where
-  pub refused_line : (e : Refusal) → taken x (Err e) ≡ take_in x t → (name : List ℕ)
-      → not_counted_text name (refusal_number e) (refusal_place e) ≡ tape_text name x t
+  pub refused_line : (n : NotTaken) → taken (Err n) ≡ take_in x t → (name : List ℕ)
+      → not_counted_text name (refusal_number n.refusal) (refusal_place n.refusal) ≡ tape_text name x t
   unfolding tape_text
-  refused_line e told name =
-      ap (line_by name (taken x (Err e)) (sum_tape t).rest) (sym (ne_eqb (refusal_number e) 0 (numbered e)))
+  refused_line n told name =
+      ap (line_by name (taken (Err n)) (sum_tape t).rest) (sym (ne_eqb (refusal_number n.refusal) 0 (numbered n.refusal)))
       ∙ ap (λ y. line_by name y (sum_tape t).rest (eqb y.number 0)) told
 
-  module _ (after : Total) (told : taken x (Ok after) ≡ take_in x t) where
+  module _ (after : Total) (told : taken (Ok after) ≡ take_in x t) where
     accepted : (take_in x t).number ≡ 0
     accepted = sym (ap (λ y. y.number) told)
 
@@ -84,12 +84,12 @@ module _ (x : Total) (t : Tape) where
         ap₂ (counted_text name) shown_grows.1 unshown_grows.1
         ∙ ap (line_by name (take_in x t) (sum_tape t).rest) (sym (eq-eqb (take_in x t).number 0 accepted))
 
-  -- A tape is refused by its number, and a refused one leaves the total that was handed in.
-  pub after_told : (after : Total) → taken x (Ok after) ≡ take_in x t
+  -- A tape is refused by its number, and the answer has the total afterwards.
+  pub after_told : (after : Total) → taken (Ok after) ≡ take_in x t
       → (false ≡ not (eqb (take_in x t).number 0)) × (after ≡ (take_in x t).rest)
   after_told after told = (ap (λ y. not (eqb y.number 0)) told, ap (λ y. y.rest) told)
 
-  pub refused_told : (e : Refusal) → taken x (Err e) ≡ take_in x t
-      → (true ≡ not (eqb (take_in x t).number 0)) × (x ≡ (take_in x t).rest)
-  refused_told e told =
-      (ap not (sym (ne_eqb (refusal_number e) 0 (numbered e))) ∙ ap (λ y. not (eqb y.number 0)) told, ap (λ y. y.rest) told)
+  pub refused_told : (n : NotTaken) → taken (Err n) ≡ take_in x t
+      → (true ≡ not (eqb (take_in x t).number 0)) × (n.total ≡ (take_in x t).rest)
+  refused_told n told =
+      (ap not (sym (ne_eqb (refusal_number n.refusal) 0 (numbered n.refusal))) ∙ ap (λ y. not (eqb y.number 0)) told, ap (λ y. y.rest) told)

@@ -60,9 +60,9 @@ fn take_tape(
             refused: false,
             total: after,
         }),
-        Err(_) => Ok(Step {
+        Err(left) => Ok(Step {
             refused: true,
-            total,
+            total: left.total,
         }),
     }
 }

@@ -9,13 +9,12 @@ ghost use Rattle.billing.specs.Billing.{most_name, tape_text};
 
 use crate::text::{put_counted, put_not_counted};
 use paper::Width;
-use paper::refusal::Refusal;
-use totals::Total;
+use totals::{NotTaken, Total};
 
 // What taking a tape in answers, the total afterwards or its refusal, and the bytes of the tape's line.
 #[derive(Clone, Copy, Drop)]
 pub struct Billed {
-    pub taken: Result<Total, Refusal>,
+    pub taken: Result<Total, NotTaken>,
     pub bytes: usize,
 }
 
@@ -32,7 +31,7 @@ pub fn put_taken(
     requires { length name.now ≤ most_name }
     ensures fact { let t = tape (format_of width) table.now shape.now entry in
         Put out.old 0 (tape_text name.now total t) out.new result.bytes
-        × (taken total result.taken ≡ take_in total t) }
+        × (taken result.taken ≡ take_in total t) }
     ensures prefix_len { IsPrefixLen result.bytes out.new }
 {
     let taken = totals::take_in(total, width, table, shape, entry);
@@ -42,7 +41,7 @@ pub fn put_taken(
             let unshown = after.unshown - total.unshown;
             put_counted(out, name, shown, unshown)
         }
-        Err(refusal) => put_not_counted(out, name, refusal.number(), refusal.place()),
+        Err(left) => put_not_counted(out, name, left.refusal.number(), left.refusal.place()),
     };
     Billed { taken, bytes }
 }

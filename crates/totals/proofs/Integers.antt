@@ -11,7 +11,6 @@ use mir.Syntax.{w64}
 use mir.Val.{SFits}
 use Rattle.totals.specs.Sums.{within}
 -- A wrong definition is refused first by the sample that it breaks, so the samples stand before every law.
-use Rattle.totals.specs.Samples
 
 -- A number lies from −n to n exactly if its size is at most n.
 pub within-size : (n : ℕ) (v : ℤ) → within n v ≡ leb (nat_abs v) n

@@ -63,7 +63,7 @@ module _ (x : Total) (t : Tape) where
   ends (given s) n full = (λ ne. absurd (ne refl), λ e f i. ending x (given s) (sym f i), λ e f i. ending x (given s) (sym f i))
 
   -- refused as the tape is
-  pub as_summed : (d : Refusal) → summed (Err d) ≡ sum_tape t → taken x (Err d) ≡ take_in x t
+  pub as_summed : (d : Refusal) → summed (Err d) ≡ sum_tape t → taken (Err (record { refusal = d; total = x })) ≡ take_in x t
   unfolding take_in total_with sum_tape
   as_summed d told =
       (λ i. record { number = (told i).number; place = (told i).place; rest = x })
@@ -74,7 +74,7 @@ module _ (x : Total) (t : Tape) where
     accepted = sym (ap (λ (y : Reply Sums). y.number) told)
 
     -- 18
-    pub total-refused : cannot_be x ≡ true → taken x (Err NoTotal) ≡ take_in x t
+    pub total-refused : cannot_be x ≡ true → taken (Err (record { refusal = NoTotal; total = x })) ≡ take_in x t
     unfolding take_in total_with sum_tape
     total-refused full = (ends (sums_of t) (numbered t) (cannot_be x)).1 accepted full
 
@@ -94,7 +94,7 @@ module _ (x : Total) (t : Tape) where
 
       -- the total with the tape
       pub total_with_lem : (a b : ℤ) → a ≡ x.shown +ℤ s.shown → b ≡ x.unshown +ℤ s.unshown
-          → taken x (Ok (record { shown = a; unshown = b; tapes = x.tapes + 1 })) ≡ take_in x t
+          → taken (Ok (record { shown = a; unshown = b; tapes = x.tapes + 1 })) ≡ take_in x t
       unfolding take_in total_with sum_tape
       total_with_lem a b e f =
           (λ i. record { number = 0; place = 0; rest = record { shown = e i; unshown = f i; tapes = add-one x.tapes i } })

@@ -37,6 +37,13 @@ pub struct Total {
     pub tapes: usize,
 }
 
+// Why a tape is not taken in, and the total as it was handed in.
+#[derive(Clone, Copy, Drop)]
+pub struct NotTaken {
+    pub refusal: Refusal,
+    pub total: Total,
+}
+
 // Adds up the rows of the entry's type, which a reshape to that entry alone lists: those marked, and the others.
 fn sum_rows(
     width: Width,
@@ -130,19 +137,25 @@ fn cannot_be(total: Total) -> bool
 }
 
 // Takes a tape into a running total: the refusals of `sum_tape`; then 18 where the total handed in has 1,000 tapes or more, or a sum beyond
-// ±1.024 × 10^15 a tape; or the total with both sums of the tape added and one tape more. Refused, the caller goes on with the total that it handed in.
+// ±1.024 × 10^15 a tape; or the total with both sums of the tape added and one tape more. Refused, the answer has the total as it was handed in.
 pub fn take_in(
     total: Total,
     width: Width,
     table: &[u8],
     shape: &[u8],
     entry: usize,
-) -> Result<Total, Refusal>
-    ensures { taken total result ≡ take_in total (tape (format_of width) table.now shape.now entry) }
+) -> Result<Total, NotTaken>
+    ensures { taken result ≡ take_in total (tape (format_of width) table.now shape.now entry) }
 {
-    let sums = sum_tape(width, table, shape, entry)?;
+    let sums = match sum_tape(width, table, shape, entry) {
+        Ok(sums) => sums,
+        Err(refusal) => return Err(NotTaken { refusal, total }),
+    };
     if cannot_be(total) {
-        return Err(Refusal::NoTotal);
+        return Err(NotTaken {
+            refusal: Refusal::NoTotal,
+            total,
+        });
     }
     let shown = total.shown + sums.shown;
     let unshown = total.unshown + sums.unshown;

@@ -4,7 +4,7 @@ ghost use Rattle.totals.specs.Told.{summed, taken};
 ghost use Rattle.totals_c.specs.Told.{told_sums, told_taken};
 
 use silmezga::Refusal;
-use totals::{TapeSums, Total};
+use totals::{NotTaken, TapeSums, Total};
 
 // A refusal, or both sums.
 #[repr(C)]
@@ -46,9 +46,9 @@ pub struct TakenIn {
     pub total: Total,
 }
 
-// The answer for a total that was handed in.
-pub fn taken_in(handed: Total, answer: Result<Total, Refusal>) -> TakenIn
-    ensures { told_taken result ≡ taken handed answer }
+// The answer that says so.
+pub fn taken_in(answer: Result<Total, NotTaken>) -> TakenIn
+    ensures { told_taken result ≡ taken answer }
 {
     match answer {
         Ok(total) => TakenIn {
@@ -56,10 +56,10 @@ pub fn taken_in(handed: Total, answer: Result<Total, Refusal>) -> TakenIn
             place: 0,
             total,
         },
-        Err(refusal) => TakenIn {
-            number: refusal.number(),
-            place: refusal.place(),
-            total: handed,
+        Err(left) => TakenIn {
+            number: left.refusal.number(),
+            place: left.refusal.place(),
+            total: left.total,
         },
     }
 }

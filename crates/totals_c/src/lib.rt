@@ -51,8 +51,5 @@ pub extern "C" fn totals_take_in(
 ) -> TakenIn
     ensures { told_taken result ≡ take_in total (tape (format_numbered width) table.now shape.now entry) }
 {
-    taken_in(
-        total,
-        totals::take_in(total, width_of(width), table, shape, entry),
-    )
+    taken_in(totals::take_in(total, width_of(width), table, shape, entry))
 }

@@ -2,7 +2,6 @@
 use mathlib.Core.Path.{◌≡◌, sym, ◌∙◌}
 use mathlib.Core.Bool.{false}
 use native.Mathlib.Omega.{arith}
-use Rattle.std.proofs.lemmas.Result.{err_from_is_err_and}
 use Rattle.paper.specs.Widths.{format_of}
 use Rattle.totals.specs.Total.{cannot_be}
 use Rattle.totals.specs.Told.{tape}
@@ -14,18 +13,16 @@ use Rattle.totals.proofs.take_in.Goals.{Else-cannot_be}
 can : (c : Else-cannot_be) → cannot_be c.args.total ≡ false
 can c = sym c.cannot_be.ensures ∙ c.if-cannot_be.false
 
-pub returns-in_err-sums : goal.returns-in_err-sums
-returns-in_err-sums c =
-    let p = err_from_is_err_and c.from_residual.result c.from_residual.ensures.1 in
+pub returns-in-Err : goal.returns-in-Err
+returns-in-Err c =
     let a = c.args in
-    let t = tape (format_of a.width) a.table.now a.shape.now a.entry in
-    rw (p.1, p.2) (as_summed a.total t c.in_err-sums.field-0.0 c.in_err-sums.ensures.result_value)
+    as_summed a.total (tape (format_of a.width) a.table.now a.shape.now a.entry) c.in-Err.refusal c.in-Err.ensures.result_value
 
 pub returns-then-cannot_be : goal.returns-then-cannot_be
 returns-then-cannot_be c =
     let a = c.args in
     let t = tape (format_of a.width) a.table.now a.shape.now a.entry in
-    let sums = c.in_ok-sums in
+    let sums = c.in-Ok in
     total-refused a.total t sums.sums sums.ensures.result_value (sym c.cannot_be.ensures ∙ c.if-cannot_be.true)
 
 pub overflow_add-shown : goal.overflow_add-shown
@@ -33,8 +30,8 @@ overflow_add-shown c =
     let x = c.args.total in
     let a = c.args in
     let t = tape (format_of a.width) a.table.now a.shape.now a.entry in
-    let s = c.in_ok-sums.sums in
-    let told = c.in_ok-sums.ensures.result_value in
+    let s = c.in-Ok.sums in
+    let told = c.in-Ok.ensures.result_value in
     let possible = can (goal.at.overflow_add-shown c).Else-cannot_be in
     sum_fits x.tapes (tapes_few x t s told possible) x.shown s.shown (sums_sound x t s told possible).0 (tape-sound x t s told possible).0
 
@@ -43,8 +40,8 @@ overflow_add-unshown c =
     let x = c.args.total in
     let a = c.args in
     let t = tape (format_of a.width) a.table.now a.shape.now a.entry in
-    let s = c.in_ok-sums.sums in
-    let told = c.in_ok-sums.ensures.result_value in
+    let s = c.in-Ok.sums in
+    let told = c.in-Ok.ensures.result_value in
     let possible = can (goal.at.overflow_add-unshown c).Else-cannot_be in
     sum_fits x.tapes (tapes_few x t s told possible) x.unshown s.unshown (sums_sound x t s told possible).1 (tape-sound x t s told possible).1
 
@@ -53,15 +50,15 @@ overflow_add-tapes c =
     let x = c.args.total in
     let a = c.args in
     let t = tape (format_of a.width) a.table.now a.shape.now a.entry in
-    record { fits = omega (arith, tapes_few x t c.in_ok-sums.sums c.in_ok-sums.ensures.result_value (can (goal.at.overflow_add-tapes c).Else-cannot_be)) }
+    record { fits = omega (arith, tapes_few x t c.in-Ok.sums c.in-Ok.ensures.result_value (can (goal.at.overflow_add-tapes c).Else-cannot_be)) }
 
 pub returns : goal.returns
 returns c =
     let x = c.args.total in
     let a = c.args in
     let t = tape (format_of a.width) a.table.now a.shape.now a.entry in
-    let s = c.in_ok-sums.sums in
-    let told = c.in_ok-sums.ensures.result_value in
+    let s = c.in-Ok.sums in
+    let told = c.in-Ok.ensures.result_value in
     let possible = can (goal.at.returns c).Else-cannot_be in
     let few = tapes_few x t s told possible in
     let old = sums_sound x t s told possible in

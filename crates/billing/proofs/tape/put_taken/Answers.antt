@@ -18,5 +18,5 @@ returns-in-Ok-clause-fact c =
 pub returns-in-Err-clause-fact : goal.returns-in-Err-clause-fact
 returns-in-Err-clause-fact c =
     let told = ap₂ (not_counted_text c.args.name.now) c.number.ensures c.place.ensures in
-    let line = refused_line c.args.total _ c.in-Err.refusal c.in-Err.ensures c.args.name.now in
+    let line = refused_line c.args.total _ c.in-Err.left c.in-Err.ensures c.args.name.now in
     (put_as c.put_not_counted-bytes.ensures.put (told ∙ line), c.in-Err.ensures)
