@@ -1,5 +1,6 @@
 // The listing: a refusal, or the verdict, a line for each line of the new table, and one for each edge of the shape.
-ghost use Rattle.std.specs.Prelude.{◌≤◌, length};
+ghost use Rattle.std.specs.Prelude.{◌≡◌, ◌≤◌, length, IfOk};
+ghost use Rattle.paper.specs.Format.{row_bytes};
 ghost use Rattle.octets.specs.Served.{Served};
 
 use crate::edges::print_edges;
@@ -28,6 +29,7 @@ fn print_verdict(rt: &impl Print, v: Verdict) -> Written {
 // A row's line, with its source; a row that is not whole has none.
 fn print_line(rt: &impl Print, row: &[u8], f: Format, source: u32) -> Written
     requires { Served f }
+    ensures { IfOk result (λ _. length row.now ≡ row_bytes f) }
 {
     if row.len() != octets::row_bytes(f) {
         return Err(Stopped);
@@ -44,7 +46,9 @@ fn print_lines(
     table: &[u8],
     sources: &[u32],
     lines: usize,
-) -> Written {
+) -> Written
+    ensures { IfOk result (λ _. lines ≤ length sources.now) }
+{
     let f = served(width);
     let mut r = make(width, table, 0);
     for at in 0..lines {
