@@ -14,9 +14,9 @@ use silmezga::reader::{make, next, row};
 use silmezga::{Refusal, Verdict};
 
 // Prints a refusal, as every screen does.
-pub fn print_refused(rt: &impl Print, refusal: Refusal) -> Written {
+pub fn print_refused(rt: &impl Print, number: usize, place: usize) -> Written {
     let mut text = [0u8; 256];
-    let n = put_refused(&mut text, refusal.number(), refusal.place());
+    let n = put_refused(&mut text, number, place);
     print(rt, &text[..n])
 }
 
@@ -84,8 +84,10 @@ fn print_refusal(
     refusal: Refusal,
     channel: Option<i32>,
 ) -> Written {
-    print_refused(rt, refusal)?;
-    report_refused(channel, width, source, shape, refusal)
+    let number = refusal.number();
+    let place = refusal.place();
+    print_refused(rt, number, place)?;
+    report_refused(channel, width, source, shape, number, place)
 }
 
 // Reshapes a table into what is lent, prints the listing, and reports the answer.
