@@ -43,6 +43,6 @@ fn print_entries(rt: &impl Print, shape: &[u8], f: Format, s: &Summary) -> Writt
 pub fn print_summary(rt: &impl Print, width: Width, table: &[u8], shape: &[u8]) -> Written {
     match silmezga::summarise(width, table, shape) {
         Ok(s) => print_entries(rt, shape, served(width), &s),
-        Err(refusal) => print_refused(rt, refusal),
+        Err(refusal) => print_refused(rt, refusal.number(), refusal.place()),
     }
 }

@@ -10,6 +10,7 @@ pub mod folder;
 pub mod marked;
 pub mod new_table;
 pub mod out;
+pub mod refusal;
 pub mod report;
 pub mod screen;
 pub mod tape;

@@ -1,5 +1,6 @@
 // What the program reports of a typed tree that is refused: the text, with a mark under the place or the entry at fault.
 use crate::out::{Stopped, Written, report};
+use crate::refusal::named;
 use crate::report::{report_answer, report_at_fault};
 use facts::tree::put_marked;
 use paper::Width;
@@ -42,18 +43,19 @@ pub fn report_typed(
     width: Width,
     table: &[u8],
     text: &[u8],
-    refusal: Refusal,
+    number: usize,
+    place: usize,
 ) -> Written {
     let Some(channel) = channel else {
         return Ok(());
     };
-    report_answer(channel, refusal)?;
-    match refusal {
-        Refusal::NoTree(at) => report_marked(channel, text, at),
-        Refusal::BadEntry(e) | Refusal::NoOneType(e) => {
+    report_answer(channel, number, place)?;
+    match named(number, place) {
+        Some(Refusal::NoTree(at)) => report_marked(channel, text, at),
+        Some(Refusal::BadEntry(e) | Refusal::NoOneType(e)) => {
             let start = word_start(text, e).unwrap_or(text.len());
             report_marked(channel, text, start)
         }
-        _ => report_at_fault(channel, width, table, b"", refusal),
+        _ => report_at_fault(channel, width, table, b"", number, place),
     }
 }

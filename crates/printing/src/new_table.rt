@@ -1,5 +1,6 @@
 // The listing: a refusal, or the verdict, a line for each line of the new table, and one for each edge of the shape.
-ghost use Rattle.std.specs.Prelude.{◌≤◌, length};
+ghost use Rattle.std.specs.Prelude.{◌≡◌, ◌≤◌, length, IfOk};
+ghost use Rattle.paper.specs.Format.{row_bytes};
 ghost use Rattle.octets.specs.Served.{Served};
 
 use crate::edges::print_edges;
@@ -13,9 +14,9 @@ use silmezga::reader::{make, next, row};
 use silmezga::{Refusal, Verdict};
 
 // Prints a refusal, as every screen does.
-pub fn print_refused(rt: &impl Print, refusal: Refusal) -> Written {
+pub fn print_refused(rt: &impl Print, number: usize, place: usize) -> Written {
     let mut text = [0u8; 256];
-    let n = put_refused(&mut text, refusal.number(), refusal.place());
+    let n = put_refused(&mut text, number, place);
     print(rt, &text[..n])
 }
 
@@ -28,6 +29,7 @@ fn print_verdict(rt: &impl Print, v: Verdict) -> Written {
 // A row's line, with its source; a row that is not whole has none.
 fn print_line(rt: &impl Print, row: &[u8], f: Format, source: u32) -> Written
     requires { Served f }
+    ensures { IfOk result (λ _. length row.now ≡ row_bytes f) }
 {
     if row.len() != octets::row_bytes(f) {
         return Err(Stopped);
@@ -44,7 +46,9 @@ fn print_lines(
     table: &[u8],
     sources: &[u32],
     lines: usize,
-) -> Written {
+) -> Written
+    ensures { IfOk result (λ _. lines ≤ length sources.now) }
+{
     let f = served(width);
     let mut r = make(width, table, 0);
     for at in 0..lines {
@@ -80,8 +84,10 @@ fn print_refusal(
     refusal: Refusal,
     channel: Option<i32>,
 ) -> Written {
-    print_refused(rt, refusal)?;
-    report_refused(channel, width, source, shape, refusal)
+    let number = refusal.number();
+    let place = refusal.place();
+    print_refused(rt, number, place)?;
+    report_refused(channel, width, source, shape, number, place)
 }
 
 // Reshapes a table into what is lent, prints the listing, and reports the answer.

@@ -1,6 +1,7 @@
 // What the program reports of a listing, on a channel: its answer, the rows and the entries that this names, and with a verdict the second
 // answer.
 use crate::out::{Stopped, Written, report};
+use crate::refusal::named;
 use crate::width::{entry_at, served};
 use facts::entry::{put_entry, put_entry_fields};
 use facts::row::{put_row, put_row_fields};
@@ -80,9 +81,9 @@ fn report_broken_entry(channel: i32, width: Width, shape: &[u8], e: usize) -> Wr
 }
 
 // A refusal.
-pub fn report_answer(channel: i32, refusal: Refusal) -> Written {
+pub fn report_answer(channel: i32, number: usize, place: usize) -> Written {
     let mut text = [0u8; 256];
-    let n = put_refused(&mut text, refusal.number(), refusal.place());
+    let n = put_refused(&mut text, number, place);
     report(channel, &text[..n])
 }
 
@@ -92,13 +93,14 @@ pub fn report_at_fault(
     width: Width,
     table: &[u8],
     shape: &[u8],
-    refusal: Refusal,
+    number: usize,
+    place: usize,
 ) -> Written {
-    match refusal {
-        Refusal::BadRow(row) => report_broken_row(channel, width, table, row),
-        Refusal::TooManyTypes(row) => report_row(channel, width, table, row),
-        Refusal::BadEntry(e) => report_broken_entry(channel, width, shape, e),
-        Refusal::TypeMissing(e) => report_entry(channel, width, shape, e),
+    match named(number, place) {
+        Some(Refusal::BadRow(row)) => report_broken_row(channel, width, table, row),
+        Some(Refusal::TooManyTypes(row)) => report_row(channel, width, table, row),
+        Some(Refusal::BadEntry(e)) => report_broken_entry(channel, width, shape, e),
+        Some(Refusal::TypeMissing(e)) => report_entry(channel, width, shape, e),
         _ => Ok(()),
     }
 }
@@ -109,13 +111,14 @@ pub fn report_refused(
     width: Width,
     table: &[u8],
     shape: &[u8],
-    refusal: Refusal,
+    number: usize,
+    place: usize,
 ) -> Written {
     let Some(channel) = channel else {
         return Ok(());
     };
-    report_answer(channel, refusal)?;
-    report_at_fault(channel, width, table, shape, refusal)
+    report_answer(channel, number, place)?;
+    report_at_fault(channel, width, table, shape, number, place)
 }
 
 // The row or the two entries that a verdict names.

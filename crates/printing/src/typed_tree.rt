@@ -50,7 +50,7 @@ pub fn print_shape(rt: &impl Print, width: Width, shape: &[u8]) -> Written {
     let mut text = [0u8; 1536];
     let n = match silmezga::print_tree(width, shape, &mut text) {
         Ok(n) => n,
-        Err(refusal) => return print_refused(rt, refusal),
+        Err(refusal) => return print_refused(rt, refusal.number(), refusal.place()),
     };
     print(rt, text.get(..n).ok_or(Stopped)?)?;
     print(rt, b"\n")

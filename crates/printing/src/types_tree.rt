@@ -60,6 +60,6 @@ fn print_tree(rt: &impl Print, all: &[TypeSummary]) -> Written {
 pub fn print_types(rt: &impl Print, width: Width, table: &[u8]) -> Written {
     match adorn_by_value(table, served(width), 64) {
         Ok(a) => print_tree(rt, &a.summaries[..smaller(a.count, 64)]),
-        Err(refusal) => print_refused(rt, refusal),
+        Err(refusal) => print_refused(rt, refusal.number(), refusal.place()),
     }
 }

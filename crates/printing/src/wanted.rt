@@ -21,9 +21,11 @@ pub fn print_typed(
     match read_typed(width, table, text, &mut shape) {
         Ok(n) => print_of(rt, width, table, &shape[..n], screen, channel),
         Err(refusal) => {
-            print_refused(rt, refusal)?;
+            let number = refusal.number();
+            let place = refusal.place();
+            print_refused(rt, number, place)?;
             let channel = channel_of(screen, channel);
-            report_typed(channel, width, table, text, refusal)
+            report_typed(channel, width, table, text, number, place)
         }
     }
 }
