@@ -1,5 +1,6 @@
 // A folder of a history: its files are read, its tape is taken in, and its line is printed.
 ghost use Rattle.std.specs.Prelude.{◌≡◌, true, not, ◌≤◌, eqb, length, IfOk};
+ghost use Rattle.io.specs.Counts.{IsPrefixLen};
 ghost use Rattle.paper.specs.Widths.{format_of};
 ghost use Rattle.totals.specs.Total.{take_in};
 ghost use Rattle.totals.specs.Told.{tape};
@@ -36,9 +37,38 @@ fn leave_out(rt: &impl Print, name: &[u8], total: Total, refusal: Refusal) -> Re
     })
 }
 
-// Takes in the tape of a table and a shape.
+// Takes in the tape of a table and a shape, and puts the folder's line at the front of the buffer.
 #[tactic(auto, using(crate::proofs::Taken::after_told, crate::proofs::Taken::refused_told))]
 fn take_tape(
+    text: &mut [u8; 4096],
+    name: &[u8],
+    total: Total,
+    width: Width,
+    table: &[u8],
+    shape: &[u8],
+    entry: usize,
+) -> (Step, usize)
+    requires { length name.now ≤ most_name }
+    ensures step { let t = tape (format_of width) table.now shape.now entry in
+        (result.0.refused ≡ not (eqb (take_in total t).number 0)) × (result.0.total ≡ (take_in total t).rest) }
+    ensures prefix_len { IsPrefixLen result.1 text.new }
+{
+    let b = put_taken(text, name, total, width, table, shape, entry);
+    let step = match b.taken {
+        Ok(after) => Step {
+            refused: false,
+            total: after,
+        },
+        Err(left) => Step {
+            refused: true,
+            total: left.total,
+        },
+    };
+    (step, b.bytes)
+}
+
+// Takes in the tape of a table and a shape, and prints the folder's line.
+fn print_tape(
     rt: &impl Print,
     name: &[u8],
     total: Total,
@@ -52,19 +82,9 @@ fn take_tape(
         IfOk result (λ s. (s.refused ≡ not (eqb (take_in total t).number 0)) × (s.total ≡ (take_in total t).rest)) }
 {
     let mut text = [0u8; 4096];
-    let b = put_taken(&mut text, name, total, width, table, shape, entry);
-    let taken = b.taken;
-    print(rt, &text[..b.bytes])?;
-    match taken {
-        Ok(after) => Ok(Step {
-            refused: false,
-            total: after,
-        }),
-        Err(left) => Ok(Step {
-            refused: true,
-            total: left.total,
-        }),
-    }
+    let (step, n) = take_tape(&mut text, name, total, width, table, shape, entry);
+    print(rt, &text[..n])?;
+    Ok(step)
 }
 
 // Takes in the tape of a table and a typed tree.
@@ -81,7 +101,7 @@ fn take_typed(
 {
     let mut shape = [0u8; 320];
     match read_typed(width, table, text, &mut shape) {
-        Ok(n) => take_tape(rt, name, total, width, table, &shape[..n], entry),
+        Ok(n) => print_tape(rt, name, total, width, table, &shape[..n], entry),
         Err(refusal) => leave_out(rt, name, total, refusal),
     }
 }
@@ -100,7 +120,7 @@ fn take_wanted(
     let mut wanted = [0u8; 1539];
     match read_wanted(rt, name, width, true, &mut wanted)? {
         Wanted::Text(n) => take_typed(rt, name, total, width, table, &wanted[..n], entry),
-        Wanted::Shape(n) => take_tape(rt, name, total, width, table, &wanted[..n], entry),
+        Wanted::Shape(n) => print_tape(rt, name, total, width, table, &wanted[..n], entry),
     }
 }
 
