@@ -21,11 +21,11 @@ use Rattle.grammar.specs.Typed.{Reading}
 use Rattle.grammar.proofs.Right.{read_tree_unique}
 use Rattle.octets.proofs.Laws.{format_served}
 use Rattle.widths.specs.Answers.{Moves}
-use Rattle.widths.proofs.Unique.{moves_unique}
-use Rattle.labels.proofs.Unique.{converts_unique, converts_left}
+use Rattle.widths.proofs.Unique.{moves_one}
+use Rattle.labels.proofs.Unique.{converts_one, converts_left}
 use Rattle.typed.specs.Read.{reading_of}
-use Rattle.spelling.proofs.Unique.{prints_unique}
-use Rattle.indexes.proofs.Unique.{builds_unique}
+use Rattle.spelling.proofs.Unique.{prints_one}
+use Rattle.indexes.proofs.Unique.{builds_one}
 use Rattle.adorned.specs.Told.{told}
 use Rattle.adorned.specs.declared.TypeSummary.{TypeSummary}
 use Rattle.adorned.proofs.Unique.{told_same}
@@ -111,7 +111,7 @@ judge_edges_agree κs a r e x accepted =
 
 -- ---- reshaping: the answer, and every lent byte and place after it
 pub reshape_settled : Settled {X = Counted × (List ℕ × List ℕ)} reshape.Asked reshape.Learnt (λ κs r e. (r, (e.1.1.1.0.now, e.1.1.1.1.0.now)))
-reshape_settled = ((λ κs a. tt), λ κs a r s e f x y. (let u = reshaping.reshape_unique x y in three (count_told r s u.0, u.1, u.2)))
+reshape_settled = ((λ κs a. tt), λ κs a r s e f x y. (let u = reshaping.reshapes_one x y in three (count_told r s u.0, u.1, u.2)))
 
 -- what the call leaves keeps the whole promise, each of its parts
 pub reshape_promises : Promises reshape.Learnt (λ κs a r e.
@@ -142,7 +142,7 @@ summarise-shows-all κs a r e x = reshaping.all_shown (format_numbered a.0) a.1.
 -- ---- widening and narrowing: the answer, and every lent byte after it
 moved_settled : (m : Widths.Moved) (r s : Counted) (new₁ new₂ : List ℕ) → Moves m (told_count r) new₁ → Moves m (told_count s) new₂
     → ◌≡◌ {A = Counted × List ℕ} (r, new₁) (s, new₂)
-moved_settled m r s new₁ new₂ x y = let u = moves_unique m (told_count r) (told_count s) new₁ new₂ x y in both (count_told r s u.0, u.1)
+moved_settled m r s new₁ new₂ x y = let u = moves_one m (told_count r) (told_count s) new₁ new₂ x y in both (count_told r s u.0, u.1)
 
 pub widen_table_settled : Settled {X = Counted × List ℕ} widen-table.Asked widen-table.Learnt (λ κs r e. (r, e.1.0.now))
 widen_table_settled = ((λ κs a. tt), λ κs a r s e f. moved_settled _ r s _ _)
@@ -161,7 +161,7 @@ pub convert_labels_settled : Settled {X = ConvertedNumbers × (List ℕ × List 
     (λ κs r e. (r, (e.1.1.1.1.0.now, e.1.1.1.1.1.0.now)))
 convert_labels_settled = (
   (λ κs a. tt),
-  λ κs a r s e f x y. (let u = converts_unique _ (told_converted r) (told_converted s) _ _ _ _ x y in three (converted_told r s u.0, u.1, u.2)),
+  λ κs a r s e f x y. (let u = converts_one _ (told_converted r) (told_converted s) _ _ _ _ x y in three (converted_told r s u.0, u.1, u.2)),
 )
 
 -- What an accepted call leaves is an accepted conversion, of which the theorems on one are (paper's ConvertedCalls).
@@ -187,12 +187,12 @@ read_tree_settled = (
 pub print_tree_settled : Settled {X = Counted × List ℕ} print-tree.Asked print-tree.Learnt (λ κs r e. (r, e.1.1.0.now))
 print_tree_settled = (
   (λ κs a. tt),
-  λ κs a r s e f x y. (let u = prints_unique _ (told_count r) (told_count s) _ _ x y in both (count_told r s u.0, u.1)),
+  λ κs a r s e f x y. (let u = prints_one _ (told_count r) (told_count s) _ _ x y in both (count_told r s u.0, u.1)),
 )
 
 -- ---- with an index
 pub build_index_settled : Settled {X = Counted × (List ℕ × List ℕ)} build-index.Asked build-index.Learnt (λ κs r e. (r, (e.1.1.0.now, e.1.1.1.0.now)))
-build_index_settled = ((λ κs a. tt), λ κs a r s e f x y. (let u = builds_unique x y in three (count_told r s u.0, u.1, u.2)))
+build_index_settled = ((λ κs a. tt), λ κs a r s e f x y. (let u = builds_one x y in three (count_told r s u.0, u.1, u.2)))
 
 judge_with_index_tells : Tells judge-with-index.Learnt judge-with-index'.Learnt
 judge_with_index_tells κs a r e = judge_with_told (format_numbered a.0) a.1.0.now a.1.1.0.now a.1.1.1.0.now a.1.1.1.1.0.now r
@@ -208,7 +208,7 @@ judge_with_index_plain κs a r e x rs g = x ∙ ap four_numbers (judge-plain _ _
 
 pub reshape_with_index_settled : Settled {X = Counted × (List ℕ × List ℕ)} reshape-with-index.Asked reshape-with-index.Learnt
     (λ κs r e. (r, (e.1.1.1.1.1.0.now, e.1.1.1.1.1.1.0.now)))
-reshape_with_index_settled = ((λ κs a. tt), λ κs a r s e f x y. (let u = reshaping.reshape_with_unique x y in three (count_told r s u.0, u.1, u.2)))
+reshape_with_index_settled = ((λ κs a. tt), λ κs a r s e f x y. (let u = reshaping.reshapes_with_one x y in three (count_told r s u.0, u.1, u.2)))
 
 -- where the lists are this table's, all that is promised of a reshape without an index holds: demand 3 and the others
 pub reshape_with_index_plain : Promises reshape-with-index.Learnt (λ κs a r e.
