@@ -2,8 +2,9 @@
 --     Asks-nothing, Settles      of what a caller must show and what it learns, as the borrow checker reads them off a contract: `Asked` and `Learnt`
 --     Settled, Promises      both of these; and that whatever a caller learns has a property
 --     Says-as, Settled-too, Holds-too, settled_too, holds_too      a contract says what another says, and what is proved of the other holds of it
---     Says-told, Tells, Holds-told, settled_told, answer_told, holds_told      the same of a contract whose results are others, that tell what the other's are
---     Walk-asks-nothing, Walk-settles, Walk-settled, Walk-says-told, Walk-tells      of the clauses themselves, at every model of the logic: a walk has no such reading
+--     Says-told, Tells, Holds-told, settled_told, answer_told, holds_told      the same of a contract whose results tell what the other's are
+--     Walk-asks-nothing, Walk-settles, Walk-settled      of the clauses themselves, at every model of the logic: a walk has no such reading
+--     Walk-says-told, Walk-tells      and of those of a contract whose results tell another's
 -- `shows` picks what a caller sees of the result and of the parameters at exit: of what was lent as `&mut`, its last value.
 use Prim.Native.Nat.{ℕ}
 use mathlib.Core.Path.{◌≡◌, sym, ◌∙◌, ap}
@@ -129,7 +130,8 @@ module _ (T : Ended) (c : Contract T) where
 
 -- the same of a walked contract whose results tell another's, at every model
 module _ (T T' : Ended) (c : Contract T) (c' : Contract T') {N : Type 0} (keys : Lfts T.signature.lifetimes → Lfts T'.signature.lifetimes)
-    (to : (κs : Lfts T.signature.lifetimes) → Args T.signature κs → Args T'.signature (keys κs)) (at : (κs : Lfts T.signature.lifetimes) → AtExit T κs → AtExit T' (keys κs))
+    (to : (κs : Lfts T.signature.lifetimes) → Args T.signature κs → Args T'.signature (keys κs))
+    (at : (κs : Lfts T.signature.lifetimes) → AtExit T κs → AtExit T' (keys κs))
     (tells : (κs : Lfts T.signature.lifetimes) → Res T.signature κs → N) (told : (κs : Lfts T.signature.lifetimes) → Res T'.signature (keys κs) → N) where
   abbrev pub Walk-says-told : Type 2
   Walk-says-told =

@@ -131,7 +131,8 @@ summarise_tells = tells_so wide wide told_summary summarised summarise-call.Lear
     (j, x ∙ u)))
 
 -- ---- widening and narrowing
-moves_says : (m : Widths.Moved) (r : Counted) (j : Result ℕ Refusal) (new : List ℕ) → told_count r ≡ counted j → Moves m (told_count r) new → Moves m (counted j) new
+moves_says : (m : Widths.Moved) (r : Counted) (j : Result ℕ Refusal) (new : List ℕ) → told_count r ≡ counted j
+    → Moves m (told_count r) new → Moves m (counted j) new
 moves_says m r j new u x = (sym u ∙ x.0, x.1)
 
 pub widen_table_says : Says-told same same told_count counted widen-table.Learnt widen-table'.Learnt
