@@ -14,14 +14,21 @@ use Rattle.paper.proofs.Refusals.{same_answer}
 use Rattle.labels.specs.Answers.{counts_of, converted, Converts}
 use Rattle.labels.specs.declared.convert.Converted.{Converted}
 
-pub converts_unique : (c : Converting) (r q : Reply Labels.Converted) (t₁ u₁ t₂ u₂ : List ℕ) → Converts c r t₁ u₁ → Converts c q t₂ u₂
+-- two replies, whoever is told them
+pub converts_one : (c : Converting) (r q : Reply Labels.Converted) (t₁ u₁ t₂ u₂ : List ℕ) → Converts c r t₁ u₁ → Converts c q t₂ u₂
     → (r ≡ q) × (t₁ ≡ t₂) × (u₁ ≡ u₂)
-converts_unique c r q t₁ u₁ t₂ u₂ a b = (a.0 ∙ sym b.0, a.1 ∙ sym b.1, a.2 ∙ sym b.2)
+converts_one c r q t₁ u₁ t₂ u₂ a b = (a.0 ∙ sym b.0, a.1 ∙ sym b.1, a.2 ∙ sym b.2)
 
 -- Two answers that are one reply are one.
 pub converted_same : (r q : Result Converted Refusal) → converted r ≡ converted q → r ≡ q
 converted_same r q e =
     same_answer none_converted counts_of (λ a b. ap {B = Converted} (λ (x : Labels.Converted). record { rows = x.rows; entries = x.entries })) r q e
+
+-- two answers of the call
+pub converts_unique : (c : Converting) (r q : Result Converted Refusal) (t₁ u₁ t₂ u₂ : List ℕ) → Converts c (converted r) t₁ u₁
+    → Converts c (converted q) t₂ u₂ → (r ≡ q) × (t₁ ≡ t₂) × (u₁ ≡ u₂)
+converts_unique c r q t₁ u₁ t₂ u₂ a b =
+    let u = converts_one c (converted r) (converted q) t₁ u₁ t₂ u₂ a b in (converted_same r q u.0, u.1, u.2)
 
 -- What an accepted call leaves at the front of what was lent is an accepted conversion.
 pub converts_left : (f : Format) → f.labels < 65536 → (b s l lent-table lent-shape : List ℕ) (r : Reply Labels.Converted) (t u : List ℕ)

@@ -18,16 +18,16 @@ use Rattle.paper.specs.Index.{tests_index, summarise_with}
 use Rattle.paper.proofs.Figures.{summary_agrees, summary_shows_all}
 use Rattle.paper.proofs.Index.{index_reads}
 use Rattle.paper.proofs.WithIndex.{summarise-plain}
-use Rattle.reshaping.specs.Reshaped.{figures_of, summarised, Reshapes, ReshapesWith}
+use Rattle.reshaping.specs.Reshaped.{reshaped, figures_of, summarised, Reshapes, ReshapesWith}
 use Rattle.std.specs.Prelude.{Result}
 use Rattle.paper.specs.declared.refusal.Refusal.{Refusal}
-use Rattle.paper.proofs.Refusals.{same_answer}
+use Rattle.paper.proofs.Refusals.{same_answer, count_same}
 use Rattle.reshaping.specs.declared.summarise.Summary.{Summary}
 
 module _ {f : Format} {t s new sources new₁ sources₁ : List ℕ} {a : Reply ℕ} (p : Reshapes f t s new sources a new₁ sources₁) where
-  -- Two reshapes that keep the promise give one answer, and leave the same in every lent byte and place.
-  pub reshape_unique : {new₂ sources₂ : List ℕ} {b : Reply ℕ} → Reshapes f t s new sources b new₂ sources₂ → (a ≡ b) × (new₁ ≡ new₂) × (sources₁ ≡ sources₂)
-  reshape_unique q = (
+  -- Two replies that keep the promise, whoever is told them, are one, and so is what is left in every lent byte and place.
+  pub reshapes_one : {new₂ sources₂ : List ℕ} {b : Reply ℕ} → Reshapes f t s new sources b new₂ sources₂ → (a ≡ b) × (new₁ ≡ new₂) × (sources₁ ≡ sources₂)
+  reshapes_one q = (
     p.answer ∙ sym q.answer,
     p.bytes ∙ sym q.bytes,
     p.places ∙ sym q.places,
@@ -62,6 +62,16 @@ module _ {f : Format} {t s new sources new₁ sources₁ : List ℕ} {a : Reply 
   pub sound_promised : a.number ≡ 0 → a.rest ≤ most_rows → SoundSource f s (take (a.rest * row_bytes f) new₁) a.rest
   sound_promised = p.sound
 
+-- two answers that are one reply are one
+answer_same : (a b : Result ℕ Refusal) → reshaped a ≡ reshaped b → a ≡ b
+answer_same a b e = count_same a b e
+
+module _ {f : Format} {t s new sources new₁ sources₁ : List ℕ} {a : Result ℕ Refusal} (p : Reshapes f t s new sources (reshaped a) new₁ sources₁) where
+  -- Two reshapes that keep the promise give one answer, and leave the same in every lent byte and place.
+  pub reshape_unique : {new₂ sources₂ : List ℕ} {b : Result ℕ Refusal} → Reshapes f t s new sources (reshaped b) new₂ sources₂
+      → (a ≡ b) × (new₁ ≡ new₂) × (sources₁ ≡ sources₂)
+  reshape_unique {b = b} q = let u = reshapes_one p q in (answer_same a b u.0, u.1, u.2)
+
 -- ---- summarising
 -- two summaries that have the same figures are one
 figures_same : (a b : Summary) → figures_of a ≡ figures_of b → a ≡ b
@@ -87,14 +97,21 @@ module _ (f : Format) (t s : List ℕ) (r : Reply Figures) (q : r ≡ summarise 
 
 -- ---- with an index
 module _ {f : Format} {t s last next new sources new₁ sources₁ : List ℕ} {a : Reply ℕ} (p : ReshapesWith f t s last next new sources a new₁ sources₁) where
-  -- Two reshapes with an index that keep the promise give one answer, and leave the same in every lent byte and place.
-  pub reshape_with_unique : {new₂ sources₂ : List ℕ} {b : Reply ℕ} → ReshapesWith f t s last next new sources b new₂ sources₂
+  -- Two replies with an index that keep the promise, whoever is told them, are one, and so is what is left in every lent byte and place.
+  pub reshapes_with_one : {new₂ sources₂ : List ℕ} {b : Reply ℕ} → ReshapesWith f t s last next new sources b new₂ sources₂
       → (a ≡ b) × (new₁ ≡ new₂) × (sources₁ ≡ sources₂)
-  reshape_with_unique q = (p.answer ∙ sym q.answer, p.bytes ∙ sym q.bytes, p.places ∙ sym q.places)
+  reshapes_with_one q = (p.answer ∙ sym q.answer, p.bytes ∙ sym q.bytes, p.places ∙ sym q.places)
 
   -- Where the index is this table's, all that is promised of a reshape without one is a part of the promise.
   pub plain_promised : (rs : List Row) → tests_index f t last next ≡ given rs → Reshapes f t s new sources a new₁ sources₁
   plain_promised = p.plain
+
+module _ {f : Format} {t s last next new sources new₁ sources₁ : List ℕ} {a : Result ℕ Refusal}
+    (p : ReshapesWith f t s last next new sources (reshaped a) new₁ sources₁) where
+  -- Two reshapes with an index that keep the promise give one answer, and leave the same in every lent byte and place.
+  pub reshape_with_unique : {new₂ sources₂ : List ℕ} {b : Result ℕ Refusal} → ReshapesWith f t s last next new sources (reshaped b) new₂ sources₂
+      → (a ≡ b) × (new₁ ≡ new₂) × (sources₁ ≡ sources₂)
+  reshape_with_unique {b = b} q = let u = reshapes_with_one p q in (answer_same a b u.0, u.1, u.2)
 
 module _ (f : Format) (t s last next : List ℕ) where
   pub summarise_with_unique : (a b : Result Summary Refusal) → summarised a ≡ summarise_with f t s last next

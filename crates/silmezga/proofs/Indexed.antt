@@ -12,7 +12,6 @@ use Rattle.judging.proofs.Unique as judging
 use Rattle.reshaping.specs.Reshaped.{reshaped, Reshapes, summarised}
 use Rattle.std.specs.Prelude.{Result}
 use Rattle.paper.specs.declared.refusal.Refusal.{Refusal}
-use Rattle.paper.proofs.Refusals.{count_same}
 use Rattle.reshaping.proofs.Unique as reshaping
 use Rattle.indexes.proofs.Unique.{builds_unique}
 use Rattle.settling.proofs.Settles.{Settled, Promises, three}
@@ -24,7 +23,7 @@ use Rattle.silmezga.proofs.summarise_with_index.Reads as summarise-with-index
 -- ---- building: the answer, and every lent place after it
 pub build_index_settled : Settled {X = Result ℕ Refusal × (List ℕ × List ℕ)} build-index.Asked build-index.Learnt
     (λ κs r e. (r, (e.1.1.0.now, e.1.1.1.0.now)))
-build_index_settled = ((λ κs a. tt), λ κs a r s e f x y. (let u = builds_unique x y in three (count_same r s u.0, u.1, u.2)))
+build_index_settled = ((λ κs a. tt), λ κs a r s e f x y. three (builds_unique {r = r} {s = s} x y))
 
 -- ---- judging
 pub judge_with_index_settled : Settled judge-with-index.Asked judge-with-index.Learnt (λ κs r e. r)
@@ -39,7 +38,7 @@ judge_with_index_plain κs a r e x = judging.judge_as_plain _ _ _ _ _ r x
 -- ---- reshaping: the answer, and every lent byte and place after it
 pub reshape_with_index_settled : Settled {X = Result ℕ Refusal × (List ℕ × List ℕ)} reshape-with-index.Asked reshape-with-index.Learnt
     (λ κs r e. (r, (e.1.1.1.1.1.0.now, e.1.1.1.1.1.1.0.now)))
-reshape_with_index_settled = ((λ κs a. tt), λ κs a r s e f x y. (let u = reshaping.reshape_with_unique x y in three (count_same r s u.0, u.1, u.2)))
+reshape_with_index_settled = ((λ κs a. tt), λ κs a r s e f x y. three (reshaping.reshape_with_unique {a = r} x {b = s} y))
 
 -- where the lists are this table's, all that is promised of a reshape without an index holds: demand 3 and the others
 pub reshape_with_index_plain : Promises reshape-with-index.Learnt (λ κs a r e.

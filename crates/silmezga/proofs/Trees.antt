@@ -49,4 +49,4 @@ read_settled f names b text lent r s t u x y =
 -- the answer, and every byte lent for the line after it
 pub print_settled : (p : Printing) (r s : Result ℕ Refusal) (t u : List ℕ) → Prints p (counted r) t → Prints p (counted s) u
     → ◌≡◌ {A = Result ℕ Refusal × List ℕ} (r, t) (s, u)
-print_settled p r s t u x y = let e = prints_unique p (counted r) (counted s) t u x y in both (count_same r s e.0, e.1)
+print_settled p r s t u x y = both (prints_unique p r s t u x y)

@@ -21,7 +21,7 @@ use Rattle.widths.specs.Answers.{Moves}
 use Rattle.widths.proofs.Unique.{moves_unique}
 use Rattle.labels.specs.Answers.{converted}
 use Rattle.labels.specs.declared.convert.Converted.{Converted}
-use Rattle.labels.proofs.Unique.{converted_same, converts_unique, converts_left}
+use Rattle.labels.proofs.Unique.{converts_unique, converts_left}
 use Rattle.octets.proofs.Laws.{format_served}
 use Rattle.adorned.specs.Told.{told}
 use Rattle.adorned.specs.Lent.{adorned_types}
@@ -86,7 +86,7 @@ judge_edges_agree κs a (Err d) e x = tt
 
 -- the answer, and every lent byte and place after it
 pub reshape_settled : Settled {X = Result ℕ Refusal × (List ℕ × List ℕ)} reshape.Asked reshape.Learnt (λ κs r e. (r, (e.1.1.1.0.now, e.1.1.1.1.0.now)))
-reshape_settled = ((λ κs a. tt), λ κs a r s e f x y. (let u = reshaping.reshape_unique x y in three (count_same r s u.0, u.1, u.2)))
+reshape_settled = ((λ κs a. tt), λ κs a r s e f x y. three (reshaping.reshape_unique {a = r} x {b = s} y))
 
 -- what the call leaves keeps the whole promise, each of its parts
 pub reshape_promises : Promises reshape.Learnt (λ κs a r e.
@@ -116,7 +116,7 @@ summarise-shows-all κs a r e x = reshaping.all_shown (format_of a.0) a.1.0.now 
 -- ---- widening and narrowing: the answer, and every lent byte after it
 moved_settled : (m : Widths.Moved) (r s : Result ℕ Refusal) (new₁ new₂ : List ℕ) → Moves m (counted r) new₁ → Moves m (counted s) new₂
     → ◌≡◌ {A = Result ℕ Refusal × List ℕ} (r, new₁) (s, new₂)
-moved_settled m r s new₁ new₂ x y = let u = moves_unique m (counted r) (counted s) new₁ new₂ x y in both (count_same r s u.0, u.1)
+moved_settled m r s new₁ new₂ x y = both (moves_unique m r s new₁ new₂ x y)
 
 pub widen_table_settled : Settled {X = Result ℕ Refusal × List ℕ} widen-table.Asked widen-table.Learnt (λ κs r e. (r, e.1.0.now))
 widen_table_settled = ((λ κs a. tt), λ κs a r s e f. moved_settled _ r s _ _)
@@ -133,7 +133,7 @@ narrow_shape_settled = ((λ κs a. tt), λ κs a r s e f. moved_settled _ r s _ 
 -- ---- converting labels: the answer, and every byte lent for the table and for the shape after it
 pub convert_labels_settled : Settled {X = Result Converted Refusal × (List ℕ × List ℕ)} convert-labels.Asked convert-labels.Learnt
     (λ κs r e. (r, (e.1.1.1.1.0.now, e.1.1.1.1.1.0.now)))
-convert_labels_settled = ((λ κs a. tt), λ κs a r s e f x y. (let u = converts_unique _ (converted r) (converted s) _ _ _ _ x y in three (converted_same r s u.0, u.1, u.2)))
+convert_labels_settled = ((λ κs a. tt), λ κs a r s e f x y. three (converts_unique _ r s _ _ _ _ x y))
 
 -- What an accepted call leaves is an accepted conversion, of which the theorems on one are (paper's ConvertedCalls).
 pub convert-labels-leaves : Promises convert-labels.Learnt (λ κs a r e. IfOk r (λ c.

@@ -1,3 +1,4 @@
 pub mod Named
+pub mod Says
 pub mod Told
 pub mod Unique

@@ -1,20 +1,24 @@
 -- Laws of the answers in numbers: where a looked-up row stands, the verdict and the second answer. Assumes nothing.
 use Prim.Native.Nat.{ℕ, ◌*◌, ◌≤◌, ◌<◌}
 use native.Mathlib.Omega.{arith}
-use mathlib.Core.Path.{◌≡◌, sym, ◌∙◌, ap}
+use mathlib.Core.Path.{◌≡◌, refl, sym, ◌∙◌, ap}
 use mathlib.Core.List.{List, [], ◌∷◌, ◌++◌}
 use lib.ListN.{length, take, drop, get_or}
 use Rattle.paper.specs.Lists.{padded}
 use Rattle.paper.specs.Format.{Format, most_rows, row_bytes, whole}
 use Rattle.paper.specs.Tables.{rows}
-use Rattle.paper.specs.Verdict.{Judgement}
-use Rattle.paper.specs.Calls.{given, Reply, tests1_3, look_up}
+use Rattle.paper.specs.Verdict as paper
+use Rattle.paper.specs.Verdict.{Judgement, kept, missing, apart, unsure, verdict_numbers}
+use Rattle.paper.specs.Calls.{given, Reply, no_judgement, tests1_3, look_up}
+use Rattle.paper.specs.Refusals.{reply_of}
 use Rattle.std.specs.Prelude.{Result, Ok, Err}
 use Rattle.paper.specs.Figures.{Figures}
 use Rattle.paper.specs.Labels as Labels
 use Rattle.paper.specs.declared.refusal.Refusal.{Refusal}
-use Rattle.judging.specs.Judged.{InNumbers, judged, in_numbers}
+use Rattle.judging.specs.Judged.{numbers_of, InNumbers, judged, in_numbers}
 use Rattle.judging.specs.declared.judge.Judged.{Judged}
+use Rattle.judging.specs.declared.verdict.Verdict.{Verdict}
+use Rattle.judging.specs.declared.verdict.Verdict.TheVariants.{Kept, Missing, Apart, Unsure}
 use Rattle.paper.proofs.Calls.{passed1_3}
 use Rattle.octets.proofs.Laws.{record_length}
 use Rattle.tables.specs.Reply.{start_of}
@@ -85,6 +89,41 @@ four_of y = record {
 pub in_four_lem : (j : Result Judged Refusal) (x : Reply Judgement) → judged j ≡ in_numbers x → judged_numbers j ≡ four_numbers x
 in_four_lem (Ok j) x e = ap {B = Reply InFour} four_of e
 in_four_lem (Err d) x e = ap {B = Reply InFour} four_of e
+
+-- a verdict as Rattle's call answers it
+answered : (v : paper.Verdict) → (w : Verdict) × (numbers_of w ≡ verdict_numbers v)
+answered kept = (Kept, refl)
+answered (missing e r) = (Missing e r, refl)
+answered (apart e f) = (Apart e f, refl)
+answered (unsure e f) = (Unsure e f, refl)
+
+as_answered : Judgement → Judged
+as_answered x = record {
+  verdict = (answered x.verdict).0;
+  none_apart = x.none_apart;
+  least_children = x.edges.least_children;
+  greatest_children = x.edges.greatest_children;
+  least_parents = x.edges.least_parents;
+  greatest_parents = x.edges.greatest_parents;
+}
+
+-- an answer of Rattle's call that says what a reply does whose refusal has a name
+spoken : (x : Reply Judgement) (n : Result Judgement Refusal) → x ≡ reply_of no_judgement (λ y. y) n → (j : Result Judged Refusal) × (judged j ≡ in_numbers x)
+unfolding as_answered
+spoken x (Ok y) e = (
+  Ok (as_answered y),
+  (λ i. record {
+    number = 0;
+    place = 0;
+    rest = record { verdict = (answered y.verdict).1 i; none_apart = y.none_apart; edges = y.edges };
+  }) ∙ ap in_numbers (sym e),
+)
+spoken x (Err d) e = (Err d, ap in_numbers (sym e))
+
+-- who is told a judgement in numbers is told an answer of Rattle's call, whichever reply it is whose refusal has a name
+pub tells : (x : Reply Judgement) (n : Result Judgement Refusal) → x ≡ reply_of no_judgement (λ y. y) n → (r : JudgedNumbers) → in_four r ≡ four_numbers x
+    → (j : Result Judged Refusal) × ((judged j ≡ in_numbers x) × (in_four r ≡ judged_numbers j))
+tells x n e r told = let (j, is) = spoken x n e in (j, (is, told ∙ sym (in_four_lem j x is)))
 
 -- two answers that are one reply are one
 pub judged-same : (a b : JudgedNumbers) → in_four a ≡ in_four b → a ≡ b

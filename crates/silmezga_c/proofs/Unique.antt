@@ -1,12 +1,12 @@
 -- The contract of each exported call, as this crate's source has it, asks nothing, settles what a caller sees, and has each property that is proved of
--- Rattle's call, at the width that the number names. A clause taken away or weakened is refused here. Assumes nothing.
+-- Rattle's call, at the width that the number names: it says what Rattle's says (`Says`), so that what is proved of Rattle's is carried over. A clause
+-- taken away or weakened is refused here, or there. Assumes nothing.
 use Prim.Native.Nat.{ℕ, ◌*◌}
 use mathlib.Core.Path.{◌≡◌, refl, sym, ◌∙◌, ap, subst}
 use mathlib.Core.List.{List, map}
 use lib.ListN.{length, take}
 use Rattle.paper.specs.Format.{Format, row_bytes}
 use Rattle.paper.specs.Verdict.{kept}
-use Rattle.paper.specs.Widths as Widths
 use Rattle.paper.specs.Calls.{Reply, given, adorn, judge, summarise}
 use Rattle.paper.specs.Tables.{Row}
 use Rattle.paper.specs.Labels.{pairs, converting}
@@ -17,35 +17,29 @@ use Rattle.paper.specs.Index.{tests_index}
 use Rattle.paper.proofs.Edges.{judge_agrees}
 use Rattle.paper.proofs.Index.{index_reads}
 use Rattle.paper.proofs.WithIndex.{judge-plain}
-use Rattle.grammar.specs.Typed.{Reading}
-use Rattle.grammar.proofs.Right.{read_tree_unique}
 use Rattle.octets.proofs.Laws.{format_served}
-use Rattle.widths.specs.Answers.{Moves}
-use Rattle.widths.proofs.Unique.{moves_unique}
-use Rattle.labels.proofs.Unique.{converts_unique, converts_left}
-use Rattle.typed.specs.Read.{reading_of}
-use Rattle.spelling.proofs.Unique.{prints_unique}
-use Rattle.indexes.proofs.Unique.{builds_unique}
+use Rattle.labels.specs.Answers.{converted}
+use Rattle.labels.proofs.Unique.{converts_left}
 use Rattle.adorned.specs.Told.{told}
 use Rattle.adorned.specs.declared.TypeSummary.{TypeSummary}
 use Rattle.adorned.proofs.Unique.{told_same}
-use Rattle.reshaping.specs.Reshaped.{Reshapes}
+use Rattle.reshaping.specs.Reshaped.{reshaped, summarised, Reshapes}
 use Rattle.reshaping.proofs.Unique as reshaping
-use Rattle.settling.proofs.Settles.{Settled, Promises, Walk-settled, both, three, nothing, two_clauses}
-use Rattle.std.specs.Prelude.{Result}
-use Rattle.paper.specs.declared.Width.{Width}
-use Rattle.paper.specs.declared.refusal.Refusal.{Refusal}
-use Rattle.judging.specs.declared.judge.Judged.{Judged}
-use Rattle.silmezga.proofs.judge.Reads as judge'
-use Rattle.silmezga.proofs.judge_with_index.Reads as judge-with-index'
-use Rattle.silmezga.proofs.Trees.{width_named}
+use Rattle.settling.proofs.Settles.{Settled, Promises, Walk-settled, both, nothing, two_clauses, Holds-told, settled_told, answer_told, holds_told}
 use Rattle.silmezga_c.specs.Told.{width_of, format_numbered, InFour, edges_told, in_four, four_numbers}
 use Rattle.silmezga_c.specs.Numbers.{told_count, told_converted, told_summary, judged_numbers}
 use Rattle.silmezga_c.specs.declared.answers.Counted.{Counted}
 use Rattle.silmezga_c.specs.declared.answers.ConvertedNumbers.{ConvertedNumbers}
-use Rattle.silmezga_c.specs.declared.answers.JudgedNumbers.{JudgedNumbers}
+use Rattle.paper.specs.Refusals.{counted}
+use Rattle.tables.specs.Reply.{examined}
+use Rattle.indexes.specs.Built.{built}
+use Rattle.silmezga.proofs.Unique as rattle
+use Rattle.silmezga.proofs.Indexed as indexed
+use Rattle.silmezga_c.proofs.Says.{wide, same, examine_tells, judge_tells, judge_with_index_tells, reshape_says, reshape_tells, summarise_says, summarise_tells}
+use Rattle.silmezga_c.proofs.Says.{widen_table_tells, narrow_table_tells, widen_shape_tells, narrow_shape_tells, convert_labels_says, convert_labels_tells}
+use Rattle.silmezga_c.proofs.Says.{read_tree_tells, print_tree_tells, build_index_tells, reshape_with_index_says, reshape_with_index_tells}
+use Rattle.silmezga_c.proofs.Says.{summarise_with_index_says, summarise_with_index_tells}
 use Rattle.silmezga_c.proofs.Told.{look_up_unique, count_told, converted_told, summary_told, judged-same}
-use Rattle.silmezga_c.proofs.Named.{judge_told, judge_with_told}
 use Rattle.silmezga_c.proofs.silmezga_examine.Reads as examine
 use Rattle.silmezga_c.proofs.silmezga_look_up.Reads as look_up
 use Rattle.silmezga_c.specs.contracts.silmezga_adorn as adorn-call
@@ -66,7 +60,7 @@ use Rattle.silmezga_c.proofs.silmezga_summarise_with_index.Reads as summarise-wi
 
 -- ---- examining and looking up
 pub examine_settled : Settled examine.Asked examine.Learnt (λ κs r e. r)
-examine_settled = ((λ κs a. tt), λ κs a r s e f x y. count_told r s (x ∙ sym y))
+examine_settled = answer_told wide wide told_count examined examine.Learnt count_told rattle.examine_settled (λ κs a. tt) examine_tells
 
 pub look_up_settled : Settled look_up.Asked look_up.Learnt (λ κs r e. r)
 look_up_settled = ((λ κs a. tt), λ κs a r s e f x y. look_up_unique x y)
@@ -86,21 +80,8 @@ adorn_settled = (
 )
 
 -- ---- judging
-abbrev wide : {X : Type 0} → ℕ × X → Width × X
-wide a = (width_of a.0, a.1)
-
-module _ {K A D : Type 0} (Learnt : K → ℕ × A → JudgedNumbers → ℕ × D → Type 0) (Learnt' : K → Width × A → Result Judged Refusal → Width × D → Type 0) where
-  -- whatever is learnt of the call for C, it tells an answer of Rattle's
-  abbrev Tells : Type 0
-  Tells =
-      (κs : K) (a : ℕ × A) (r : JudgedNumbers) (e : ℕ × D) → Learnt κs a r e
-      → (j : Result Judged Refusal) × (Learnt' κs (wide a) j (wide e) × (in_four r ≡ judged_numbers j))
-
-judge_tells : Tells judge-call.Learnt judge'.Learnt
-judge_tells κs a r e = judge_told (format_numbered a.0) a.1.0.now a.1.1.0.now r
-
 pub judge_settled : Settled judge-call.Asked judge-call.Learnt (λ κs r e. r)
-judge_settled = ((λ κs a. tt), λ κs a r s e f x y. judged-same r s (x ∙ sym y))
+judge_settled = answer_told wide wide in_four judged_numbers judge-call.Learnt judged-same rattle.judge_settled (λ κs a. tt) judge_tells
 
 -- where judging is accepted, the numbers of each edge agree with rows and verdict
 pub judge_edges_agree : Promises judge-call.Learnt
@@ -111,13 +92,16 @@ judge_edges_agree κs a r e x accepted =
 
 -- ---- reshaping: the answer, and every lent byte and place after it
 pub reshape_settled : Settled {X = Counted × (List ℕ × List ℕ)} reshape.Asked reshape.Learnt (λ κs r e. (r, (e.1.1.1.0.now, e.1.1.1.1.0.now)))
-reshape_settled = ((λ κs a. tt), λ κs a r s e f x y. (let u = reshaping.reshape_unique x y in three (count_told r s u.0, u.1, u.2)))
+reshape_settled = settled_told wide wide told_count reshaped reshape.Learnt count_told rattle.reshape_settled (λ κs a. tt) reshape_tells
 
 -- what the call leaves keeps the whole promise, each of its parts
 pub reshape_promises : Promises reshape.Learnt (λ κs a r e.
     Reshapes (format_numbered a.0) a.1.0.now a.1.1.0.now a.1.1.1.0.now a.1.1.1.1.0.now (told_count r)
     e.1.1.1.0.now e.1.1.1.1.0.now)
 reshape_promises κs a r e x = x
+
+pub reshape_promises_told : Holds-told wide wide told_count reshaped reshape.Learnt rattle.reshape_promises
+reshape_promises_told = holds_told wide wide told_count reshaped reshape.Learnt rattle.reshape_promises reshape_says
 
 -- demand 3: where the reshape is accepted and the verdict on the same table and shape is 0, what the call leaves keeps the links
 pub reshape_keeps_links : Promises reshape.Learnt (λ κs a r e. r.number ≡ 0
@@ -126,43 +110,46 @@ pub reshape_keeps_links : Promises reshape.Learnt (λ κs a r e. r.number ≡ 0
     (take (r.count * row_bytes (format_numbered a.0)) e.1.1.1.0.now) (take r.count e.1.1.1.1.0.now))
 reshape_keeps_links κs a r e x = reshaping.links_promised x
 
+pub reshape_keeps_links_told : Holds-told wide wide told_count reshaped reshape.Learnt rattle.reshape_keeps_links
+reshape_keeps_links_told = holds_told wide wide told_count reshaped reshape.Learnt rattle.reshape_keeps_links reshape_says
+
 -- ---- summarising
 pub summarise_settled : Settled summarise-call.Asked summarise-call.Learnt (λ κs r e. r)
-summarise_settled = ((λ κs a. tt), λ κs a r s e f x y. summary_told r s (x ∙ sym y))
+summarise_settled = answer_told wide wide told_summary summarised summarise-call.Learnt summary_told rattle.summarise_settled (λ κs a. tt) summarise_tells
 
 -- the figures of each entry agree: its different rows are no more than its lines, nor than the rows of its type, and its other lines are copies
 pub summarise_agrees : Promises summarise-call.Learnt (λ κs a r e. (n : ℕ) → FiguresAgree (told_summary r).rest n)
 summarise_agrees κs a r e x = reshaping.figures_agree (format_numbered a.0) a.1.0.now a.1.1.0.now (told_summary r) x
+
+pub summarise_agrees_told : Holds-told wide wide told_summary summarised summarise-call.Learnt rattle.summarise_agrees
+summarise_agrees_told = holds_told wide wide told_summary summarised summarise-call.Learnt rattle.summarise_agrees summarise_says
 
 -- where the verdict on the same table and shape is 0, every row of an entry's type is shown
 pub summarise-shows-all : Promises summarise-call.Learnt (λ κs a r e.
     (judge (format_numbered a.0) a.1.0.now a.1.1.0.now).rest.verdict ≡ kept → r.different ≡ r.rows)
 summarise-shows-all κs a r e x = reshaping.all_shown (format_numbered a.0) a.1.0.now a.1.1.0.now (told_summary r) x
 
--- ---- widening and narrowing: the answer, and every lent byte after it
-moved_settled : (m : Widths.Moved) (r s : Counted) (new₁ new₂ : List ℕ) → Moves m (told_count r) new₁ → Moves m (told_count s) new₂
-    → ◌≡◌ {A = Counted × List ℕ} (r, new₁) (s, new₂)
-moved_settled m r s new₁ new₂ x y = let u = moves_unique m (told_count r) (told_count s) new₁ new₂ x y in both (count_told r s u.0, u.1)
+pub summarise-shows-all-told : Holds-told wide wide told_summary summarised summarise-call.Learnt rattle.summarise-shows-all
+summarise-shows-all-told = holds_told wide wide told_summary summarised summarise-call.Learnt rattle.summarise-shows-all summarise_says
 
+-- ---- widening and narrowing: the answer, and every lent byte after it
 pub widen_table_settled : Settled {X = Counted × List ℕ} widen-table.Asked widen-table.Learnt (λ κs r e. (r, e.1.0.now))
-widen_table_settled = ((λ κs a. tt), λ κs a r s e f. moved_settled _ r s _ _)
+widen_table_settled = settled_told same same told_count counted widen-table.Learnt count_told rattle.widen_table_settled (λ κs a. tt) widen_table_tells
 
 pub narrow_table_settled : Settled {X = Counted × List ℕ} narrow-table.Asked narrow-table.Learnt (λ κs r e. (r, e.1.0.now))
-narrow_table_settled = ((λ κs a. tt), λ κs a r s e f. moved_settled _ r s _ _)
+narrow_table_settled = settled_told same same told_count counted narrow-table.Learnt count_told rattle.narrow_table_settled (λ κs a. tt) narrow_table_tells
 
 pub widen_shape_settled : Settled {X = Counted × List ℕ} widen-shape.Asked widen-shape.Learnt (λ κs r e. (r, e.1.0.now))
-widen_shape_settled = ((λ κs a. tt), λ κs a r s e f. moved_settled _ r s _ _)
+widen_shape_settled = settled_told same same told_count counted widen-shape.Learnt count_told rattle.widen_shape_settled (λ κs a. tt) widen_shape_tells
 
 pub narrow_shape_settled : Settled {X = Counted × List ℕ} narrow-shape.Asked narrow-shape.Learnt (λ κs r e. (r, e.1.0.now))
-narrow_shape_settled = ((λ κs a. tt), λ κs a r s e f. moved_settled _ r s _ _)
+narrow_shape_settled = settled_told same same told_count counted narrow-shape.Learnt count_told rattle.narrow_shape_settled (λ κs a. tt) narrow_shape_tells
 
 -- ---- converting labels: the answer, and every byte lent for the table and for the shape after it
 pub convert_labels_settled : Settled {X = ConvertedNumbers × (List ℕ × List ℕ)} convert-labels.Asked convert-labels.Learnt
     (λ κs r e. (r, (e.1.1.1.1.0.now, e.1.1.1.1.1.0.now)))
-convert_labels_settled = (
-  (λ κs a. tt),
-  λ κs a r s e f x y. (let u = converts_unique _ (told_converted r) (told_converted s) _ _ _ _ x y in three (converted_told r s u.0, u.1, u.2)),
-)
+convert_labels_settled =
+    settled_told wide wide told_converted converted convert-labels.Learnt converted_told rattle.convert_labels_settled (λ κs a. tt) convert_labels_tells
 
 -- What an accepted call leaves is an accepted conversion, of which the theorems on one are (paper's ConvertedCalls).
 pub convert-labels-leaves : Promises convert-labels.Learnt (λ κs a r e. r.number ≡ 0
@@ -175,30 +162,23 @@ pub convert-labels-leaves : Promises convert-labels.Learnt (λ κs a r e. r.numb
     ))
 convert-labels-leaves κs a r e x = converts_left (format_numbered a.0) (format_served _ (width_of a.0) refl).small _ _ _ _ _ (told_converted r) _ _ x
 
+pub convert-labels-leaves-told : Holds-told wide wide told_converted converted convert-labels.Learnt rattle.convert-labels-leaves
+convert-labels-leaves-told = holds_told wide wide told_converted converted convert-labels.Learnt rattle.convert-labels-leaves convert_labels_says
+
 -- ---- typed trees: the answer, and every byte lent for the shape or the line after it
 pub read_tree_settled : Settled {X = Counted × List ℕ} read-tree.Asked read-tree.Learnt (λ κs r e. (r, e.1.1.1.0.now))
-read_tree_settled = (
-  (λ κs a. tt),
-  λ κs a r s e f x y. (
-      let u = read_tree_unique (format_numbered a.0) (width_named (width_of a.0)) _ _ _ (reading_of (told_count r) _) (reading_of (told_count s) _) x y in
-      both (count_told r s (ap (λ (z : Reading). z.reply) u), ap (λ (z : Reading). z.shape) u)),
-)
+read_tree_settled = settled_told wide wide told_count counted read-tree.Learnt count_told rattle.read_tree_settled (λ κs a. tt) read_tree_tells
 
 pub print_tree_settled : Settled {X = Counted × List ℕ} print-tree.Asked print-tree.Learnt (λ κs r e. (r, e.1.1.0.now))
-print_tree_settled = (
-  (λ κs a. tt),
-  λ κs a r s e f x y. (let u = prints_unique _ (told_count r) (told_count s) _ _ x y in both (count_told r s u.0, u.1)),
-)
+print_tree_settled = settled_told wide wide told_count counted print-tree.Learnt count_told rattle.print_tree_settled (λ κs a. tt) print_tree_tells
 
 -- ---- with an index
 pub build_index_settled : Settled {X = Counted × (List ℕ × List ℕ)} build-index.Asked build-index.Learnt (λ κs r e. (r, (e.1.1.0.now, e.1.1.1.0.now)))
-build_index_settled = ((λ κs a. tt), λ κs a r s e f x y. (let u = builds_unique x y in three (count_told r s u.0, u.1, u.2)))
-
-judge_with_index_tells : Tells judge-with-index.Learnt judge-with-index'.Learnt
-judge_with_index_tells κs a r e = judge_with_told (format_numbered a.0) a.1.0.now a.1.1.0.now a.1.1.1.0.now a.1.1.1.1.0.now r
+build_index_settled = settled_told wide wide told_count built build-index.Learnt count_told indexed.build_index_settled (λ κs a. tt) build_index_tells
 
 pub judge_with_index_settled : Settled judge-with-index.Asked judge-with-index.Learnt (λ κs r e. r)
-judge_with_index_settled = ((λ κs a. tt), λ κs a r s e f x y. judged-same r s (x ∙ sym y))
+judge_with_index_settled =
+    answer_told wide wide in_four judged_numbers judge-with-index.Learnt judged-same indexed.judge_with_index_settled (λ κs a. tt) judge_with_index_tells
 
 -- where the lists are this table's, it is what judging without an index says
 pub judge_with_index_plain : Promises judge-with-index.Learnt (λ κs a r e.
@@ -208,7 +188,8 @@ judge_with_index_plain κs a r e x rs g = x ∙ ap four_numbers (judge-plain _ _
 
 pub reshape_with_index_settled : Settled {X = Counted × (List ℕ × List ℕ)} reshape-with-index.Asked reshape-with-index.Learnt
     (λ κs r e. (r, (e.1.1.1.1.1.0.now, e.1.1.1.1.1.1.0.now)))
-reshape_with_index_settled = ((λ κs a. tt), λ κs a r s e f x y. (let u = reshaping.reshape_with_unique x y in three (count_told r s u.0, u.1, u.2)))
+reshape_with_index_settled =
+    settled_told wide wide told_count reshaped reshape-with-index.Learnt count_told indexed.reshape_with_index_settled (λ κs a. tt) reshape_with_index_tells
 
 -- where the lists are this table's, all that is promised of a reshape without an index holds: demand 3 and the others
 pub reshape_with_index_plain : Promises reshape-with-index.Learnt (λ κs a r e.
@@ -217,11 +198,20 @@ pub reshape_with_index_plain : Promises reshape-with-index.Learnt (λ κs a r e.
     e.1.1.1.1.1.0.now e.1.1.1.1.1.1.0.now)
 reshape_with_index_plain κs a r e x = reshaping.plain_promised x
 
+pub reshape_with_index_plain_told : Holds-told wide wide told_count reshaped reshape-with-index.Learnt indexed.reshape_with_index_plain
+reshape_with_index_plain_told =
+    holds_told wide wide told_count reshaped reshape-with-index.Learnt indexed.reshape_with_index_plain reshape_with_index_says
+
 pub summarise_with_index_settled : Settled summarise-with-index.Asked summarise-with-index.Learnt (λ κs r e. r)
-summarise_with_index_settled = ((λ κs a. tt), λ κs a r s e f x y. summary_told r s (x ∙ sym y))
+summarise_with_index_settled = answer_told wide wide told_summary summarised summarise-with-index.Learnt summary_told
+    indexed.summarise_with_index_settled (λ κs a. tt) summarise_with_index_tells
 
 -- where the lists are this table's, it is the summary without an index
 pub summarise_with_index_plain : Promises summarise-with-index.Learnt (λ κs a r e.
     (rs : List Row) → tests_index (format_numbered a.0) a.1.0.now a.1.1.1.0.now a.1.1.1.1.0.now ≡ given rs
     → told_summary r ≡ summarise (format_numbered a.0) a.1.0.now a.1.1.0.now)
 summarise_with_index_plain κs a r e x = reshaping.summary_as_plain _ _ _ _ _ (told_summary r) x
+
+pub summarise_with_index_plain_told : Holds-told wide wide told_summary summarised summarise-with-index.Learnt indexed.summarise_with_index_plain
+summarise_with_index_plain_told =
+    holds_told wide wide told_summary summarised summarise-with-index.Learnt indexed.summarise_with_index_plain summarise_with_index_says

@@ -26,7 +26,8 @@ ghost use Rattle.silmezga_c.specs.Told.{width_of, format_numbered, LooksUp, in_f
 ghost use Rattle.silmezga_c.specs.Numbers.{told_count, told_summary, told_converted};
 
 use adorned::TypeSummary;
-use answers::{ConvertedNumbers, Counted, JudgedNumbers, SummaryNumbers};
+pub use answers::JudgedNumbers;
+use answers::{ConvertedNumbers, Counted, SummaryNumbers};
 use silmezga::{Refusal, Width};
 
 // The width that a number names.
