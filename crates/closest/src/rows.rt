@@ -11,8 +11,8 @@ use paper::refusal::Refusal;
 use tables::table::examine;
 use types::list::list_types;
 
-// The number of rows and the types: how many, and of each its parent type (64 for none) and last label. It is small enough to go by value with
-// no call that copies.
+// The number of rows and the types: how many, and of each its parent type (64 for none) and last label. It is small enough to go by value: it is
+// copied once, into the answer.
 #[derive(Clone, Copy, Drop)]
 pub struct RowsRead {
     pub rows: usize,
