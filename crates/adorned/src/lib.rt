@@ -38,34 +38,31 @@ fn with_count(r: Option<Range>, c: usize) -> Range
     }
 }
 
-// The least and the greatest number of children of type k under a row of type p; zeros where there is no such row. `here` is the number under
-// the last such row so far, and r the range of those before it.
+// The least and the greatest number of children of type k under a row of type p; zeros where there is no such row. The first such row is
+// looked for by itself, so that the walk from there on has nothing to ask but a row's type: `c` is the number under the last such row so far,
+// and r the range of those before it.
 fn children_range(types: &[u8], rows: usize, p: usize, k: usize) -> Range
     requires { rows ≤ length types.now }
     ensures { CountRange (runs p k (take rows types.now)) result.least result.greatest }
 {
-    let mut r = None;
-    let mut here = None;
-    for t in &types[..rows] {
-        let x = octets::wide(*t);
-        if x == p {
-            if let Some(c) = here {
-                r = Some(with_count(r, c));
-            }
-            here = Some(0);
-        } else if x == k {
-            if let Some(c) = here {
-                here = Some(c + 1);
-            }
-        }
-    }
-    match here {
-        Some(c) => with_count(r, c),
-        None => Range {
+    let Some(first) = types[..rows].iter().position(|t| octets::wide(*t) == p) else {
+        return Range {
             least: 0,
             greatest: 0,
-        },
+        };
+    };
+    let mut r = None;
+    let mut c = 0;
+    for i in first + 1..rows {
+        let x = octets::wide(types[i]);
+        if x == p {
+            r = Some(with_count(r, c));
+            c = 0;
+        } else if x == k {
+            c += 1;
+        }
     }
+    with_count(r, c)
 }
 
 // The summary of a type: its parent type (64 for none), last label, level, number of rows, and the least and the greatest number
