@@ -1,63 +1,126 @@
 -- The walks along the type numbers. Assumes nothing.
-use Prim.Native.Nat.{ℕ, ◌+◌, ◌≤◌, ◌<◌}
+use Prim.Native.Nat.{ℕ, zero, suc, ◌+◌, ◌≤◌, ◌<◌}
+use native.Mathlib.Nat.{not-suc-le-zero, le_of_suc-le-suc}
+use native.Mathlib.Numerals.{add-one}
 use native.Mathlib.Omega.{arith}
-use mathlib.Core.Path.{◌≡◌, refl, sym, ◌∙◌, ap, subst}
+use mathlib.Core.Path.{◌≡◌, refl, sym, ◌∙◌, ap, ap₂}
 use mathlib.Core.Logic.{⊎_elim}
 use mathlib.Core.Bool.{Bool, true, false}
 use mathlib.Core.List.{List, [], ◌∷◌}
 use lib.Dec.{eqb}
 use lib.ListN.{length, get_or, drop, set}
-use lib.Seq.{get_or-set_same, get_or-set_other}
-use borrow.Author.Tests.{eqb-true, eqb-false}
+use lib.Seq.{drop-cons, get_or-set_same, get_or-set_other}
+use borrow.Author.Tests.{eqb-true, eqb-false, eq-eqb, ne_eqb, ltb-false}
+use Rattle.std.proofs.Common.{cond, nat_lt}
+use Rattle.std.specs.List.{position, position_or_len}
+use Rattle.std.proofs.lemmas.List.Quantifiers.{position-Some}
+use Rattle.std.proofs.lemmas.List.Sums.{fails_before_first}
 use Rattle.types.proofs.Step.{below}
 use Rattle.adorned.specs.Runs.{lead, runs, with_count, CountRange, TypeLevels}
 use Rattle.std.specs.Prelude.{Option, None, Some}
 use Rattle.std.proofs.lemmas.List.{at_drop_all}
 use Rattle.adorned.specs.declared.Range.{Range}
-use Rattle.adorned.proofs.Fold.{ended, ranged, ranged_all}
+use Rattle.adorned.proofs.Fold.{ranged, ranged_all}
 
--- the counts still to come: the current one goes on, where a parent has been seen
-abbrev pub left : Option ℕ → ℕ → ℕ → List ℕ → List ℕ
-left (Some c) p k rest = (c + lead p k rest) ∷ runs p k rest
-left None p k rest = runs p k rest
-
--- as many are counted under the last parent
-abbrev pub counted_here : Option ℕ → ℕ
-counted_here None = 0
-counted_here (Some c) = c
-
--- where no parent has been seen, no count is done
-abbrev pub Before : Option Range → Option ℕ → Type 0
-Before r None = r ≡ None
-Before r (Some c) = Unit {0}
+-- the counts still to come: the current one goes on
+abbrev pub left : ℕ → ℕ → ℕ → List ℕ → List ℕ
+left c p k rest = (c + lead p k rest) ∷ runs p k rest
 
 -- ---- the walk at place i of l
-pub record Walk (l : List ℕ) (p k : ℕ) (r : Option Range) (here : Option ℕ) (i : ℕ) : Type 0 where
+pub record Walk (l : List ℕ) (p k : ℕ) (r : Option Range) (c i : ℕ) : Type 0 where
   pub inside : i ≤ length l
-  pub counted : counted_here here ≤ i
-  pub before : Before r here
-  pub ends : ranged r (left here p k (drop i l)) ≡ ranged None (runs p k l)
+  pub counted : c ≤ i
+  pub ends : ranged r (left c p k (drop i l)) ≡ ranged None (runs p k l)
 
-pub walk_start : (l : List ℕ) (p k : ℕ) → Walk l p k None None 0
-walk_start l p k = record { inside = omega arith; counted = omega arith; before = refl; ends = refl }
+-- ---- the first parent
+module _ (p k : ℕ) where
+  -- from the first of type p on its count, and those after it
+  opened : (i : ℕ) (l : List ℕ) → i < length l → eqb (get_or l i 0) p ≡ true → ((j : ℕ) → j < i → eqb (get_or l j 0) p ≡ false)
+      → runs p k l ≡ left 0 p k (drop (suc i) l)
+  opened i [] lt here before = absurd (not-suc-le-zero lt)
+  opened zero (x ∷ l) lt here before = rw (here, runs) (ap {B = List ℕ} (λ n. n ∷ runs p k l) (omega arith))
+  opened (suc i) (x ∷ l) lt here before =
+      rw (before 0 (omega arith), runs) (opened i l (le_of_suc-le-suc lt) here (λ j lj. before (suc j) (omega (arith, lj))))
+
+  -- where none is of type p, nothing is counted
+  unopened : (l : List ℕ) → ((j : ℕ) → j < length l → eqb (get_or l j 0) p ≡ false) → runs p k l ≡ []
+  unopened [] before = refl
+  unopened (x ∷ l) before = rw (before 0 (omega arith), runs) (unopened l (λ j lj. before (suc j) (omega (arith, lj))))
+
+  pub walk_start : (l : List ℕ) (i : ℕ) → position (λ x. eqb x p) l ≡ Some i → Walk l p k None 0 (i + 1)
+  walk_start l i e =
+      let (lt, here, before) = position-Some (λ x. eqb x p) l i 0 e in record {
+        inside = omega (arith, lt);
+        counted = omega arith;
+        ends = ap (ranged None) (ap (λ n. left 0 p k (drop n l)) (add-one i) ∙ sym (opened i l lt here before));
+      }
+
+  pub walk_none : (l : List ℕ) → position (λ x. eqb x p) l ≡ None → CountRange (runs p k l) 0 0
+  walk_none l e =
+      let none = unopened l (λ j lj. fails_before_first (λ x. eqb x p) l j 0 (go (nat_lt (position_or_len (λ x. eqb x p) l) (length l)) refl e j lj)) in
+      rw none (refl, refl)
+    where
+      go : (t : Bool) → nat_lt (position_or_len (λ x. eqb x p) l) (length l) ≡ t → cond t (Some (position_or_len (λ x. eqb x p) l)) None ≡ None
+          → (j : ℕ) → j < length l → j < position_or_len (λ x. eqb x p) l
+      go true q e j lj = absurd (cc)
+      go false q e j lj = omega (arith, lj, ltb-false (position_or_len (λ x. eqb x p) l) (length l) q)
+
+-- ---- a row x, and the rows d after it
+module _ (p k x : ℕ) (d : List ℕ) where
+  left_parent : (c : ℕ) → eqb x p ≡ true → left c p k (x ∷ d) ≡ c ∷ left 0 p k d
+  left_parent c e =
+      let none : lead p k (x ∷ d) ≡ 0 = rw (e, lead) refl in
+      let more : runs p k (x ∷ d) ≡ lead p k d ∷ runs p k d = rw (e, runs) refl in
+      ap₂ {C = List ℕ} (λ n l. n ∷ l) (omega (arith, none)) (more ∙ ap {B = List ℕ} (λ n. n ∷ runs p k d) (omega arith))
+
+  left_child : (c : ℕ) → eqb x p ≡ false → eqb x k ≡ true → left c p k (x ∷ d) ≡ left (c + 1) p k d
+  left_child c e q =
+      let one : lead p k (x ∷ d) ≡ suc (lead p k d) = rw (e, lead) (rw q refl) in
+      let same : runs p k (x ∷ d) ≡ runs p k d = rw (e, runs) refl in
+      ap₂ {C = List ℕ} (λ n l. n ∷ l) (omega (arith, one)) same
+
+  left_other : (c : ℕ) → eqb x p ≡ false → eqb x k ≡ false → left c p k (x ∷ d) ≡ left c p k d
+  left_other c e q =
+      let none : lead p k (x ∷ d) ≡ lead p k d = rw (e, lead) (rw q refl) in
+      let same : runs p k (x ∷ d) ≡ runs p k d = rw (e, runs) refl in
+      ap₂ {C = List ℕ} (λ n l. n ∷ l) (omega (arith, none)) same
+
+module _ {l : List ℕ} {p k : ℕ} {r : Option Range} {c i : ℕ} (w : Walk l p k r c i) (lt : i < length l) (x : ℕ) (is : x ≡ get_or l i 0) where
+  more : (a : Option Range) (b : ℕ) → ranged r (left c p k (x ∷ drop (suc i) l)) ≡ ranged a (left b p k (drop (suc i) l))
+      → ranged a (left b p k (drop (i + 1) l)) ≡ ranged None (runs p k l)
+  more a b e =
+      ap (λ n. ranged a (left b p k (drop n l))) (add-one i) ∙ sym e
+      ∙ sym (ap (λ y. ranged r (left c p k y)) (drop-cons l i 0 lt ∙ ap {B = List ℕ} (λ n. n ∷ drop (suc i) l) (sym is))) ∙ w.ends
+
+  pub walk_parent : x ≡ p → Walk l p k (Some (with_count r c)) 0 (i + 1)
+  walk_parent e = record {
+    inside = omega (arith, lt);
+    counted = omega arith;
+    ends = more (Some (with_count r c)) 0 (ap (ranged r) (left_parent p k x (drop (suc i) l) c (eq-eqb x p e)));
+  }
+
+  pub walk_child : (x ≡ p → ⊥) → x ≡ k → Walk l p k r (c + 1) (i + 1)
+  walk_child np e = record {
+    inside = omega (arith, lt);
+    counted = omega (arith, w.counted);
+    ends = more r (c + 1) (ap (ranged r) (left_child p k x (drop (suc i) l) c (ne_eqb x p np) (eq-eqb x k e)));
+  }
+
+  pub walk_other : (x ≡ p → ⊥) → (x ≡ k → ⊥) → Walk l p k r c (i + 1)
+  walk_other np nk = record {
+    inside = omega (arith, lt);
+    counted = omega (arith, w.counted);
+    ends = more r c (ap (ranged r) (left_other p k x (drop (suc i) l) c (ne_eqb x p np) (ne_eqb x k nk)));
+  }
 
 -- ---- the walk at its end
-module _ (l : List ℕ) (p k : ℕ) (r : Option Range) (here : Option ℕ) (i : ℕ) (w : Walk l p k r here i) (le : length l ≤ i) where
-  in_the_end : (x : Range) → x ≡ ranged r (left here p k []) → CountRange (runs p k l) x.least x.greatest
-  in_the_end x e =
-      let q : x ≡ ranged None (runs p k l) = e ∙ sym (at_drop_all (λ d. ranged r (left here p k d)) l i le) ∙ w.ends in
-      let (lo, hi) = ranged_all (runs p k l) in
-      (ap (λ (x : Range). x.least) q ∙ lo, ap (λ (x : Range). x.greatest) q ∙ hi)
-
-  pub walk_some : (c : ℕ) → here ≡ Some c → (x : Range) → x ≡ with_count r c → CountRange (runs p k l) x.least x.greatest
-  walk_some c e x is =
-      let more : c ≡ c + 0 = omega arith in
-      in_the_end x (is ∙ ap (with_count r) more ∙ ap (λ h. ranged r (left h p k [])) (sym e))
-
-  pub walk_none : here ≡ None → CountRange (runs p k l) 0 0
-  walk_none e =
-      let unseen : r ≡ None = subst (Before r) e w.before in
-      in_the_end (ended None) (ap ended (sym unseen) ∙ ap (λ h. ranged r (left h p k [])) (sym e))
+pub walk_end : (l : List ℕ) (p k : ℕ) (r : Option Range) (c i : ℕ) → Walk l p k r c i → length l ≤ i → (x : Range) → x ≡ with_count r c
+    → CountRange (runs p k l) x.least x.greatest
+walk_end l p k r c i w le x is =
+    let more : c ≡ c + 0 = omega arith in
+    let q : x ≡ ranged None (runs p k l) = is ∙ ap (with_count r) more ∙ sym (at_drop_all (λ d. ranged r (left c p k d)) l i le) ∙ w.ends in
+    let (lo, hi) = ranged_all (runs p k l) in
+    (ap (λ (x : Range). x.least) q ∙ lo, ap (λ (x : Range). x.greatest) q ∙ hi)
 
 -- ---- the level of each type, one row more
 pub levels_more : (levels types found : List ℕ) (i k l : ℕ) → k ≡ get_or types i 0 → l ≡ get_or levels i 0 → k < length found

@@ -5,11 +5,11 @@
 pub mod lent;
 
 ghost use Rattle.std.specs.Prelude.{◌≡◌, [], map, ◌≤◌, length, take};
-ghost use Rattle.paper.specs.Format.{most_types};
+ghost use Rattle.paper.specs.Format.{most_rows, most_types};
 ghost use Rattle.octets.specs.Served.{Served};
 ghost use Rattle.closest.specs.Runs.{Rows};
 ghost use Rattle.adorned.specs.Runs.{runs, with_count, CountRange, TypeLevels};
-ghost use Rattle.adorned.specs.Told.{told, no_summary, placed, Summarises, SummariesOf, Says, adorn_figures};
+ghost use Rattle.adorned.specs.Told.{told, no_summary, placed, Summarises, SummariesOf, ReadsTypes, Says, adorn_figures};
 
 use closest::rows::{RowsRead, read_rows};
 use paper::Format;
@@ -38,34 +38,31 @@ fn with_count(r: Option<Range>, c: usize) -> Range
     }
 }
 
-// The least and the greatest number of children of type k under a row of type p; zeros where there is no such row. `here` is the number under
-// the last such row so far, and r the range of those before it.
+// The least and the greatest number of children of type k under a row of type p; zeros where there is no such row. The first such row is
+// looked for by itself, so that the walk from there on has nothing to ask but a row's type: `c` is the number under the last such row so far,
+// and r the range of those before it.
 fn children_range(types: &[u8], rows: usize, p: usize, k: usize) -> Range
     requires { rows ≤ length types.now }
     ensures { CountRange (runs p k (take rows types.now)) result.least result.greatest }
 {
-    let mut r = None;
-    let mut here = None;
-    for t in &types[..rows] {
-        let x = octets::wide(*t);
-        if x == p {
-            if let Some(c) = here {
-                r = Some(with_count(r, c));
-            }
-            here = Some(0);
-        } else if x == k {
-            if let Some(c) = here {
-                here = Some(c + 1);
-            }
-        }
-    }
-    match here {
-        Some(c) => with_count(r, c),
-        None => Range {
+    let Some(first) = types[..rows].iter().position(|t| octets::wide(*t) == p) else {
+        return Range {
             least: 0,
             greatest: 0,
-        },
+        };
+    };
+    let mut r = None;
+    let mut c = 0;
+    for i in first + 1..rows {
+        let x = octets::wide(types[i]);
+        if x == p {
+            r = Some(with_count(r, c));
+            c = 0;
+        } else if x == k {
+            c += 1;
+        }
     }
+    with_count(r, c)
 }
 
 // The summary of a type: its parent type (64 for none), last label, level, number of rows, and the least and the greatest number
@@ -167,6 +164,25 @@ fn summaries_of(read: RowsRead, levels: &[u8], types: &[u8]) -> [TypeSummary; 64
     all
 }
 
+// Refusals 1 to 4, then 10 where fewer places are lent than the table has types, or the rows, which both ways to adorn begin with.
+fn read_types(
+    table: &[u8],
+    f: Format,
+    lent: usize,
+    levels: &mut [u8],
+    types: &mut [u8],
+) -> Result<RowsRead, Refusal>
+    requires { Served f × (length levels.old ≡ most_rows) × (length types.old ≡ most_rows) }
+    ensures { ReadsTypes f table.now lent result levels.new types.new }
+{
+    let read = read_rows(table, f, levels, types)?;
+    let count = read.count;
+    if lent < count {
+        return Err(Refusal::TooFewSummaries);
+    }
+    Ok(read)
+}
+
 // Refusals 1 to 4, then 10 where fewer places are lent than the table has types, or the summaries of its types.
 pub fn adorn_by_value(table: &[u8], f: Format, lent: usize) -> Result<Adorned, Refusal>
     requires { Served f }
@@ -174,11 +190,8 @@ pub fn adorn_by_value(table: &[u8], f: Format, lent: usize) -> Result<Adorned, R
 {
     let mut levels = [0u8; 1024];
     let mut types = [0u8; 1024];
-    let read = read_rows(table, f, &mut levels, &mut types)?;
+    let read = read_types(table, f, lent, &mut levels, &mut types)?;
     let count = read.count;
-    if lent < count {
-        return Err(Refusal::TooFewSummaries);
-    }
     let summaries = summaries_of(read, &levels, &types);
     Ok(Adorned { count, summaries })
 }

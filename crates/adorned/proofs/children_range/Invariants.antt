@@ -3,5 +3,5 @@ use lib.ListN.{take}
 use Rattle.adorned.proofs.Walks.{Walk}
 use Rattle.adorned.proofs.children_range.Given as goal
 
-abbrev pub invariant-loop-t : goal.invariant-loop-t
-invariant-loop-t l = Walk (take l.rows l.types) l.p l.k l.r l.here l.t-index
+abbrev pub invariant-loop-i : goal.invariant-loop-i
+invariant-loop-i l = Walk (take l.rows l.types) l.p l.k l.r l.c l.i
