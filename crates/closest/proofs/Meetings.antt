@@ -44,7 +44,6 @@ module _ (f : Format) (rows : ℕ) (t : List ℕ) (sound : SoundRows f rows t) (
       at : (j : ℕ) → j < rows → get_or levels j 0 ≡ first_byte w t j
       at j lt = filled.at j (omega arith)
 
-
 -- ---- the walk along the rows
 -- after i rows: how deep the last of them meets the wanted types, and how deep the rows of each type do
 pub record Walked (levels types wanted : List ℕ) (i : ℕ) (near places : List ℕ) : Type 0 where

@@ -10,6 +10,7 @@ use borrow.Author.Tests.{leb-true, le-leb, ltb-true}
 use mir.Syntax.{w64}
 use mir.Val.{SFits}
 use Rattle.totals.specs.Sums.{within}
+
 -- A wrong definition is refused first by the sample that it breaks, so the samples stand before every law.
 
 -- A number lies from −n to n exactly if its size is at most n.

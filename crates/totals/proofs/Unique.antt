@@ -28,7 +28,7 @@ taken-same (Ok x) (Err n) e = absurd (numbered n.refusal (sym (ap (λ (z : Reply
 taken-same (Err n) (Ok y) e = absurd (numbered n.refusal (ap (λ (z : Reply Total). z.number) e))
 taken-same (Err n) (Err m) e = ap Err (λ i. record {
   refusal = same_refusal n.refusal m.refusal (ap (λ (z : Reply Total). z.number) e) (ap (λ (z : Reply Total). z.place) e) i;
-  total = (e i).rest
+  total = (e i).rest;
 })
 
 pub sum_tape_settled : Settled sum-tape.Asked sum-tape.Learnt (λ κs r e. r)
