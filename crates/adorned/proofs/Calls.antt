@@ -1,7 +1,7 @@
 -- Adorning by value, refusal by refusal. Assumes nothing.
 use Prim.Native.Nat.{ℕ, ◌≤◌, ◌<◌}
 use native.Mathlib.Omega.{arith}
-use mathlib.Core.Path.{◌≡◌, sym, ◌∙◌, ap, subst}
+use mathlib.Core.Path.{◌≡◌, refl, sym, ◌∙◌, ap, subst}
 use mathlib.Core.Bool.{Bool}
 use mathlib.Core.List.{List, []}
 use lib.Dec.{ltb}
@@ -11,10 +11,12 @@ use Rattle.paper.specs.Format.{Format}
 use Rattle.paper.specs.Tables.{Row, rows, types}
 use Rattle.paper.specs.Adorned.{Summary, adorned}
 use Rattle.paper.specs.Calls.{Answer, refused, given, ◌>>=◌, refuse, Reply, reply, tests1_4, adorning}
-use Rattle.adorned.specs.Told.{adorn_figures, Says}
-use Rattle.std.specs.Prelude.{Result}
+use Rattle.adorned.specs.Told.{adorn_figures, Says, ReadsTypes, SummariesOf}
+use Rattle.std.specs.Prelude.{Result, Ok}
 use Rattle.paper.specs.declared.refusal.Refusal.{Refusal}
+use Rattle.closest.specs.declared.rows.RowsRead.{RowsRead}
 use Rattle.adorned.specs.declared.Adorned.{Adorned}
+use Rattle.adorned.specs.declared.TypeSummary.{TypeSummary}
 use Rattle.adorned.proofs.All.{adorned-length}
 
 module _ (f : Format) (t : List ℕ) (lent : ℕ) (r : Result Adorned Refusal) where
@@ -45,3 +47,11 @@ module _ (f : Format) (t : List ℕ) (lent : ℕ) (r : Result Adorned Refusal) w
         → Says (adorn_figures f t lent) r
     says-given fits =
         says _ (tested (given (rows f t)) e ∙ ap from10 (le-ltb lent (length (adorned (rows f t))) (omega (arith, fits, adorned-length (rows f t)))))
+
+-- where the rows are read, the summaries of their types are the answer
+pub says_read : (f : Format) (t : List ℕ) (lent : ℕ) (read : RowsRead) (levels ks : List ℕ) → ReadsTypes f t lent (Ok read) levels ks
+    → (all : List TypeSummary) → SummariesOf read levels ks all → Says (adorn_figures f t lent) (Ok (record { count = read.count; summaries = all }))
+says_read f t lent read levels ks (rows_in, few) all of =
+    let count = rows_in.told.count-is in
+    says-given f t lent _ rows_in.given_is (omega (arith, few, count))
+    (record { number_is = refl; place_is = refl; given_is = (count ∙ sym (adorned-length (rows f t)), of f t rows_in) })

@@ -5,11 +5,11 @@
 pub mod lent;
 
 ghost use Rattle.std.specs.Prelude.{◌≡◌, [], map, ◌≤◌, length, take};
-ghost use Rattle.paper.specs.Format.{most_types};
+ghost use Rattle.paper.specs.Format.{most_rows, most_types};
 ghost use Rattle.octets.specs.Served.{Served};
 ghost use Rattle.closest.specs.Runs.{Rows};
 ghost use Rattle.adorned.specs.Runs.{runs, with_count, CountRange, TypeLevels};
-ghost use Rattle.adorned.specs.Told.{told, no_summary, placed, Summarises, SummariesOf, Says, adorn_figures};
+ghost use Rattle.adorned.specs.Told.{told, no_summary, placed, Summarises, SummariesOf, ReadsTypes, Says, adorn_figures};
 
 use closest::rows::{RowsRead, read_rows};
 use paper::Format;
@@ -148,20 +148,47 @@ fn no_summaries() -> [TypeSummary; 64]
     [none; 64]
 }
 
-// The summaries of the types of a table whose rows were read, one a type in type order.
-fn summaries_of(read: RowsRead, levels: &[u8], types: &[u8]) -> [TypeSummary; 64]
-    requires { Rows read.rows levels.now types.now × (read.count ≤ most_types) }
-    ensures { SummariesOf read levels.now types.now result }
+// Puts the summaries of the types of a table whose rows were read, one a type in type order, where none stood.
+fn put_summaries(read: RowsRead, levels: &[u8], types: &[u8], all: &mut [TypeSummary])
+    requires { Rows read.rows levels.now types.now × (read.count ≤ most_types) × (map told all.old ≡ placed []) }
+    ensures { SummariesOf read levels.now types.now all.new }
 {
     let depths = type_levels(levels, types, read.rows);
-    let mut all = no_summaries();
     for k in 0..read.count {
         let p = octets::wide(read.parents[k]);
         let a = octets::wide16(read.labels[k]);
         let l = octets::wide(depths[k]);
         all[k] = summary_of(types, read.rows, k, p, a, l);
     }
+}
+
+// The summaries of the types of a table whose rows were read.
+fn summaries_of(read: RowsRead, levels: &[u8], types: &[u8]) -> [TypeSummary; 64]
+    requires { Rows read.rows levels.now types.now × (read.count ≤ most_types) }
+    ensures { SummariesOf read levels.now types.now result }
+{
+    let mut all = no_summaries();
+    put_summaries(read, levels, types, &mut all);
     all
+}
+
+// Refusals 1 to 4, then 10 where fewer places are lent than the table has types, or the rows, which both ways to adorn begin with.
+fn read_types(
+    table: &[u8],
+    f: Format,
+    lent: usize,
+    levels: &mut [u8],
+    types: &mut [u8],
+) -> Result<RowsRead, Refusal>
+    requires { Served f × (length levels.old ≡ most_rows) × (length types.old ≡ most_rows) }
+    ensures { ReadsTypes f table.now lent result levels.new types.new }
+{
+    let read = read_rows(table, f, levels, types)?;
+    let count = read.count;
+    if lent < count {
+        return Err(Refusal::TooFewSummaries);
+    }
+    Ok(read)
 }
 
 // Refusals 1 to 4, then 10 where fewer places are lent than the table has types, or the summaries of its types.
@@ -171,11 +198,8 @@ pub fn adorn_by_value(table: &[u8], f: Format, lent: usize) -> Result<Adorned, R
 {
     let mut levels = [0u8; 1024];
     let mut types = [0u8; 1024];
-    let read = read_rows(table, f, &mut levels, &mut types)?;
+    let read = read_types(table, f, lent, &mut levels, &mut types)?;
     let count = read.count;
-    if lent < count {
-        return Err(Refusal::TooFewSummaries);
-    }
     let summaries = summaries_of(read, &levels, &types);
     Ok(Adorned { count, summaries })
 }

@@ -16,7 +16,6 @@ ghost use Rattle.grammar.specs.Typed.{print_tree};
 ghost use Rattle.paper.specs.Refusals.{number_in, place_in, counted};
 ghost use Rattle.tables.specs.Reply.{examined, HandsBack};
 ghost use Rattle.adorned.specs.Lent.{told, adorned_types};
-ghost use Rattle.adorned.specs.Told.{Says, adorn_figures};
 ghost use Rattle.widths.specs.Answers.{Moves};
 ghost use Rattle.labels.specs.Answers.{converted, Converts};
 ghost use Rattle.typed.specs.Read.{ReadsTree};
@@ -25,7 +24,6 @@ ghost use Rattle.indexes.specs.Built.{built, Builds};
 ghost use Rattle.judging.specs.Judged.{judged, in_numbers};
 ghost use Rattle.reshaping.specs.Reshaped.{reshaped, Reshapes, ReshapesWith, summarised};
 
-use adorned::Adorned;
 pub use adorned::TypeSummary;
 pub use judging::judge::Judged;
 pub use judging::verdict::Verdict;
@@ -57,23 +55,13 @@ pub fn look_up_refusal(width: Width, table: &[u8], row: usize) -> Result<(), Ref
     tables::table::look_up_refusal(table, paper::format_of(width), row)
 }
 
-// What adorning finds out of a table, by value.
-fn adorned_at(width: Width, table: &[u8], lent: usize) -> Result<Adorned, Refusal>
-    ensures { Says (adorn_figures (format_of width) table.now lent) result }
-{
-    adorned::adorn_by_value(table, paper::format_of(width), lent)
-}
-
 // Adorns a table: refusals 1 to 4, then 10, or the count of types, with one summary a type at the front of what was lent; what lies past
 // them stays as it was.
 pub fn adorn(width: Width, table: &[u8], summaries: &mut [TypeSummary]) -> Result<usize, Refusal>
     ensures result_value { adorned_types result ≡ (adorn (format_of width) table.now (map told summaries.old)).reply }
     ensures summaries_after { map told summaries.new ≡ (adorn (format_of width) table.now (map told summaries.old)).summaries }
 {
-    let adorned = adorned_at(width, table, summaries.len())?;
-    let count = adorned.count;
-    adorned::lent::store(summaries, adorned.summaries, count);
-    Ok(count)
+    adorned::lent::adorn(table, paper::format_of(width), summaries)
 }
 
 // Judges a table and a shape: refusals 1 to 7, or the verdict, the second answer, which is yes where no pair of entries would earn a 2, and for

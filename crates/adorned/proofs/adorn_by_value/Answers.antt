@@ -1,38 +1,15 @@
--- `adorn_by_value`: each test decides one refusal. Assumes nothing.
-use native.Mathlib.Omega.{arith}
-use mathlib.Core.Path.{refl, sym, ◌∙◌}
+-- `adorn_by_value`: the rows that were read have their summaries. Assumes nothing.
+use Rattle.adorned.proofs.Calls.{says_read}
 use Rattle.std.proofs.lemmas.Result.{err_from_is_err_and}
-use Rattle.paper.specs.Refusals.{refusal_number, refusal_place}
-use Rattle.paper.specs.Tables as Tables
-use Rattle.adorned.proofs.All.{adorned-length}
-use Rattle.adorned.proofs.Calls.{says-refused, says_short, says-given}
 use Rattle.adorned.proofs.adorn_by_value.Goals as goal
 
 pub returns-in_err-read : goal.returns-in_err-read
 returns-in_err-read c =
     let p = err_from_is_err_and c.from_residual.result c.from_residual.ensures.1 in
-    let e = c.in_err-read.field-0.0 in
-    rw (p.1, p.2)
-    (says-refused c.args.f c.args.table.now c.args.lent _ (refusal_number e) (refusal_place e) c.in_err-read.ensures
-    (record { number_is = refl; place_is = refl; given_is = tt }))
-
-pub returns-then-lent-count : goal.returns-then-lent-count
-returns-then-lent-count c =
-    let read = c.in_ok-read.ensures.1 in
-    says_short c.args.f c.args.table.now c.args.lent _ read.given_is (omega (arith, c.if-lent-count.true, read.told.count-is))
-    (record { number_is = refl; place_is = refl; given_is = tt })
+    rw (p.1, p.2) c.in_err-read.ensures
 
 pub summaries_of-summaries-requires : goal.summaries_of-summaries-requires
-summaries_of-summaries-requires c = let read = c.in_ok-read.ensures.1 in (read.rows_are, read.told.few)
+summaries_of-summaries-requires c = let read = c.in_ok-read.ensures.0 in (read.rows_are, read.told.few)
 
 pub returns : goal.returns
-returns c =
-    let a = c.args in
-    let read = c.in_ok-read.ensures.1 in
-    let count = read.told.count-is in
-    says-given a.f a.table.now a.lent _ read.given_is (omega (arith, c.if-lent-count.false, count))
-    (record {
-      number_is = refl;
-      place_is = refl;
-      given_is = (count ∙ sym (adorned-length (Tables.rows a.f a.table.now)), c.summaries_of-summaries.ensures a.f a.table.now read);
-    })
+returns c = let a = c.args in says_read a.f a.table.now a.lent _ _ _ c.in_ok-read.ensures _ c.summaries_of-summaries.ensures
