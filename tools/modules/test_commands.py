@@ -418,9 +418,9 @@ class CheckCopies(InFolder):
     def test_calls(self):
         status, out, _ = run("check_copies", self.archive({"silmezga_adorn": ["memcpy", "memset", "memcpy"], "one::two": ["silmezga_adorn"]}))
         self.assertEqual((status, out), (0, b"silmezga_adorn: memcpy 2, memset 1\n2 functions that call others, 0 of them copy more than they may\n"))
-        status, out, _ = run("check_copies", self.archive({"silmezga_adorn": ["memcpy"] * 8, "one::two": ["memmove", "memset"]}))
+        status, out, _ = run("check_copies", self.archive({"silmezga_adorn": ["memcpy"] * 3, "one::two": ["memmove", "memset"]}))
         self.assertEqual(status, 1)
-        self.assertIn(b"one::two: memmove 1, memset 1\nsilmezga_adorn: memcpy 8\none::two copies more", out)
+        self.assertIn(b"one::two: memmove 1, memset 1\nsilmezga_adorn: memcpy 3\none::two copies more", out)
         self.assertIn(b"silmezga_adorn copies more than it may\n2 functions that call others, 2 of them", out)
         self.assertEqual(run("check_copies", self.archive({"silmezga_summarise": ["memcpy"] * 6}))[0], 0)
         self.assertEqual(run("check_copies", self.archive({"silmezga_summarise": ["memcpy"] * 7}))[0], 1)

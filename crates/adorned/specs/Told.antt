@@ -1,5 +1,5 @@
 -- What is found out of a table, in the paper's terms. Assumes nothing.
-use Rattle.std.specs.Prelude.{ℕ, ◌-◌, ◌<◌, ◌≤◌, ◌≡◌, List, [], ◌++◌, map, length, get_or, replicate, Result, Ok, Err, IfOk}
+use Rattle.std.specs.Prelude.{ℕ, ◌-◌, ◌<◌, ◌≤◌, ◌≡◌, List, [], ◌++◌, map, length, get_or, take, drop, replicate, Result, Ok, Err, IfOk}
 use Rattle.paper.specs.Format.{Format, most_types}
 use Rattle.paper.specs.Tables as Tables
 use Rattle.paper.specs.Tables.{Row, types}
@@ -59,3 +59,7 @@ adorn_figures f t lent = reply [] (adorning f t lent)
 abbrev pub ReadsTypes : Format → List ℕ → ℕ → Result RowsRead Refusal → List ℕ → List ℕ → Type 0
 ReadsTypes f t lent (Ok r) levels ks = RowsIn f t r levels ks × (r.count ≤ lent)
 ReadsTypes f t lent (Err e) levels ks = Says (adorn_figures f t lent) (Err e)
+
+-- at the front of what was lent stand the summaries of the types of whatever table these rows are read of, and what lies past them stays as it was
+abbrev pub Stored : RowsRead → List ℕ → List ℕ → List TypeSummary → List TypeSummary → Type 0
+Stored read levels ks old new = (all : List TypeSummary) × (length all ≡ most_types) × SummariesOf read levels ks all × (new ≡ take read.count all ++ drop read.count old)

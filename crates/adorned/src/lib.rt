@@ -148,19 +148,27 @@ fn no_summaries() -> [TypeSummary; 64]
     [none; 64]
 }
 
-// The summaries of the types of a table whose rows were read, one a type in type order.
-fn summaries_of(read: RowsRead, levels: &[u8], types: &[u8]) -> [TypeSummary; 64]
-    requires { Rows read.rows levels.now types.now × (read.count ≤ most_types) }
-    ensures { SummariesOf read levels.now types.now result }
+// Puts the summaries of the types of a table whose rows were read, one a type in type order, where none stood.
+fn put_summaries(read: RowsRead, levels: &[u8], types: &[u8], all: &mut [TypeSummary])
+    requires { Rows read.rows levels.now types.now × (read.count ≤ most_types) × (map told all.old ≡ placed []) }
+    ensures { SummariesOf read levels.now types.now all.new }
 {
     let depths = type_levels(levels, types, read.rows);
-    let mut all = no_summaries();
     for k in 0..read.count {
         let p = octets::wide(read.parents[k]);
         let a = octets::wide16(read.labels[k]);
         let l = octets::wide(depths[k]);
         all[k] = summary_of(types, read.rows, k, p, a, l);
     }
+}
+
+// The summaries of the types of a table whose rows were read.
+fn summaries_of(read: RowsRead, levels: &[u8], types: &[u8]) -> [TypeSummary; 64]
+    requires { Rows read.rows levels.now types.now × (read.count ≤ most_types) }
+    ensures { SummariesOf read levels.now types.now result }
+{
+    let mut all = no_summaries();
+    put_summaries(read, levels, types, &mut all);
     all
 }
 

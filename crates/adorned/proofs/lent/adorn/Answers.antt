@@ -1,5 +1,5 @@
 -- `lent::adorn`: the figures are computed by value, and stored at the front of the lent summaries. Assumes nothing.
-use Rattle.std.proofs.Common.{◌≡◌, ◌∙◌, ap, map, length, rules}
+use Rattle.std.proofs.Common.{◌∙◌, ap, map}
 use Rattle.std.proofs.lemmas.Result.{err_from_is_err_and}
 use Rattle.adorned.specs.Lent.{told}
 use Rattle.adorned.proofs.Calls.{says_read}
@@ -20,14 +20,11 @@ returns-in_err-read-clause-summaries_after c =
 pub returns-clause-result_value : goal.returns-clause-result_value
 returns-clause-result_value c =
     let a = c.args in
-    let all = c.summaries_of-all in
-    let many : length all.result ≡ 64 = search rules in
-    answer a.f a.table.now a.summaries.now _ many (says_read a.f a.table.now _ _ _ _ c.in_ok-read.ensures all.result all.ensures)
+    let (all, many, of, is) = c.store_found.ensures in
+    answer a.f a.table.now a.summaries.now _ many (says_read a.f a.table.now _ _ _ _ c.in_ok-read.ensures all of)
 
 pub returns-clause-summaries_after : goal.returns-clause-summaries_after
 returns-clause-summaries_after c =
     let a = c.args in
-    let all = c.summaries_of-all in
-    let many : length all.result ≡ 64 = search rules in
-    ap (map told) c.store.ensures
-    ∙ left a.f a.table.now a.summaries.now _ many (says_read a.f a.table.now _ _ _ _ c.in_ok-read.ensures all.result all.ensures)
+    let (all, many, of, is) = c.store_found.ensures in
+    ap (map told) is ∙ left a.f a.table.now a.summaries.now _ many (says_read a.f a.table.now _ _ _ _ c.in_ok-read.ensures all of)

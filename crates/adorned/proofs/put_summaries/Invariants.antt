@@ -1,4 +1,4 @@
--- `summaries_of`: after k types the first k summaries stand, and zeros after them. Assumes nothing.
+-- `put_summaries`: after k types the first k summaries stand, and zeros after them. Assumes nothing.
 use Prim.Native.Nat.{ℕ, ◌-◌}
 use mathlib.Core.Path.{◌≡◌}
 use mathlib.Core.List.{List}
@@ -9,7 +9,7 @@ use Rattle.paper.specs.Adorned.{adorned}
 use Rattle.closest.specs.Rows.{RowsIn}
 use Rattle.adorned.specs.Told.{no_summary}
 use Rattle.adorned.proofs.All.{told_first, told_from}
-use Rattle.adorned.proofs.summaries_of.Given as goal
+use Rattle.adorned.proofs.put_summaries.Given as goal
 
 abbrev pub invariant-loop-k : goal.invariant-loop-k
 invariant-loop-k l = record {

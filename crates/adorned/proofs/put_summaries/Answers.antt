@@ -1,15 +1,15 @@
--- `summaries_of`: a type's turn, and all summaries in the end. Assumes nothing.
+-- `put_summaries`: a type's turn, and all summaries in the end. Assumes nothing.
 use native.Mathlib.Omega.{arith}
 use mathlib.Core.Path.{refl, ◌∙◌}
 use lib.ListN.{length-set}
 use Rattle.paper.specs.Tables as Tables
 use Rattle.adorned.proofs.All.{rest-step, start_length, listed, fill_step, fill_end}
-use Rattle.adorned.proofs.summaries_of.Goals as goal
+use Rattle.adorned.proofs.put_summaries.Goals as goal
 
 pub loop-k-init : goal.loop-k-init
 loop-k-init c =
-    let r = c.no_summaries-all in
-    record { long = start_length r.result r.ensures; zeros = r.ensures; first = λ f t read. refl }
+    let none = c.requires.2 in
+    record { long = start_length c.args.all.now none; zeros = none; first = λ f t read. refl }
 
 pub loop-k-preserved : goal.loop-k-preserved
 loop-k-preserved c =
