@@ -8,9 +8,9 @@ use mathlib.Core.Logic.{⊎_elim}
 use mathlib.Core.Bool.{Bool, true, false}
 use mathlib.Core.List.{List, [], ◌∷◌}
 use lib.Dec.{eqb}
-use lib.ListN.{length, get_or, drop, set}
-use lib.Seq.{drop-cons, get_or-set_same, get_or-set_other}
-use borrow.Author.Tests.{eqb-true, eqb-false, eq-eqb, ne_eqb, ltb-false}
+use lib.ListN.{length, get_or, take, drop, set}
+use lib.Seq.{drop-cons, get_or-take, length-take-le, get_or-set_same, get_or-set_other}
+use borrow.Author.Tests.{eqb-true, eqb-false, ltb-false}
 use Rattle.std.proofs.Common.{cond, nat_lt}
 use Rattle.std.specs.List.{position, position_or_len}
 use Rattle.std.proofs.lemmas.List.Quantifiers.{position-Some}
@@ -85,33 +85,39 @@ module _ (p k x : ℕ) (d : List ℕ) where
       let same : runs p k (x ∷ d) ≡ runs p k d = rw (e, runs) refl in
       ap₂ {C = List ℕ} (λ n l. n ∷ l) (omega (arith, none)) same
 
-module _ {l : List ℕ} {p k : ℕ} {r : Option Range} {c i : ℕ} (w : Walk l p k r c i) (lt : i < length l) (x : ℕ) (is : x ≡ get_or l i 0) where
-  more : (a : Option Range) (b : ℕ) → ranged r (left c p k (x ∷ drop (suc i) l)) ≡ ranged a (left b p k (drop (suc i) l))
-      → ranged a (left b p k (drop (i + 1) l)) ≡ ranged None (runs p k l)
-  more a b e =
-      ap (λ n. ranged a (left b p k (drop n l))) (add-one i) ∙ sym e
-      ∙ sym (ap (λ y. ranged r (left c p k y)) (drop-cons l i 0 lt ∙ ap {B = List ℕ} (λ n. n ∷ drop (suc i) l) (sym is))) ∙ w.ends
+-- row i of these, of type x, is next
+module _ (rows : ℕ) (ks : List ℕ) (p k : ℕ) (r s : Option Range) (c d i x : ℕ) (w : Walk (take rows ks) p k r c i) (fits : rows ≤ length ks)
+    (lt : i < rows) (is : x ≡ get_or ks i 0) where
+  abbrev l : List ℕ
+  l = take rows ks
 
-  pub walk_parent : x ≡ p → Walk l p k (Some (with_count r c)) 0 (i + 1)
-  walk_parent e = record {
-    inside = omega (arith, lt);
-    counted = omega arith;
-    ends = more (Some (with_count r c)) 0 (ap (ranged r) (left_parent p k x (drop (suc i) l) c (eq-eqb x p e)));
+  long : length l ≡ rows
+  long = length-take-le rows ks fits
+
+  turn : ranged r (left c p k (x ∷ drop (suc i) l)) ≡ ranged s (left d p k (drop (suc i) l)) → d ≤ i + 1 → Walk l p k s d (i + 1)
+  turn e few = record {
+    inside = omega (arith, long, lt);
+    counted = few;
+    ends = ap (λ n. ranged s (left d p k (drop n l))) (add-one i) ∙ sym e
+        ∙ sym (ap (λ y. ranged r (left c p k y)) (drop-cons l i 0 (omega (arith, long, lt)) ∙ ap {B = List ℕ} (λ n. n ∷ drop (suc i) l) (get_or-take rows ks i 0 lt ∙ sym is))) ∙ w.ends;
   }
 
-  pub walk_child : (x ≡ p → ⊥) → x ≡ k → Walk l p k r (c + 1) (i + 1)
-  walk_child np e = record {
-    inside = omega (arith, lt);
-    counted = omega (arith, w.counted);
-    ends = more r (c + 1) (ap (ranged r) (left_child p k x (drop (suc i) l) c (ne_eqb x p np) (eq-eqb x k e)));
-  }
-
-  pub walk_other : (x ≡ p → ⊥) → (x ≡ k → ⊥) → Walk l p k r c (i + 1)
-  walk_other np nk = record {
-    inside = omega (arith, lt);
-    counted = omega (arith, w.counted);
-    ends = more r c (ap (ranged r) (left_other p k x (drop (suc i) l) c (ne_eqb x p np) (ne_eqb x k nk)));
-  }
+  pub walk_turn : (x ≡ p → (s ≡ Some (with_count r c)) × (d ≡ 0)) → ((x ≡ p → ⊥) → x ≡ k → (s ≡ r) × (d ≡ c + 1))
+      → ((x ≡ p → ⊥) → (x ≡ k → ⊥) → (s ≡ r) × (d ≡ c)) → Walk (take rows ks) p k s d (i + 1)
+  walk_turn parent child other = go (eqb x p) (eqb x k) refl refl
+    where
+      go : (a b : Bool) → eqb x p ≡ a → eqb x k ≡ b → Walk (take rows ks) p k s d (i + 1)
+      go true b e q =
+          let (se, de) = parent (eqb-true x p e) in
+          turn (ap (ranged r) (left_parent p k x (drop (suc i) l) c e) ∙ ap₂ (λ a b. ranged a (left b p k (drop (suc i) l))) (sym se) (sym de)) (omega (arith, de))
+      go false true e q =
+          let (se, de) = child (eqb-false x p e) (eqb-true x k q) in
+          turn (ap (ranged r) (left_child p k x (drop (suc i) l) c e q) ∙ ap₂ (λ a b. ranged a (left b p k (drop (suc i) l))) (sym se) (sym de))
+          (omega (arith, de, w.counted))
+      go false false e q =
+          let (se, de) = other (eqb-false x p e) (eqb-false x k q) in
+          turn (ap (ranged r) (left_other p k x (drop (suc i) l) c e q) ∙ ap₂ (λ a b. ranged a (left b p k (drop (suc i) l))) (sym se) (sym de))
+          (omega (arith, de, w.counted))
 
 -- ---- the walk at its end
 pub walk_end : (l : List ℕ) (p k : ℕ) (r : Option Range) (c i : ℕ) → Walk l p k r c i → length l ≤ i → (x : Range) → x ≡ with_count r c

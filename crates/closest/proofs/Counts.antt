@@ -1,13 +1,14 @@
 -- How many rows are of a type. Assumes nothing.
-use Prim.Native.Nat.{ℕ, suc, ◌+◌}
+use Prim.Native.Nat.{ℕ, suc, ◌+◌, ◌≤◌, ◌<◌}
+use native.Mathlib.Numerals.{add-one}
 use native.Mathlib.Omega.{arith}
-use mathlib.Core.Path.{◌≡◌, refl, sym, ◌∙◌, ap}
-use mathlib.Core.Bool.{Bool, true, false, cond}
+use mathlib.Core.Path.{◌≡◌, refl, sym, ◌∙◌, ap, ap₂}
+use mathlib.Core.Bool.{Bool, true, false}
 use mathlib.Core.List.{List, [], ◌∷◌, map}
 use lib.Dec.{eqb}
-use lib.ListN.{length, take, length-map}
-use Rattle.std.specs.List.{count_by}
-use Rattle.std.proofs.lemmas.List.Recursion.{is_count_by}
+use lib.ListN.{length, get_or, take, drop, drop_of_length-le, length-map}
+use lib.Seq.{drop-cons}
+use borrow.Author.Tests.{eq-eqb, ne_eqb}
 use Rattle.paper.specs.Lists.{keep}
 use Rattle.paper.specs.Format.{Format}
 use Rattle.paper.specs.Tables.{rows, dewey, row_types}
@@ -20,15 +21,28 @@ use Rattle.closest.proofs.Nodes.{length-kinds}
 abbrev many : ℕ → List ℕ → ℕ
 many k l = length (keep (λ x. eqb x k) l)
 
--- what a chain counts are the elements that it keeps
-pub count_keep : {A : Type 0} (p : A → Bool) (xs : List A) → count_by p xs ≡ length (keep p xs)
-count_keep {A} p xs = sym (is_count_by (λ l. length (keep p l)) p refl one xs)
-  where
-    one : (x : A) (l : List A) → length (keep p (x ∷ l)) ≡ cond (p x) (1 + length (keep p l)) (length (keep p l))
-    one x l = elim (p x) as (λ b. length (elim b as (λ _. List A) [ true ↦ x ∷ keep p l | false ↦ keep p l ]) ≡ cond b (1 + length (keep p l)) (length (keep p l))) [
-      | true ↦ omega arith
-      | false ↦ refl
-    ]
+rest_at : (l : List ℕ) (i x : ℕ) → i < length l → x ≡ get_or l i 0 → drop i l ≡ x ∷ drop (i + 1) l
+rest_at l i x lt e = drop-cons l i 0 lt ∙ ap₂ {C = List ℕ} (λ y n. y ∷ drop n l) (sym e) (sym (add-one i))
+
+-- c are counted before place i, and those from there on are still to count
+pub record Counting (l : List ℕ) (k c i : ℕ) : Type 0 where
+  pub inside : i ≤ length l
+  pub counted : c ≤ i
+  pub so_far : c + length (keep (λ x. eqb x k) (drop i l)) ≡ length (keep (λ x. eqb x k) l)
+
+module _ (l : List ℕ) (k c i x : ℕ) (w : Counting l k c i) (lt : i < length l) (e : x ≡ get_or l i 0) where
+  pub counting_more : x ≡ k → Counting l k (c + 1) (i + 1)
+  counting_more q =
+      let one : many k (drop i l) ≡ suc (many k (drop (i + 1) l)) = ap (many k) (rest_at l i x lt e) ∙ rw (eq-eqb x k q, keep) refl in
+      record { inside = omega arith; counted = omega (arith, w.counted); so_far = omega (arith, w.so_far) }
+
+  pub counting_same : (x ≡ k → ⊥) → Counting l k c (i + 1)
+  counting_same ne =
+      let none : many k (drop i l) ≡ many k (drop (i + 1) l) = ap (many k) (rest_at l i x lt e) ∙ rw (ne_eqb x k ne, keep) refl in
+      record { inside = omega arith; counted = omega (arith, w.counted); so_far = omega (arith, w.so_far) }
+
+pub counting_end : (l : List ℕ) (k c i : ℕ) → Counting l k c i → length l ≤ i → c ≡ length (keep (λ x. eqb x k) l)
+counting_end l k c i w le = omega (arith, w.so_far, ap (many k) (drop_of_length-le l {i = i} le))
 
 -- ---- the rows' type numbers are the nodes' kinds
 abbrev pub kinds_of : List Node → List ℕ

@@ -1,16 +1,15 @@
 -- `children_range`: the first row of the parent type opens the walk, and after it the range is that of all counts. Assumes nothing.
-use Prim.Native.Nat.{◌<◌}
 use native.Mathlib.Omega.{arith}
-use mathlib.Core.Path.{◌≡◌, sym, ◌∙◌}
+use mathlib.Core.Path.{sym, ◌∙◌}
 use lib.Dec.{eqb}
-use lib.ListN.{length, get_or, take}
-use lib.Seq.{get_or-take, length-take-le}
+use lib.ListN.{take}
+use lib.Seq.{length-take-le}
 use Rattle.std.proofs.Common.{rules, tests}
+use Rattle.std.proofs.lemmas.Grind.{common_steps}
 use Rattle.std.proofs.lemmas.Iterator.{YieldsList-from_slice}
 use Rattle.std.proofs.lemmas.Iterator.Search.{position_from_yields_List}
-use Rattle.adorned.proofs.Walks.{walk_start, walk_none, walk_parent, walk_child, walk_other, walk_end}
+use Rattle.adorned.proofs.Walks.{walk_start, walk_none, walk_turn, walk_end}
 use Rattle.adorned.proofs.children_range.Goals as goal
-use Rattle.adorned.proofs.children_range.Goals.{then-x-p, else-x-p+then-x-k, else-x-p+else-x-k}
 
 pub returns-in_default : goal.returns-in_default
 returns-in_default c =
@@ -32,14 +31,8 @@ pub loop-i-preserved : goal.loop-i-preserved
 loop-i-preserved c =
     let a = c.args in
     let v = c.loop-i in
-    let w = v.invariant in
-    let lt : v.i < length (take a.rows a.types.now) = omega (arith, length-take-le a.rows a.types.now c.requires) in
-    let is : c.wide-x.result ≡ get_or (take a.rows a.types.now) v.i 0 = c.wide-x.ensures.0 ∙ sym (get_or-take a.rows a.types.now v.i 0 c.loop-i-test.true) in
-    elim c.if-x-p.branch [
-      | then-x-p b ↦ rw (b.r-is, b.c-is, b.with_count.ensures) (walk_parent w lt _ is b.if-x-p.true)
-      | else-x-p+then-x-k b ↦ rw (b.r-is, b.c-is) (walk_child w lt _ is b.if-x-p.false b.if-x-k.true)
-      | else-x-p+else-x-k b ↦ rw (b.r-is, b.c-is) (walk_other w lt _ is b.if-x-p.false b.if-x-k.false)
-    ]
+    walk_turn a.rows a.types.now a.p a.k v.r c.if-x-p.r v.c c.if-x-p.c v.i _ v.invariant c.requires c.loop-i-test.true c.wide-x.ensures.0
+    (λ e. grind (arith, common_steps)) (λ np e. grind (arith, common_steps)) (λ np nk. grind (arith, common_steps))
 
 pub returns : goal.returns
 returns c =

@@ -1,16 +1,14 @@
--- `count_rows`: what the chain counts are the rows of the type. Assumes nothing.
+-- `count_rows`: a row of the type counts, another does not. Assumes nothing.
+use Prim.Native.Nat.{◌<◌}
 use native.Mathlib.Omega.{arith}
-use mathlib.Core.Path.{◌≡◌, ◌∙◌}
-use lib.Dec.{eqb}
-use lib.ListN.{take, length-take}
-use borrow.Author.Rules.{rules}
-use Rattle.std.specs.List.{count_by}
-use Rattle.std.proofs.lemmas.List.Sums.{count_by-le-length}
-use Rattle.closest.proofs.Counts.{count_keep}
+use mathlib.Core.Path.{◌≡◌, sym, ◌∙◌}
+use lib.ListN.{length, get_or, take}
+use lib.Seq.{get_or-take, length-take-le}
+use Rattle.closest.proofs.Counts.{counting_more, counting_same, counting_end}
 use Rattle.closest.proofs.count_rows.Goals as goal
 
 pub returns : goal.returns
 returns c =
-    let first = take c.args.rows c.args.types.now in
-    let e : c.count.result ≡ count_by (λ x. eqb x c.args.k) first = search rules in
-    (e ∙ count_keep (λ x. eqb x c.args.k) first, omega (arith, e, count_by-le-length (λ x. eqb x c.args.k) first, length-take c.args.rows c.args.types.now))
+    let a = c.args in
+    let v = c.loop-i in
+    (counting_end _ _ _ _ v.invariant (omega (arith, c.loop-i-test.false, length-take-le a.rows a.types.now c.requires)), omega (arith, v.invariant.counted))
