@@ -58,7 +58,7 @@ module _ (x : Total) (t : Tape) where
       ∙ ap (λ y. line_by name y (sum_tape t).rest (eqb y.number 0)) told
 
   module _ (after : Total) (told : taken (Ok after) ≡ take_in x t) where
-    accepted : (take_in x t).number ≡ 0
+    pub accepted : (take_in x t).number ≡ 0
     accepted = sym (ap (λ y. y.number) told)
 
     after-is : after ≡ with x (sum_tape t).rest
